@@ -11,17 +11,7 @@ use Rattle.ksm_book.proofs.DueAlike.{all_has, along, calm_stays, due_keeps, unve
 use Rattle.ksm_book.proofs.DueKept.{undue_stay}
 use Rattle.ksm_book.proofs.Dues.{IsFirst}
 use Rattle.ksm_book.proofs.Folded.{ascending_ahead, every_page}
-use Rattle.ksm_book.proofs.PagesAhead.{Before, before_down, GoesDown, has_filter, parted, same_pages}
-
--- where a page is not behind a cursor, no page before that page is
-cursor_down : (cursor : Option GuestPage) → GoesDown (λ p. not (after_cursor cursor p))
-cursor_down cursor p q before fails = grind (arith, not-true)
-
--- of those that pass a test those that pass a stronger one
-passing : (t u : GuestPage → Bool) (pages : List GuestPage) → ((q : GuestPage) → u q ≡ true → t q ≡ true)
-    → filter u (filter t pages) ≡ filter u pages
-passing t u [] stronger = refl
-passing t u (p ∷ pages) stronger = grind (arith, passing t u pages stronger, stronger p)
+use Rattle.ksm_book.proofs.PagesAhead.{Before, before_down, cursor_down, has_filter, parted, passing, same_pages}
 
 -- a book is sound, and a pass begins there
 pub record Starts (b : BookState) : Type 0 where
@@ -102,7 +92,7 @@ module _ (s : BookState × Deed) (start : Starts s.0) where
           let rest = filter (λ p. not (passed p)) (filter t all) in
           ap (due_visits doing s) (parted passed (cursor_down cursor) (filter t all)
           (AllPairs-filter Before t all rises)
-          ∙ ap (λ l. l ++ rest) (passing t passed all more))
+          ∙ ap (λ l. l ++ rest) (passing t passed all (λ k d lt. more (get_or all k d))))
           ∙ fold-append (due_visited doing) s (filter passed all) rest
           ∙ undue_stay rest reached due (due_keeps (filter passed all) s start.sound).0 are (λ k d lt.
           none (get_or rest k d) (All-filter (λ p. not (passed p)) (λ q. t q ≡ true) _ (filter_passes t all) k d lt)
@@ -130,7 +120,7 @@ module _ (s : BookState × Deed) (start : Starts s.0) where
             ≡ due_visited doing reached page
         next_visited =
             ap (due_visits doing s) (parted low (before_down page) (filter up all) (AllPairs-filter Before up all rises)
-            ∙ ap (λ l. l ++ rest) (passing up low all (λ q is. grind arith)))
+            ∙ ap (λ l. l ++ rest) (passing up low all (λ k d lt is. grind arith)))
             ∙ fold-append (due_visited doing) s (filter low all) rest
             ∙ ap (λ z. due_visits doing z rest) before_visited ∙ last
           where

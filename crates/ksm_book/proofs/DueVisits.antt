@@ -1,6 +1,6 @@
 -- What a visit leaves due, by what was found of the page; and what is due where all restless pages are listed.
-use Rattle.ksm_book.proofs.Names.{AreAllListed, AreDue, arith, BookState, BookView, false, FindsAt, GuestPage, InPageOrder, IsDueNoMore, KeeperView, List, Option, PagesView, restless_at, state_of}
-use Rattle.ksm_book.proofs.Names.{subst, sym, true≢false, ℕ, ◌∙◌, ◌∷◌, ◌≡◌}
+use Rattle.ksm_book.proofs.Names.{AreDue, arith, BookView, false, FindsAt, GuestPage, InPageOrder, IsDueNoMore, KeeperView, Option, PagesView, restless_at, state_of}
+use Rattle.ksm_book.proofs.Names.{subst, sym, ℕ, ◌∷◌, ◌≡◌}
 use Rattle.ksm_pages.specs.declared.pages.Find.TheVariants as finds
 use Rattle.ksm_pages.specs.Paged.{Finds}
 use Rattle.ksm_book.proofs.DueKept.{calm_undue, waits_undue}
@@ -22,7 +22,3 @@ gone_due p q cursor passes page rise is =
     let same : q ≡ p = grind arith in
     let calm : restless_at page p.rows ≡ false = grind arith in
     rw same (calm_undue (state_of p cursor passes) page rise calm)
-
--- where all restless pages are listed, no other is due
-pub listed_due : (b : BookState) (pages : List GuestPage) → AreAllListed b.rows pages → AreDue b pages
-listed_due b pages listed k d lt restless out = absurd (true≢false (sym (listed k d lt restless) ∙ out))

@@ -33,7 +33,7 @@ module _ {p q : PagesView} (page : GuestPage) (goes : q ≡ record p { rows = ch
   pub laid_stopped : {k : KeeperView} → IsLaid p k → IsLaid q k
   laid_stopped laid =
       rw goes
-      (laid_mapped laid _ _ (grind arith)
+      (laid_mapped laid _ (grind arith)
       (grind arith))
 
 -- that page's row is all that changes in what was reached
@@ -62,9 +62,8 @@ pub record IsHiding (page : GuestPage) (old new : BookValue) (last : Option Gues
   pub along : IsAlong every_row (hides page) old.state.rows new.state.rows last done left
   -- nothing changed but the rows
   pub comes : Comes old new (λ s. (record s.0 { rows = new.state.rows }, s.1))
-  -- the frames have the same table, and the pages are listed as they were
+  -- the frames have the same table
   pub own : new.keeper.table ≡ old.keeper.table
-  pub restless : new.restless ≡ old.restless
   -- the numbers of the cursor's page fit
   pub fits : FitsPage last
 
@@ -84,14 +83,13 @@ module _ {page : GuestPage} {old now : BookValue} {last : Option GuestPage} (h :
     -- once its row is changed, the cursor goes on to it
     hiding_on : (next : BookValue) → next.state.rows ≡ change_row at (hides page) now.state.rows
         → Comes old next (λ s. (record s.0 { rows = next.state.rows }, s.1))
-        → next.keeper.table ≡ now.keeper.table → next.restless ≡ now.restless → IsHiding page old next (Some at)
-    hiding_on next rows comes own restless = record {
+        → next.keeper.table ≡ now.keeper.table → IsHiding page old next (Some at)
+    hiding_on next rows comes own = record {
       done = cut.before ++ cut.row ∷ [];
       left = cut.rest;
       along = rw rows cut.next;
       comes = comes;
       own = own ∙ h.own;
-      restless = restless ∙ h.restless;
       fits = fits;
     }
 
@@ -102,16 +100,16 @@ module _ {page : GuestPage} {old now : BookValue} {last : Option GuestPage} (h :
     pub hiding_over : (row : Row) → row_at at now.state.rows ≡ Some row
         → (shared_state row.state ≡ true) ⊎ (comes_before at page ≡ true) → IsHiding page old now (Some at)
     hiding_over row found why =
-        hiding_on now (sym (change_still at _ _ (grind (arith, row_of_page, now_rise)))) h.comes refl refl
+        hiding_on now (sym (change_still at _ _ (grind (arith, row_of_page, now_rise)))) h.comes refl
 
     -- any other page waits no more
     pub hiding_more : (next : BookValue) → comes_before at page ≡ false
         → Comes now next (λ s. (record s.0 { rows = change_row at settled s.0.rows }, s.1))
-        → next.keeper.table ≡ now.keeper.table → next.restless ≡ now.restless → IsHiding page old next (Some at)
-    hiding_more next behind stops own restless =
+        → next.keeper.table ≡ now.keeper.table → IsHiding page old next (Some at)
+    hiding_more next behind stops own =
         hiding_on next (rows ∙ alike_at at _ _ _ (grind arith)) (λ from s before.
         let reached = stops from (record s.0 { rows = now.state.rows }, s.1) (h.comes from s before) in
-        (grind (arith, reached.0), reached.1)) own restless
+        (grind (arith, reached.0), reached.1)) own
       where
         rows : next.state.rows ≡ change_row at settled now.state.rows
         rows = rw (comes_to now next _ stops)

@@ -1,7 +1,7 @@
 -- What becomes of pages that lie lawfully, where the keeper makes its steps.
 use Rattle.ksm_book.proofs.Names.{All, arith, blank, cases_lt, change_row, cond_both, default_knobs, DupRow, false, find_all, first_ledger, frame_at, Frames, get_or, get_or_past, GuestPage}
 use Rattle.ksm_book.proofs.Names.{HasNewFrame, holding, Houses, inl, InPageOrder, IsLaid, IsLawful, IsServed, IsShape, KeeperView, Keeps, kind_for, Knobs, Ledger, length, length-replicate, lies_on}
-use Rattle.ksm_book.proofs.Names.{List, Listing, map, None, nowhere, Option, PAGE_WORDS, PageState, PagesView, Placed, Private, refl, Row, row_at, Shape, shared_state, Some, spent, subst, true}
+use Rattle.ksm_book.proofs.Names.{List, map, None, nowhere, Option, PAGE_WORDS, PageState, PagesView, Placed, Private, refl, Row, row_at, Shape, shared_state, Some, spent, subst}
 use Rattle.ksm_book.proofs.Names.{with_frame, with_row, zero_state, ℕ, [], ◌≡◌, ◌≤◌, ◌⊎◌}
 use Rattle.ksm_base.specs.declared.row.PageState.TheVariants.{Private as OwnPage}
 use Rattle.ksm_book.proofs.ByPage.{found_page, row_of_page}
@@ -74,20 +74,20 @@ module _ {p : PagesView} {k : KeeperView} (h : IsLaid p k) where
   laid_kept w e keeps more = let placed = kept k h.same w None keeps h.placed in grind arith
 
   -- pages lie lawfully with other rows and frames that are placed lawfully beside the same dups
-  pub laid_rows : {rows : List Row} {frame : Frames} {restless : Listing} (w : KeeperView) → w.table ≡ k.table → spent k.ledger ≤ spent w.ledger → Placed sh across w.ledger rows frame p.dups None
-      → IsLaid (record p { rows = rows; frame = frame; restless = restless }) w
+  pub laid_rows : {rows : List Row} {frame : Frames} (w : KeeperView) → w.table ≡ k.table → spent k.ledger ≤ spent w.ledger → Placed sh across w.ledger rows frame p.dups None
+      → IsLaid (record p { rows = rows; frame = frame }) w
   laid_rows w e more placed = grind arith
 
   -- pages lie lawfully where each row changes into one that may stand in its stead on its frame
-  pub laid_mapped : (c : Row → Row) (restless : Listing) → ((r : Row) → (c r).page ≡ r.page) → All (λ r. LodgesAs (c r) r) p.rows → IsLaid (record p { rows = map c p.rows; restless = restless }) k
-  laid_mapped c restless keeps lodges =
+  pub laid_mapped : (c : Row → Row) → ((r : Row) → (c r).page ≡ r.page) → All (λ r. LodgesAs (c r) r) p.rows → IsLaid (record p { rows = map c p.rows }) k
+  laid_mapped c keeps lodges =
       laid_rows k refl (omega arith) (remapped None c keeps h.placed (grind (arith, lodged_as h.placed)))
 
   -- pages lie lawfully where the row of a page changes into one that may stand in its stead on its frame
-  pub laid_changed : (page : GuestPage) (row : Row) (c : Row → Row) (restless : Listing) → InPageOrder p.rows → row_at page p.rows ≡ Some row
-      → ((r : Row) → (c r).page ≡ r.page) → LodgesAs (c row) row → IsLaid (record p { rows = change_row page c p.rows; restless = restless }) k
-  laid_changed page row c restless rise found keeps lodges =
-      laid_mapped _ _ (grind arith)
+  pub laid_changed : (page : GuestPage) (row : Row) (c : Row → Row) → InPageOrder p.rows → row_at page p.rows ≡ Some row
+      → ((r : Row) → (c r).page ≡ r.page) → LodgesAs (c row) row → IsLaid (record p { rows = change_row page c p.rows }) k
+  laid_changed page row c rise found keeps lodges =
+      laid_mapped _ (grind arith)
       (λ i d lt. let r = get_or p.rows i d in cond_both _ (c r) r (λ x. LodgesAs x r)
       (grind (arith, row_of_page)) (λ _. (refl, refl, inl refl)))
 
@@ -96,10 +96,10 @@ module _ {p : PagesView} {k : KeeperView} (h : IsLaid p k) where
   has_frame {row = row} found other = framed sh _ _ row _ other (served_at h.placed _ row found)
 
   -- pages lie lawfully where the row of a page with a frame of its own gets new bytes, and the frame holds them
-  pub laid_written : (page : GuestPage) (row : Row) (c : Row → Row) (restless : Listing) (w : KeeperView) (g : ℕ) → InPageOrder p.rows → row_at page p.rows ≡ Some row → ((r : Row) → (c r).page ≡ r.page) → p.frame page ≡ Some g
+  pub laid_written : (page : GuestPage) (row : Row) (c : Row → Row) (w : KeeperView) (g : ℕ) → InPageOrder p.rows → row_at page p.rows ≡ Some row → ((r : Row) → (c r).page ≡ r.page) → p.frame page ≡ Some g
       → w.table ≡ k.table → w.ledger ≡ with_frame k.ledger g (holding (frame_at k.ledger g) (c row).bytes) → length (c row).bytes ≡ PAGE_WORDS → shared_state row.state ≡ false → (c row).home ≡ row.home → (c row).state ≡ OwnPage
-      → IsLaid (record p { rows = change_row page c p.rows; restless = restless }) w
-  laid_written page row c restless w g rise found keeps lies e ledger wide alone home is =
+      → IsLaid (record p { rows = change_row page c p.rows }) w
+  laid_written page row c w g rise found keeps lies e ledger wide alone home is =
       let served = served_at h.placed page row found in
       laid_rows w e (grind (arith, spent_kept))
       (rw ledger (written_in h.placed _ row rise found g lies (grind arith) c keeps
@@ -117,5 +117,5 @@ first_note sh f = grind (arith, get_or-replicate, get_or_past, length-replicate,
 
 -- pages lie lawfully as they are opened, with no rows and no dups, where the keeper has its first ledger
 pub first_laid : {sh : Shape} {k : KeeperView} → IsShape sh → k.table.shape ≡ sh → k.ledger ≡ first_ledger sh
-    → IsLaid (record { shape = sh; rows = []; frame = nowhere; dups = []; knobs = default_knobs; next = 0; restless = record { pages = []; known = true } }) k
+    → IsLaid (record { shape = sh; rows = []; frame = nowhere; dups = []; knobs = default_knobs; next = 0 }) k
 first_laid {sh} is same first = grind (arith, length-replicate, first_note, get_or-replicate, get_or_past, cases_lt)

@@ -45,5 +45,6 @@ pub mod Listed
 pub mod Pairing
 pub mod TakingOver
 pub mod DueFound
+pub mod Walked
 pub mod ScanCarried
 pub mod Carried

@@ -68,16 +68,15 @@ pub use Rattle.ksm_book.specs.Laid.{HasRemounted, Houses, IsLaid, lying, MayMove
 pub use Rattle.ksm_book.specs.Mounted.{HasLost, HasMoved, MayMount, once_mounted}
 pub use Rattle.ksm_book.specs.Placement.{Agrees, DupFits, FitsBase, in_hand, is_frame, IsInLife, IsServed, kind_for, life_or, node_of, place_frame, place_life, Placed, RowFits, uses}
 pub use Rattle.ksm_book.specs.Promised.{dup_frames, FindsPlace, HasItsOwn, is_in_use, IsOutlived, LieOn, own_frames, StandsOn}
-pub use Rattle.ksm_book.specs.Scanned.{AreListed, Comes, doing, from_to, HasScanned, HasStayed, is_nowhere, IsForZero, last_visited, MayJoin, MeetsPage, Reached, up_to, VisitsPage}
+pub use Rattle.ksm_book.specs.Scanned.{Comes, doing, HasScanned, HasStayed, is_nowhere, IsForZero, last_visited, MayJoin, MeetsPage, Reached, up_to, VisitsPage}
 pub use Rattle.ksm_book.specs.Steps.{Allocates, AllocatesOn, along, dying_from, dying_kind, dying_on, free_kind, given_by, Gives, IsLowestFree, IsNeeded, loads, Log, MakesSteps, needed_after, puts}
 pub use Rattle.ksm_book.specs.Steps.{replayed, stepped, steps_of}
 pub use Rattle.ksm_book.specs.Unmerged.{HasLeft, is_shared_of, IsStop, left_by, MayNotLeave, shared_of, Unshares}
 pub use Rattle.ksm_book.specs.Whole.{BookValue, BookView, HasShown, listed, mapped, nodes_got, view_of}
 pub use Rattle.ksm_book.specs.Worked.{apart, page, together}
 pub use Rattle.ksm_pages.proofs.Found.{find_changed, find_changed_other, find_put}
-pub use Rattle.ksm_pages.specs.Held.{Listing}
 pub use Rattle.ksm_pages.specs.Ahead.{EndsAt, last_of, mergeable_pages}
-pub use Rattle.ksm_pages.specs.Paged.{AreAllListed, dup_of_row, elsewhere, FindsAt, Frames, HasRoom, is_item, is_next, is_restless, IsAlone, IsHeld, IsKnown, IsVacant, items_on, lies_on, MayPair}
+pub use Rattle.ksm_pages.specs.Paged.{dup_of_row, elsewhere, FindsAt, Frames, HasRoom, is_item, is_next, is_restless, IsAlone, IsHeld, IsKnown, IsVacant, items_on, lies_on, MayPair}
 pub use Rattle.ksm_pages.specs.Paged.{nowhere, of_guest, on_its_own, PagesValue, PagesView, seen}
 pub use Rattle.ksm_pages.specs.declared.ahead.Ahead.{Ahead}
 pub use Rattle.ksm_pages.specs.declared.ahead.Ahead.TheVariants.{At, End}

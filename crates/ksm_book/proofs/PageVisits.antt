@@ -63,7 +63,7 @@ module _ {p q : PagesView} {k : KeeperView} {cursor : Option GuestPage} {passes 
       → Leads v q k cursor passes page
   row_leads at restless c keeps lodges becomes rests goes =
       leads at q k restless
-      (rw goes (laid_changed at.laid _ _ c _ at.sound.rows_rise (there_is at) keeps lodges)) (rw goes (sym becomes))
+      (rw goes (laid_changed at.laid _ _ c at.sound.rows_rise (there_is at) keeps lodges)) (rw goes (sym becomes))
       (grind (arith, made_none))
 
   module _ (at : Meets (λ _ r. FindsAt p q r finds.Waits) p k cursor passes v page) where

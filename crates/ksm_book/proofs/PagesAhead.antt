@@ -1,10 +1,9 @@
 -- Ascending lists of pages: their parts before and behind a page, by test and by index; and each is known by what it has.
-use Rattle.ksm_book.proofs.Names.{after_cursor, All, All-cons, All-filter, All-head, and_right, any-filter_same, ap, AreAscending, arith, before_trans, Bool, cases_Bool, comes_before}
-use Rattle.ksm_book.proofs.Names.{Contains-from_any, drop-append-le, drop_of_length-le, false, filter, filter_all, filter_mapped, filter_none, from_to, get_or, get_or-drop, get_or-take}
-use Rattle.ksm_book.proofs.Names.{get_or_from_slice_get, GuestPage, has_item, inl, inr, length, length-drop, length-take, length-take-le, List, list_any_none, max, None, not, not_both, Option}
-use Rattle.ksm_book.proofs.Names.{pairs_head, pairs_tail, refl, same_page, same_page_eq, same_page_refl, slice_get, slice_get-get_or, slice_get_within, Some, subst, suc, sym, take, take_more, true}
-use Rattle.ksm_book.proofs.Names.{true≢false, up_to, zero, ℕ, [], ◌&&◌, ◌++◌, ◌+◌, ◌-◌, ◌<◌, ◌∙◌, ◌∷◌, ◌≡◌, ◌≤◌}
-use Rattle.std.proofs.lemmas.List.{map-id}
+use Rattle.ksm_book.proofs.Names.{after_cursor, All, All-cons, All-filter, All-head, any-filter_same, ap, AreAscending, arith, before_trans, Bool, cases_Bool, comes_before}
+use Rattle.ksm_book.proofs.Names.{Contains-from_any, false, filter, filter_all, filter_none, get_or, get_or_from_slice_get}
+use Rattle.ksm_book.proofs.Names.{GuestPage, has_item, inl, inr, List, list_any_none, not, not-true, not_both, Option, pairs_head}
+use Rattle.ksm_book.proofs.Names.{pairs_tail, refl, same_page, same_page_eq, same_page_refl, slice_get, slice_get-get_or, slice_get_within, Some, subst, suc, sym, take, true, true≢false}
+use Rattle.ksm_book.proofs.Names.{zero, ℕ, [], ◌&&◌, ◌++◌, ◌∙◌, ◌∷◌, ◌≡◌}
 
 -- the first page comes before the second
 abbrev pub Before : GuestPage → GuestPage → Type 0
@@ -39,30 +38,26 @@ behind_first cursor (p ∷ pages) page more rise is =
 abbrev pub GoesDown : (GuestPage → Bool) → Type 0
 GoesDown t = (p q : GuestPage) → comes_before p q ≡ true → t q ≡ true → t p ≡ true
 
--- where a page is not behind a last one, no page before that page is
-pub up_to_down : (last : Option GuestPage) → GoesDown (up_to last)
-up_to_down None p q before is = refl
-up_to_down (Some last) p q before is = grind arith
+-- where a page is not behind a cursor, no page before that page is
+pub cursor_down : (cursor : Option GuestPage) → GoesDown (λ p. not (after_cursor cursor p))
+cursor_down cursor p q before fails = grind (arith, not-true)
 
 -- where a page comes before another, each page before that page does
 pub before_down : (page : GuestPage) → GoesDown (λ p. comes_before p page)
 before_down page p q before is = before_trans p q _ before is
 
--- tests that agree on each of a list pick the same
-pub filter_same : {X : Type 0} (t u : X → Bool) (xs : List X) → All (λ x. t x ≡ u x) xs → filter t xs ≡ filter u xs
-filter_same t u xs same = grind (arith, map-id xs, filter_mapped, map-id (filter u xs))
+-- of those that pass a test those that pass a stronger one
+pub passing : (t u : GuestPage → Bool) (pages : List GuestPage) → All (λ q. u q ≡ true → t q ≡ true) pages
+    → filter u (filter t pages) ≡ filter u pages
+passing t u [] stronger = refl
+passing t u (p ∷ pages) stronger =
+    grind (arith, passing t u pages (λ k d lt. stronger (suc k) d (omega arith)), stronger 0 p (omega arith))
 
 module _ (t : GuestPage → Bool) (down : GoesDown t) where
   -- where the first page fails such a test, all behind it do
   none_pass : (p : GuestPage) (pages : List GuestPage) → AreAscending (p ∷ pages) → t p ≡ false
       → All (λ q. t q ≡ false) pages
   none_pass p pages rise fails = λ k d lt. grind (arith, pairs_head Before p _ rise k d lt)
-
-  -- the first pages, as many as pass, are those that pass
-  pub take_down : (pages : List GuestPage) → AreAscending pages → take (length (filter t pages)) pages ≡ filter t pages
-  take_down [] rise = refl
-  take_down (p ∷ pages) rise =
-      grind (arith, take_down pages (pairs_tail Before p _ rise), filter_none t pages, none_pass p pages rise)
 
   -- the list is those that pass, and behind them those that fail
   pub parted : (pages : List GuestPage) → AreAscending pages → pages ≡ filter t pages ++ filter (λ p. not (t p)) pages
@@ -71,26 +66,6 @@ module _ (t : GuestPage → Bool) (down : GoesDown t) where
       let rest : All (λ q. t q ≡ false) pages → filter (λ q. not (t q)) pages ≡ pages =
       λ all. filter_all _ _ (λ k d lt. ap not (all k d lt)) in
       grind (arith, parted pages (pairs_tail Before p _ rise), filter_none t pages, none_pass p pages rise)
-
-  -- in an ascending list, the pages behind a cursor that pass a test that goes down stand between two counts
-  pub between_is : (cursor : Option GuestPage) (pages : List GuestPage) → AreAscending pages
-      → from_to (length (filter (λ p. not (after_cursor cursor p)) pages)) (length (filter t pages)) pages
-      ≡ filter (λ p. after_cursor cursor p && t p) pages
-  between_is cursor [] rise = refl
-  between_is cursor (p ∷ pages) rise =
-      let behind = pairs_head Before p _ rise in
-      let above : after_cursor cursor p ≡ true → All (λ q. after_cursor cursor q ≡ true) pages =
-      λ is k d lt. after_later _ p (get_or pages k d) is (behind k d lt) in
-      let none : after_cursor cursor p ≡ true → filter (λ q. not (after_cursor cursor q)) pages ≡ [] =
-      λ is. filter_none _ _ (λ k d lt. ap not (above is k d lt)) in
-      let both : after_cursor cursor p ≡ true → filter (λ q. after_cursor cursor q && t q) pages ≡ filter t pages =
-      λ is. filter_same _ t _ (λ k d lt. grind (arith, above is k d lt)) in
-      let neither : t p ≡ false → filter (λ q. after_cursor cursor q && t q) pages ≡ [] =
-      λ fails. filter_none _ _ (λ k d lt. and_right (after_cursor cursor (get_or pages k d)) _
-      (none_pass p pages rise fails k d lt)) in
-      let rest = between_is cursor pages (pairs_tail Before p _ rise) in
-      let first = take_down pages (pairs_tail Before p _ rise) in
-      grind (arith, filter_none t pages, none_pass p pages rise)
 
 -- in an ascending list the pages before the one at index n are the first n, those not behind it the first n + 1
 pub place_splits : (pages : List GuestPage) (n : ℕ) (page : GuestPage) → AreAscending pages → slice_get pages n ≡ Some page
@@ -108,24 +83,6 @@ pub place_of : (page : GuestPage) (pages : List GuestPage) → has_item page pag
 place_of page pages has =
     let there = Contains-from_any {eq = λ q p. same_page p q} (λ x y e. sym (same_page_eq y x e)) _ _ has in
     (there.0, slice_get-get_or _ _ _ there.1 ∙ ap Some there.2)
-
--- the pages from one index up to another, and the page at that other, are those up to the next index
-pub from_to_more : (pages : List GuestPage) (first at : ℕ) (page : GuestPage) → first ≤ at → slice_get pages at ≡ Some page
-    → from_to first (at + 1) pages ≡ from_to first at pages ++ page ∷ []
-from_to_more pages first at page le is =
-    let cut = drop-append-le first (take at pages) (page ∷ []) in
-    let here = get_or_from_slice_get pages at page page is in
-    grind (arith, take_more pages at page, length-take-le at pages, slice_get_within)
-
--- the pages from a first index up to the greater of it and an end are the pages from it up to the end
-pub from_to_end : (pages : List GuestPage) (first at end : ℕ) → end ≤ at → at ≤ max first end → first ≤ at
-    → from_to first at pages ≡ from_to first end pages
-from_to_end pages first at end past within le = grind (arith, length-take, drop_of_length-le)
-
--- the page at an index between first and end stands among the pages from first up to end
-pub between_at : (pages : List GuestPage) (first at end : ℕ) (page : GuestPage) → slice_get pages at ≡ Some page → first ≤ at → at < end
-    → (at - first < length (from_to first end pages)) × (get_or (from_to first end pages) (at - first) page ≡ page)
-between_at pages first at end page is low high = grind (arith, slice_get_within, length-drop, length-take, get_or-drop, get_or-take, get_or_from_slice_get)
 
 -- pages behind a page are not that page
 not_behind : (p : GuestPage) (pages : List GuestPage) → All (Before p) pages → has_item p pages ≡ false

@@ -114,7 +114,7 @@ module _ (other : GuestPage) {p : PagesView} {k : KeeperView} {cursor : Option G
     module _ {k2 : KeeperView} (shown : k2 ≡ did k1 (Publish place f) 0) where
       first_laid : IsLaid first k2
       first_laid =
-          laid_found h s.rows_rise _ w f waits_at lies alone dup refl inside vacant change k1 k2 p.restless (λ r. refl) refl refl
+          laid_found h s.rows_rise _ w f waits_at lies alone dup refl inside vacant change k1 k2 (λ r. refl) refl refl
           clears shown (sym tells.bytes)
           (λ none. grind (arith, none, tells.tree)) s.numbers fresh
 
@@ -165,4 +165,4 @@ module _ (other : GuestPage) {p : PagesView} {k : KeeperView} {cursor : Option G
               leads at q l at.so.0.restless
               (rw q_is
               (laid_joined first_laid first_rise _ row _ row_still item_at f lies refl change (λ r. refl) refl (sym tells.bytes)
-              l p.restless steps)) (rw goes (grind (arith, met.1))) (grind (arith, at_page, met.1, alone, q_is))
+              l steps)) (rw goes (grind (arith, met.1))) (grind (arith, at_page, met.1, alone, q_is))

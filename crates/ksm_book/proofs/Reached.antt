@@ -22,4 +22,4 @@ in_order v w rise comes from s before = (rw (← before.0) rise, (comes from s b
 
 -- what proofs tell the book by, of its pages, the keeper, the cursor and the passes
 abbrev pub value : PagesValue → KeeperView → Option GuestPage → ℕ → BookValue
-value p k cursor passes = record { state = state_of (seen p) cursor passes; lodgings = p.lodgings; keeper = k; restless = p.restless }
+value p k cursor passes = record { state = state_of (seen p) cursor passes; lodgings = p.lodgings; keeper = k }

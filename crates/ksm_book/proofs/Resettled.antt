@@ -31,7 +31,7 @@ module _ {p : PagesView} {k w : KeeperView} (h : IsLaid p k) (rise : InPageOrder
     may_left = rw was (may_leave w same _ (in_hand houses))
 
     -- a page that took a frame with its bytes on a node, and left the one that it had, is resettled there
-    pub resettled : (q : PagesView) (u : KeeperView) → q ≡ record p { rows = change_row page on_its_own p.rows; frame = lies_on page (Some g) p.frame; restless = q.restless }
+    pub resettled : (q : PagesView) (u : KeeperView) → q ≡ record p { rows = change_row page on_its_own p.rows; frame = lies_on page (Some g) p.frame }
         → MakesSteps w u (leaving left) → Resettled p q k u page node bytes
     resettled q u goes made =
         let leaves = subst (λ o. MakesSteps w u (leaving o)) was made in

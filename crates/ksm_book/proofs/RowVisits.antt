@@ -200,7 +200,7 @@ module _ (best : Best) {p : PagesView} {k : KeeperView} {cursor : Option GuestPa
             leads at q l at.so.0
             (rw q_is
             (laid_joined at.laid at.sound.rows_rise _ row _ at.found found_item g there
-            item_merged _ (λ r. refl) state_is same_bytes l _ steps))
+            item_merged _ (λ r. refl) state_is same_bytes l steps))
             (grind (arith, q_is, page_is at, told.2.0))
             (grind (arith, page_is at, live.first, there, steps, frame_is))
 

@@ -1,16 +1,15 @@
 -- What the parts of a scan come to: the end of a pass, listed pages in the stead of those ahead, visits up to a page, and whole passes.
-use Rattle.ksm_book.proofs.Names.{after_cursor, Ahead, AllPairs-filter, ap, AreListed, arith, At, begun, BookState, Bool, comes_before, drop_more, End, EndsAt, filter, filter_passes, from_to}
+use Rattle.ksm_book.proofs.Names.{Ahead, ap, arith, At, begun, BookState, comes_before, drop_more, End, EndsAt, filter}
 use Rattle.ksm_book.proofs.Names.{get_or_from_slice_get, GuestPage, has_item, InPageOrder, is_none, is_nowhere, IsBeside, IsStill, last_of, last_visited, length, length-take-le, List, mergeable_pages}
-use Rattle.ksm_book.proofs.Names.{min, next_row, None, not, Option, option_map, pages_ahead, pages_visited, pass_begun, pass_ended, restless_at, Row, slice_get, slice_get-get_or, slice_get_within}
-use Rattle.ksm_book.proofs.Names.{Some, subst, suc, suc-mul, sym, take, true, true≢false, up_to, visit_begun, visits_beside, with_none_waiting, zero, ℕ, [], ◌&&◌, ◌*◌, ◌+◌, ◌-◌, ◌<◌, ◌^◌, ◌∙◌, ◌∷◌}
+use Rattle.ksm_book.proofs.Names.{min, next_row, None, Option, option_map, pages_ahead, pass_begun, pass_ended, restless_at, Row, slice_get, slice_get-get_or, slice_get_within}
+use Rattle.ksm_book.proofs.Names.{Some, suc, suc-mul, sym, take, true, true≢false, up_to, visit_begun, visits_beside, with_none_waiting, zero, ℕ, [], ◌*◌, ◌+◌, ◌-◌, ◌<◌, ◌^◌, ◌∙◌, ◌∷◌}
 use Rattle.ksm_book.proofs.Names.{◌≡◌, ◌≤◌}
-use Rattle.ksm_book.proofs.PagesAhead.{Before, between_at, between_is, GoesDown, has_filter, place_of, place_splits}
+use Rattle.ksm_book.proofs.PagesAhead.{place_of, place_splits}
 use Rattle.ksm_pages.proofs.Ranked.{last_of_take}
-use Rattle.ksm_book.proofs.Listed.{listed_at}
 use Rattle.std.proofs.lemmas.List.{drop_all, take_all}
 use Rattle.ksm_book.proofs.Going.{begun_goes, elsewhere, settled_goes}
-use Rattle.ksm_book.proofs.Folded.{after, ahead, ahead_then, ascending, ascending_ahead, begun_folded, beside_on, every_page, next_first, none_next, pages_alike, pages_go, pages_stay, pass_goes_on}
-use Rattle.ksm_book.proofs.Folded.{same_restless, settled_twice, stood, visits_folded}
+use Rattle.ksm_book.proofs.Folded.{after, ahead, ahead_then, ascending, begun_folded, beside_on, every_page, next_first, none_next, pages_alike, pages_go, pages_stay, pass_goes_on}
+use Rattle.ksm_book.proofs.Folded.{settled_twice, stood, visits_folded}
 
 -- ---------------------------------------------------------------- the beginning of a visit
 
@@ -41,39 +40,10 @@ some_ahead b some =
     let within = slice_get_within (pages_ahead b) 0 in
     grind (arith, next_first b.cursor b.rows, settled_ahead b, settled_ahead (pass_ended b), every_page b.rows)
 
--- ---------------------------------------------------------------- listed pages
-
 -- scans visit a restless page
 pub restless_mergeable : (page : GuestPage) (rows : List Row) → restless_at page rows ≡ true → has_item page (mergeable_pages rows) ≡ true
 restless_mergeable page [] is = absurd (true≢false (sym is))
 restless_mergeable page (r ∷ rows) is = grind (arith, restless_mergeable page rows)
-
--- the listed pages from one index up to another, where these are the counts of those up to the cursor, and of those that pass a test
-module _ (t : GuestPage → Bool) (down : GoesDown t) (pages : List GuestPage) (first end : ℕ) (told : Option GuestPage) (b : BookState)
-    (rise : InPageOrder b.rows) (listed : AreListed b.rows pages)
-    (low : first ≡ length (filter (λ p. not (after_cursor told p)) pages)) (at : told ≡ b.cursor)
-    (high : end ≡ length (filter t pages)) where
-  part_is : from_to first end pages ≡ filter (λ p. after_cursor b.cursor p && t p) pages
-  part_is = grind (arith, between_is)
-
-  -- visits of the listed pages from first up to end come to the same as those of the pages ahead that pass the test
-  pub part_visited : {X : Type 0} (step : BookState → X → Row → X) (s : BookState × X) → b ≡ s.0
-      → pages_visited step s (from_to first end pages) ≡ pages_visited step s (filter t (pages_ahead s.0))
-  part_visited step s same =
-      let order = subst (λ (c : BookState). InPageOrder c.rows) same rise in
-      let alike = same_restless step (filter (λ p. after_cursor b.cursor p && t p) pages) (filter t (pages_ahead s.0))
-      s order (AllPairs-filter Before _ _ listed.0) (AllPairs-filter Before t _ (ascending_ahead s.0 order))
-      (grind (arith, has_filter, restless_mergeable, listed_at)) in
-      grind (arith, part_is)
-
-  -- a restless page among the listed ones from first up to end is ahead, and passes the test
-  pub part_ahead : (n : ℕ) (page : GuestPage) → slice_get pages n ≡ Some page → first ≤ n → n < end → restless_at page b.rows ≡ true
-      → (t page ≡ true) × (has_item page (pages_ahead b) ≡ true)
-  part_ahead n page stands le lt restless =
-      let place = between_at _ _ n end _ stands le lt in
-      let passes = filter_passes (λ p. after_cursor b.cursor p && t p) pages in
-      let kept = has_filter (after_cursor b.cursor) page (mergeable_pages b.rows) in
-      grind (arith, part_is, restless_mergeable page b.rows restless)
 
 -- ---------------------------------------------------------------- visits made
 

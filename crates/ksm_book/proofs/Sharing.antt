@@ -2,7 +2,7 @@
 use Rattle.ksm_base.specs.declared.limits.TheConstants.{MOST_FRAMES, MOST_LIVES, MOST_REFERENCES}
 use Rattle.ksm_book.proofs.Names.{Add, All, All-filter, ap, arith, blank, Bool, change_row, Contains, count_by, count_none, did, DupRow, elsewhere, eq-eqb, false, filter, filter_passes, find}
 use Rattle.ksm_book.proofs.Names.{find_all, find_none, find_passes, frame_at, Frames, frames_of, get_or-set_same, get_or_default, GuestPage, IfSome, if◌then◌else◌, InPageOrder, IsInLife, IsLaid}
-use Rattle.ksm_book.proofs.Names.{IsLoose, IsServed, IsVacant, item_count, KeeperView, leaving, Ledger, ledger_after, length, lies_on, Life, life_or, List, list_any, Listing, MakesSteps, May}
+use Rattle.ksm_book.proofs.Names.{IsLoose, IsServed, IsVacant, item_count, KeeperView, leaving, Ledger, ledger_after, length, lies_on, Life, life_or, List, list_any, MakesSteps, May}
 use Rattle.ksm_book.proofs.Names.{MayLeave, Merged, merged_into, merged_state, named_at, nat_lt, None, none_found, Note, Option, PageState, PagesView, place_frame, Placed, Private, Publish, refl, Row}
 use Rattle.ksm_book.proofs.Names.{row_at, RowFits, set, set-get_or, settled, Shape, shared_state, Some, spent, spent_on, Stable, subst, sum_by-le, sym, true, with_dup, with_frame, Withdraw}
 use Rattle.ksm_book.proofs.Names.{withdrawing, ℕ, [], ◌*◌, ◌+◌, ◌-◌, ◌<◌, ◌==◌, ◌∙◌, ◌∷◌, ◌≡◌, ◌≢◌, ◌≤◌}
@@ -60,9 +60,9 @@ module _ {p : PagesView} {k : KeeperView} (h : IsLaid p k) (rise : InPageOrder p
     may_part w comes = may_leave w (shape_same _ k w h.same (rw comes.after)) _ (joined_hand w comes)
 
     -- rows and dups lie lawfully once a page is an item, lies on the item's frame and has left its own
-    pub laid_joined : (u : KeeperView) (restless : Listing) → MakesSteps k u (Add g ∷ leaving (p.frame page))
-        → IsLaid (record p { rows = change_row page c p.rows; frame = lies_on page (Some g) p.frame; restless = restless }) u
-    laid_joined u restless m =
+    pub laid_joined : (u : KeeperView) → MakesSteps k u (Add g ∷ leaving (p.frame page))
+        → IsLaid (record p { rows = change_row page c p.rows; frame = lies_on page (Some g) p.frame }) u
+    laid_joined u m =
         let parts = parts_made _ _ m in
         laid_rows h u (rw m.after) (omega (arith, added_spends parts.1, left_spends _ parts.2))
         (left_placed _ parts.2 (joined_hand _ parts.1))
@@ -177,13 +177,13 @@ module _ {p : PagesView} {k : KeeperView} (h : IsLaid p k) (rise : InPageOrder p
       grind (arith, cleared_ledger w h d.place inside vacant m, m.after, own, fits)
 
   -- rows and dups lie lawfully once the row's frame is published at the place of the new dup
-  pub laid_found : (c : Row → Row) (w1 w : KeeperView) (restless : Listing) → ((r : Row) → (c r).page ≡ r.page)
+  pub laid_found : (c : Row → Row) (w1 w : KeeperView) → ((r : Row) → (c r).page ≡ r.page)
       → (c row).state ≡ Merged p.next → (c row).bytes ≡ row.bytes → MakesSteps k w1 (withdrawing p.dups d.place)
       → w ≡ did w1 (Publish d.place f) 0
       → d.bytes ≡ row.bytes → (p.knobs.merge_across_nodes ≡ 0 → row.home ≡ d.tree) → All (λ e. e.number < p.next) p.dups
       → All (λ r. merged_into p.next r.state ≡ false) p.rows
-      → IsLaid (record p { rows = change_row page c p.rows; dups = with_dup d p.dups; next = p.next + 1; restless = restless }) w
-  laid_found c w1 w restless keeps state same clears is bytes tree numbers fresh =
+      → IsLaid (record p { rows = change_row page c p.rows; dups = with_dup d p.dups; next = p.next + 1 }) w
+  laid_found c w1 w keeps state same clears is bytes tree numbers fresh =
       let empty = cleared_ledger w1 h d.place inside vacant clears in
       let shown = published (withdrawn d.place inside h.placed) page row rise found f lies own d inside c keeps
       (state ∙ ap Merged (sym number)) same bytes tree alone (λ i r lt. rw number (fresh i r lt))

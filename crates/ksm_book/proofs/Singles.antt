@@ -39,15 +39,15 @@ row_held h = rw h.spot h.found
 -- listing, the steps are those of the resettling, and rows and dups lie lawfully
 pub settled_then : {p m q : PagesView} {k l : KeeperView} {page : GuestPage} {node : ℕ} {bytes : List ℕ} {row : Row} → IsLaid p k → InPageOrder p.rows
     → row_at page p.rows ≡ Some row → Resettled p m k l page node bytes → (d change : Row → Row)
-    → q ≡ record m { rows = change_row page d m.rows; restless = q.restless } → ((x : Row) → (change x).page ≡ x.page)
+    → q ≡ record m { rows = change_row page d m.rows } → ((x : Row) → (change x).page ≡ x.page)
     → d (on_its_own row) ≡ change row → ((change row).state ≡ Private) × ((change row).home ≡ node) × ((change row).bytes ≡ bytes)
-    → (q ≡ record p { rows = change_row page change p.rows; frame = q.frame; restless = q.restless })
+    → (q ≡ record p { rows = change_row page change p.rows; frame = q.frame })
     × Resettles (lying p k) (lying q l) row.page node bytes × IsLaid q l
 settled_then {p} {m} {q} {k} {l} {page} {node} {bytes} {row} h rise found r d change goes keeps to housed =
     let one = row_of_page _ _ row rise found in
     let rows = change_twice page on_its_own d change p.rows (λ x. refl)
     (λ i x lt at. grind (arith, one i x lt at, to)) in
-    let pages : q ≡ record p { rows = change_row page change p.rows; frame = q.frame; restless = q.restless } =
+    let pages : q ≡ record p { rows = change_row page change p.rows; frame = q.frame } =
     grind (arith, goes, r.pages) in
     let houses : Houses change page node bytes p.rows = record { pages = keeps; row = rw found housed } in (
       pages,
@@ -91,14 +91,14 @@ module _ (p : PagesView) (k l : KeeperView) (cursor : Option GuestPage) (passes 
     stores shared is steps = grind arith
 
   -- `Store` is carried out where the bytes are stored to the page's own frame, and its row tells them
-  pub store_written : (q : PagesView) (g : ℕ) → q ≡ record p { rows = change_row page (stored bytes) p.rows; restless = q.restless } → shared_state row.state ≡ false → p.frame page ≡ Some g → l ≡ stepped k (puts g 0 bytes)
+  pub store_written : (q : PagesView) (g : ℕ) → q ≡ record p { rows = change_row page (stored bytes) p.rows } → shared_state row.state ≡ false → p.frame page ≡ Some g → l ≡ stepped k (puts g 0 bytes)
       → IsCarried (book p k cursor passes) (book q l cursor passes) (Store page bytes) (Ok Done)
   store_written q g goes alone lies wrote =
       stores q (rw goes) false alone (grind (arith, found_page))
 
   -- `Store` is carried out, and all lies lawfully, where a shared page is resettled with the bytes, as its row tells
   pub store_copied : (m q : PagesView) → IsLaid p k → InPageOrder p.rows → Resettled p m k l page row.home bytes
-      → q ≡ record m { rows = change_row page (stored bytes) m.rows; restless = q.restless } → shared_state row.state ≡ true
+      → q ≡ record m { rows = change_row page (stored bytes) m.rows } → shared_state row.state ≡ true
       → Carries p k q l cursor passes (Store page bytes) (Ok Done)
   store_copied m q h rise r goes shared =
       grind (arith, settled_then h rise found r _ (stored bytes) goes (λ x. refl) refl (refl, refl, refl))
@@ -119,7 +119,7 @@ module _ (p : PagesView) (k : KeeperView) (cursor : Option GuestPage) (passes : 
 
   module _ (l : KeeperView) (table : l.table ≡ k.table) (away : (row.home == node) ≡ false) where
     -- `MovePage` is carried out, and all lies lawfully, where the page is resettled on another node and at home there
-    pub move_moved : (m q : PagesView) → IsLaid p k → Resettled p m k l page node row.bytes → q ≡ record m { rows = change_row page (λ r. record r { home = node }) m.rows; restless = q.restless }
+    pub move_moved : (m q : PagesView) → IsLaid p k → Resettled p m k l page node row.bytes → q ≡ record m { rows = change_row page (λ r. record r { home = node }) m.rows }
         → Carries p k q l cursor passes (MovePage page node) (Ok Done)
     move_moved m q h r goes =
         let s = settled_then h rise found r _
@@ -164,7 +164,7 @@ pub record HasCome (p m : PagesView) (page : GuestPage) (node : ℕ) (bytes : Li
   pub rise : InPageOrder p.rows
   pub absent : row_at page p.rows ≡ None
   -- it has one now, and no other page lies elsewhere
-  pub comes : m ≡ record p { rows = with_row (fresh_row page node bytes) p.rows; frame = m.frame; restless = m.restless }
+  pub comes : m ≡ record p { rows = with_row (fresh_row page node bytes) p.rows; frame = m.frame }
   pub others : m.frame ≡ lies_on page (m.frame page) p.frame
   -- there is such a node
   pub less : node < p.shape.nodes
@@ -181,7 +181,7 @@ module _ {p m : PagesView} {page : GuestPage} {node : ℕ} {bytes : List ℕ} (n
   come_known = rw new.comes (ap is_some found_fresh)
 
   -- `Register` is carried out, and all lies lawfully, where the page comes on a frame taken with its bytes
-  pub register_come : {k l : KeeperView} (h : IsLaid p k) (cursor : Option GuestPage) (passes : ℕ) (q : PagesView) {g : ℕ} → q ≡ record m { rows = change_row page on_its_own m.rows; frame = lies_on page (Some g) m.frame; restless = q.restless } → Provides k l node bytes g → HasNewFrame k l node bytes g
+  pub register_come : {k l : KeeperView} (h : IsLaid p k) (cursor : Option GuestPage) (passes : ℕ) (q : PagesView) {g : ℕ} → q ≡ record m { rows = change_row page on_its_own m.rows; frame = lies_on page (Some g) m.frame } → Provides k l node bytes g → HasNewFrame k l node bytes g
       → Carries p k q l cursor passes (Register page node bytes) (Ok Done)
   register_come {k = k} {l = l} h cursor passes q {g} goes provides taken =
       let table = (provides_does provides).1.table in
@@ -190,8 +190,6 @@ module _ {p m : PagesView} {page : GuestPage} {node : ℕ} {bytes : List ℕ} (n
       let there : q ≡ record p {
         rows = with_row fresh p.rows;
         frame = lies_on page (Some g) p.frame;
-        restless =
-            q.restless;
       } =
       grind (arith, goes, new.comes, new.others, lies_again) in (
         grind arith,
@@ -205,7 +203,7 @@ module _ {p m : PagesView} {page : GuestPage} {node : ℕ} {bytes : List ℕ} (n
       let table = ap (λ (z : KeeperView). z.table) searched.reaped.after in
       let rows = without_come _ _ new.rise new.absent in
       let frame = ap (lies_on page None) new.others ∙ lies_again _ _ None _ ∙ lies_still _ None _ nowhere_there in
-      let back = goes ∙ (λ t. record (new.comes t) { rows = without_page page (new.comes t).rows; frame = lies_on page None m.frame }) ∙ (λ t. record p { rows = rows t; frame = frame t; restless = m.restless }) in (
+      let back = goes ∙ (λ t. record (new.comes t) { rows = without_page page (new.comes t).rows; frame = lies_on page None m.frame }) ∙ (λ t. record p { rows = rows t; frame = frame t }) in (
         grind arith,
         rw back (laid_rows h l table (searched_spends _ searched.reaped) (turned h new.less searched).laid.placed),
       )

@@ -51,17 +51,17 @@ module _ {p : PagesView} {k : KeeperView} (guest : Option ℕ) {page : GuestPage
     lodges g = grind (arith, alone)
 
     -- a page with a frame of its own gets none
-    left_own : (q : PagesView) → q ≡ record p { rows = change_row page (left_by guest) p.rows; restless = q.restless }
+    left_own : (q : PagesView) → q ≡ record p { rows = change_row page (left_by guest) p.rows }
         → HasLeft p q k k guest page 0
     left_own q goes =
-        grind (arith, alone, laid_changed h page row (left_by guest) q.restless rise told.found, page_left, lodges)
+        grind (arith, alone, laid_changed h page row (left_by guest) rise told.found, page_left, lodges)
 
     -- a row with a frame of its own is left as it is where all pages are asked for
     pub left_still : is_some guest ≡ false → HasLeft p p k k guest page 0
     left_still none = grind (arith, left_own, change_still, one, still)
 
     -- a guest's row with a frame of its own is left once it is let go, and no frame is given for it
-    pub left_alone : is_some guest ≡ true → {q : PagesView} → q ≡ record p { rows = change_row page let_go p.rows; restless = q.restless }
+    pub left_alone : is_some guest ≡ true → {q : PagesView} → q ≡ record p { rows = change_row page let_go p.rows }
         → HasLeft p q k k guest page 0
     left_alone some {q} goes = grind (arith, left_own)
 
@@ -82,7 +82,7 @@ module _ {p : PagesView} {k : KeeperView} (guest : Option ℕ) {page : GuestPage
     pub left_lone : IsAlone page m.rows
     left_lone = grind (arith, now)
 
-    left_shared : (q : PagesView) (d : Row → Row) → q ≡ record m { rows = change_row page d m.rows; restless = q.restless }
+    left_shared : (q : PagesView) (d : Row → Row) → q ≡ record m { rows = change_row page d m.rows }
         → ((x : Row) → shared_state x.state ≡ true → d (on_its_own x) ≡ left_by guest x) → (d (on_its_own row)).state ≡ Private
         → (d (on_its_own row)).home ≡ row.home → (d (on_its_own row)).bytes ≡ row.bytes → HasLeft p q k l guest page 1
     left_shared q d goes same state home content =
@@ -92,13 +92,13 @@ module _ {p : PagesView} {k : KeeperView} (guest : Option ℕ) {page : GuestPage
         grind (arith, shared, s)
 
     -- a shared row of a guest is left once its page was resettled and it is let go, and one frame is given for it
-    pub left_guest : is_some guest ≡ true → {q : PagesView} → q ≡ record m { rows = change_row page let_go m.rows; restless = q.restless }
+    pub left_guest : is_some guest ≡ true → {q : PagesView} → q ≡ record m { rows = change_row page let_go m.rows }
         → HasLeft p q k l guest page 1
     left_guest some {q} goes = grind (arith, left_shared)
 
     -- where all pages are asked for, a shared row is left once its page was resettled and it is not unchanged
     pub left_any : is_some guest ≡ false → {q : PagesView}
-        → q ≡ record m { rows = change_row page (λ x. record x { unchanged = false }) m.rows; restless = q.restless }
+        → q ≡ record m { rows = change_row page (λ x. record x { unchanged = false }) m.rows }
         → HasLeft p q k l guest page 1
     left_any none {q} goes = grind (arith, left_shared)
 
@@ -118,7 +118,7 @@ pub record IsUnsharing (p q : PagesView) (k l : KeeperView) (guest : Option ℕ)
   -- the rows asked for are changed up to the cursor, as rows that were left
   pub along : IsAlong (of_guest guest) (left_by guest) p.rows q.rows last done left
   -- nothing changed but the rows, where pages lie and the listing
-  pub pages : q ≡ record p { rows = q.rows; frame = q.frame; restless = q.restless }
+  pub pages : q ≡ record p { rows = q.rows; frame = q.frame }
   -- the count is that of the shared rows among those looked at
   pub counted : count ≡ length (filter (is_shared_of guest) done)
   -- the shared rows among those looked at were resettled, one after another
@@ -207,7 +207,7 @@ pub record IsMarking (p q : PagesView) (guest : ℕ) (last : Option GuestPage) :
   -- the guest's rows are in the scan up to the cursor
   pub along : IsAlong (is_of guest) in_scan p.rows q.rows last done left
   -- nothing changed but the rows and the listing
-  pub pages : q ≡ record p { rows = q.rows; restless = q.restless }
+  pub pages : q ≡ record p { rows = q.rows }
   -- the numbers of the cursor's page fit
   pub fits : FitsPage last
 
@@ -219,10 +219,10 @@ module _ {p q : PagesView} {guest : ℕ} {last : Option GuestPage} (u : IsMarkin
     at = along_cut _ (λ _. refl) u.along rise _ told
 
     -- once the next page of the guest is mergeable too, the guest's pages are so up to that page
-    pub marking_next : {v : PagesView} → v ≡ record q { rows = change_row page in_scan q.rows; restless = v.restless }
+    pub marking_next : {v : PagesView} → v ≡ record q { rows = change_row page in_scan q.rows }
         → FitsPage (Some page) → IsMarking p v guest (Some page)
     marking_next {v} goes fits = grind (arith, at)
 
   -- where no page of the guest is left, all its rows are mergeable
-  pub marking_end : find (is_next (Some guest) last) q.rows ≡ None → q ≡ record p { rows = change_rows (is_of guest) in_scan p.rows; restless = q.restless }
+  pub marking_end : find (is_next (Some guest) last) q.rows ≡ None → q ≡ record p { rows = change_rows (is_of guest) in_scan p.rows }
   marking_end ended = grind (arith, (along_end _ (λ _. refl) u.along ended).0)

@@ -41,7 +41,7 @@ unmerge_carried u has = grind (arith, stop_is, unshares_own u)
 
 -- all pages of a guest become mergeable, if it has one
 module _ {p q : PagesView} {k : KeeperView} (cursor : Option GuestPage) (passes guest : ℕ) (h : IsLaid p k)
-    (goes : q ≡ record p { rows = change_rows (is_of guest) in_scan p.rows; restless = q.restless }) where
+    (goes : q ≡ record p { rows = change_rows (is_of guest) in_scan p.rows }) where
   -- `Mergeable` of a guest that has a row is carried out where all its rows are put in the scan
   pub mergeable_carried : has_guest (state_of p cursor passes) guest ≡ true
       → IsCarried (book p k cursor passes) (book q k cursor passes) (Mergeable guest) (Ok Done)
@@ -49,7 +49,7 @@ module _ {p q : PagesView} {k : KeeperView} (cursor : Option GuestPage) (passes 
 
   -- rows and dups lie lawfully once a guest's rows are in the scan
   pub mergeable_laid : IsLaid q k
-  mergeable_laid = rw goes (laid_mapped h _ q.restless (grind arith) (grind arith))
+  mergeable_laid = rw goes (laid_mapped h _ (grind arith) (grind arith))
 
 -- a run of 2
 module _ {p m : PagesView} {k l : KeeperView} (cursor : Option GuestPage) (passes : ℕ) {count : ℕ} {stop : Option Fault}
@@ -80,10 +80,10 @@ module _ {p m : PagesView} {k l : KeeperView} (cursor : Option GuestPage) (passe
     unshare_none = rw went (All-map (λ r. shared_state r.state ≡ false) _ _ (grind arith))
 
     -- `SetRun` 2 is carried out, and all lies lawfully, where the unsharing of all rows went through and run is 2 then
-    pub unshare_ends : {w q : PagesView} → w ≡ record m { rows = map unshared m.rows; restless = w.restless }
+    pub unshare_ends : {w q : PagesView} → w ≡ record m { rows = map unshared m.rows }
         → q ≡ record w { knobs = record knobs { run = 2 } }
         → IsCarried (book p k cursor passes) (book q l None passes) (SetRun 2) (Ok (Unmerged count stop)) × IsLaid q l
     unshare_ends {w} {q} wide goes =
-        let there = laid_mapped u.laid unshared w.restless (λ r. refl) (grind (arith, unshare_none)) in
+        let there = laid_mapped u.laid unshared (λ r. refl) (grind (arith, unshare_none)) in
         let rows : map unshared m.rows ≡ map unshared p.rows = grind (arith, went, map_mapped) in
         grind (arith, carried q None, retuned)

@@ -49,7 +49,7 @@ pub record Houses (change : Row → Row) (page : GuestPage) (node : ℕ) (bytes 
 -- a page got a frame of a node with these bytes, and its row has a frame of its own; once the row tells of home and
 -- bytes too, rows and dups lie lawfully
 pub record Resettled (p q : PagesView) (k l : KeeperView) (page : GuestPage) (node : ℕ) (bytes : List ℕ) : Type 0 where
-  pub pages : q ≡ record p { rows = change_row page on_its_own p.rows; frame = q.frame; restless = q.restless }
+  pub pages : q ≡ record p { rows = change_row page on_its_own p.rows; frame = q.frame }
   pub resettles : Resettles (lying p k) (lying q l) page node bytes
   pub placed : (change : Row → Row) → Houses change page node bytes p.rows
       → Placed p.shape p.knobs.merge_across_nodes l.ledger (change_row page change p.rows) q.frame p.dups None

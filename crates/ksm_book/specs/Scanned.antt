@@ -1,20 +1,20 @@
 -- What a scan asks of the book's inside, and what its parts come to (own).
-use Rattle.std.specs.Prelude.{◌≡◌, ℕ, ◌+◌, ◌-◌, ◌^◌, ◌<◌, ◌≤◌, Bool, true, false, not, ◌==◌, List, drop, take, filter, min, slice_get, Option, Some, None, MatchOption}
+use Rattle.std.specs.Prelude.{◌≡◌, ℕ, ◌+◌, ◌-◌, ◌^◌, ◌<◌, ◌≤◌, Bool, true, false, not, ◌==◌, All, List, filter, min, Option, Some, None, MatchOption}
 use Rattle.ksm_base.specs.declared.page.GuestPage.{GuestPage}
 use Rattle.ksm_base.specs.declared.row.Row.{Row}
 use Rattle.ksm_base.specs.declared.fault.Fault.TheVariants.{Memory}
 use Rattle.ksm_base.specs.declared.reply.Reply.{Reply}
 use Rattle.ksm_base.specs.declared.reply.Reply.TheVariants.{Scanned}
 use Rattle.ksm_base.specs.Rows.{comes_before, row_at}
-use Rattle.ksm_base.specs.Visit.{best_dup, is_for_zero, partner, row_visited}
+use Rattle.ksm_base.specs.Visit.{after_cursor, best_dup, is_for_zero, partner, row_visited}
 use Rattle.ksm_tree.specs.declared.dup.Best.{Best}
-use Rattle.ksm_pages.specs.Paged.{AreAllListed, is_restless}
+use Rattle.ksm_pages.specs.Paged.{is_restless}
 use Rattle.ksm_base.specs.State.{BookState}
-use Rattle.ksm_rmap.specs.Items.{AreAscending, has_item}
+use Rattle.ksm_rmap.specs.Items.{has_item}
 use Rattle.ksm_book.specs.Commands.{Deed, Performs, row_visiting, then_doing}
 use Rattle.ksm_book.specs.Whole.{BookValue, BookView, mapped, view_of}
-use Rattle.ksm_book.specs.Folded.{IsStill, begun, pages_ahead, pages_visited, restless_at, visits_beside}
-use Rattle.ksm_pages.specs.Ahead.{mergeable_pages, pages_between}
+use Rattle.ksm_book.specs.Folded.{IsStill, begun, pages_ahead, pages_visited, visits_beside}
+use Rattle.ksm_pages.specs.Ahead.{FindsNext, mergeable_pages, pages_between}
 use Rattle.ksm_pages.specs.declared.ahead.Ahead.{Ahead}
 use Rattle.ksm_pages.specs.declared.ahead.Ahead.TheVariants.{At, End}
 use Rattle.ksm_book.specs.declared.visiting.Visited.{Visited}
@@ -98,17 +98,11 @@ abbrev pub last_visited : Ahead → Option GuestPage
 last_visited (At page) = Some page
 last_visited (End made) = None
 
--- each page that a visit may change is among these, which are in order
-abbrev pub AreListed : List Row → List GuestPage → Type 0
-AreListed rows pages = AreAscending pages × AreAllListed rows pages
-
--- so it is with the listed pages of a book
-abbrev pub ListsAll : BookValue → Type 0
-ListsAll v = AreListed v.state.rows v.restless.pages
-
--- the pages from one index up to another
-abbrev pub from_to : ℕ → ℕ → List GuestPage → List GuestPage
-from_to first end pages = drop first (take end pages)
+-- a search behind a cursor, up to the last one, for a page that a visit may change
+abbrev pub FindsUpTo : Option GuestPage → Option GuestPage → List Row → Option GuestPage → Type 0
+FindsUpTo last cursor rows None =
+    All (λ r. is_restless r ≡ true → after_cursor cursor r.page ≡ true → up_to last r.page ≡ false) rows
+FindsUpTo last cursor rows (Some page) = (up_to last page ≡ true) × FindsNext cursor rows (Some page)
 
 -- a visit changed nothing but which rows wait
 abbrev pub is_quiet : Visited → Bool
@@ -116,17 +110,6 @@ is_quiet Same = true
 is_quiet Changed = false
 is_quiet Shared = false
 is_quiet Gone = true
-
--- the visits of the listed pages from one index up to another stopped at an index
-pub record StopsAt (old new : BookValue) (first end at : ℕ) : Type 0 where
-  -- it lies between the two
-  pub low : first ≤ at
-  pub high : at < end
-  -- the listed pages before it were visited
-  pub comes : Comes old new (λ s. pages_visited doing s (from_to first at old.restless.pages))
-  -- its page is one that a visit may change
-  pub restless : (page : GuestPage) → slice_get old.restless.pages at ≡ Some page
-      → restless_at page new.state.rows ≡ true
 
 -- the visits of the pages ahead up to the last one, or of all of them, stopped before a page
 pub record StopsBefore (old new : BookValue) (last : Option GuestPage) (page : GuestPage) : Type 0 where

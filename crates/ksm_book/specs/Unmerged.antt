@@ -35,7 +35,7 @@ pub record HasLeft (p q : PagesView) (k l : KeeperView) (guest : Option ℕ) (pa
   pub row : Row
   pub found : row_at page p.rows ≡ Some row
   pub given : count ≡ length (shared_of row)
-  pub pages : q ≡ record p { rows = change_row page (left_by guest) p.rows; frame = q.frame; restless = q.restless }
+  pub pages : q ≡ record p { rows = change_row page (left_by guest) p.rows; frame = q.frame }
   pub steps : ResettlesEach (shared_of row) (lying p k) (lying q l)
   pub laid : IsLaid q l
 
@@ -57,7 +57,6 @@ pub record Unshares (p q : PagesView) (k l : KeeperView) (guest : Option ℕ) (c
   pub pages : q ≡ record p {
     rows = change_rows (λ r. of_guest guest r && is_before at r) (left_by guest) p.rows;
     frame = q.frame;
-    restless = q.restless;
   }
   pub unmerges : UnmergesTo (take count (filter (is_shared_of guest) p.rows)) stop (lying p k) (lying q l)
   pub laid : IsLaid q l

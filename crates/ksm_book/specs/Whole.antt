@@ -13,7 +13,6 @@ use Rattle.ksm_book.specs.Commands.{Mapped}
 use Rattle.ksm_book.specs.Keeping.{NoneLeft}
 use Rattle.ksm_book.specs.Mounted.{HasLost, HasMoved}
 use Rattle.ksm_pages.specs.Paged.{Frames, Lodging, frame_of}
-use Rattle.ksm_pages.specs.Held.{Listing}
 
 -- what is seen of the book: its state, the frame of each page, and the keeper
 pub record BookView : Type 0 where
@@ -21,13 +20,11 @@ pub record BookView : Type 0 where
   pub frame : Frames
   pub keeper : KeeperView
 
--- the value by which proofs tell such books apart: a list in the place of the function that `BookView` has, and the
--- list of the rows that a visit may change
+-- the value by which proofs tell such books apart: a list in the place of the function that `BookView` has
 pub record BookValue : Type 0 where
   pub state : BookState
   pub lodgings : List Lodging
   pub keeper : KeeperView
-  pub restless : Listing
 
 abbrev pub view_of : BookValue → BookView
 view_of b = record { state = b.state; frame = frame_of b.lodgings; keeper = b.keeper }

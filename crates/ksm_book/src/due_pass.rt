@@ -30,7 +30,6 @@ impl State {
         requires due { AreDue self.old.state due.old.pages }
         requires start { self.old.state.cursor ≡ None }
         ensures own { self.new.keeper.table ≡ self.old.keeper.table }
-        ensures restless { self.new.restless ≡ self.old.restless }
         ensures visited { IfOk result (λ quiet. HasVisited self.old self.new (part_visited None) quiet) }
         ensures due { due.new.known ≡ true → AreDue self.new.state due.new.pages }
         ensures stopped { IfErr result (λ page. StopsInPart self.old self.new None page) }
@@ -55,7 +54,6 @@ impl State {
         requires start { self.old.state.cursor ≡ None }
         ensures own { self.new.keeper.table ≡ self.old.keeper.table }
         ensures ready { due.new.ready ≡ true }
-        ensures restless { self.new.restless ≡ self.old.restless }
         ensures visited { OnOk result (Comes self.old self.new (λ s. due_visits doing s (pages_ahead s.0))) }
         ensures due { OnOk result (AreDue self.new.state due.new.pages) }
         ensures stopped { IfErr result (λ page. StopsDue self.old self.new page) }
@@ -80,7 +78,6 @@ impl State {
         requires due { AreDue self.old.state due.old.pages }
         ensures own { self.new.keeper.table ≡ self.old.keeper.table }
         ensures ready { due.new.ready ≡ true }
-        ensures restless { self.new.restless ≡ self.old.restless }
         ensures comes { OnOk result (Comes self.old self.new (λ s. due_visited doing s spot.page)) }
         ensures due { OnOk result (AreDue self.new.state due.new.pages) }
         ensures refused { OnErr result (StaysBefore spot.page self.old self.new) }
@@ -124,7 +121,6 @@ impl State {
             (TakesOverFrom self.old.state other) }
         ensures own { self.new.keeper.table ≡ self.old.keeper.table }
         ensures ready { due.new.ready ≡ true }
-        ensures restless { self.new.restless ≡ self.old.restless }
         ensures comes { OnOk result (Comes self.old self.new (λ s. due_visited doing s spot.page)) }
         ensures due { OnOk result (AreDue self.new.state due.new.pages) }
         ensures refused { OnErr result (StaysBefore spot.page self.old self.new) }
@@ -145,7 +141,6 @@ impl State {
         ensures own { self.new.keeper.table ≡ self.old.keeper.table }
         ensures comes { Comes self.old self.new
             (λ s. (record s.0 { rows = change_row spot.page settled s.0.rows }, s.1)) }
-        ensures restless { self.new.restless ≡ self.old.restless }
     {
         self.pages.stop_waiting(spot);
     }
@@ -154,7 +149,6 @@ impl State {
     fn hide_from(&mut self, page: GuestPage)
         ensures own { self.new.keeper.table ≡ self.old.keeper.table }
         ensures comes { Comes self.old self.new (λ s. (hidden_from page s.0, s.1)) }
-        ensures restless { self.new.restless ≡ self.old.restless }
     {
         self.lies_lawfully();
         let mut last = None;

@@ -1,26 +1,21 @@
 //! The scan: visits of mergeable pages, in the order of their pages, pass after pass.
 //!
-//! Only restless pages are visited: those that a visit may change. They are listed in order. Where the visits end is
-//! asked first (`ahead`), so those in between need no look. And where a whole pass changed nothing but which rows wait,
-//! the passes that would repeat it are counted and not made; from then on a whole pass visits only what is due
-//! (`due_pass.rt`).
+//! Only restless pages are visited: those that a visit may change. Where the visits end is asked first (`ahead`), so
+//! those in between need no look. And where a whole pass changed nothing but which rows wait, the passes that would
+//! repeat it are counted and not made; from then on a whole pass visits only what is due (`due_pass.rt`).
 
-ghost use Rattle.std.specs.Prelude.{◌≡◌, ◌&&◌, ◌+◌, ◌-◌, ◌<◌, ◌≤◌, [], true, not, None, Some, drop, filter};
-ghost use Rattle.std.specs.Prelude.{length, slice_get};
-ghost use Rattle.std.specs.Prelude.{Err, OnOk, OnErr, IfOk, IfErr};
-ghost use Rattle.ksm_base.specs.declared.fault.Fault.TheVariants.{Memory};
-ghost use Rattle.ksm_base.specs.declared.page.GuestPage.{GuestPage};
+ghost use Rattle.std.specs.Prelude.{◌≡◌, ◌&&◌, ◌≤◌, [], true, None, Some, IfOk, IfErr, length, option_map};
 ghost use Rattle.ksm_base.specs.Rows.{InPageOrder};
 ghost use Rattle.ksm_base.specs.State.{with_none_waiting};
-ghost use Rattle.ksm_base.specs.Visit.{after_cursor, pass_begun, pass_ended_at_last};
+ghost use Rattle.ksm_base.specs.Visit.{pass_begun, pass_ended_at_last};
 ghost use Rattle.ksm_pages.specs.Ahead.{EndsAt, last_of, mergeable_pages};
 ghost use Rattle.ksm_book.specs.Carried.{IsCarried};
 ghost use Rattle.ksm_book.specs.Due.{AreDue};
 ghost use Rattle.ksm_book.specs.DuePass.{StopsInPart, part_visited};
 ghost use Rattle.ksm_book.specs.Folded.{pages_ahead, pages_visited};
-ghost use Rattle.ksm_book.specs.Scanned.{Comes, GoesOn, HasScanned, HasVisited, ListsAll, StopsAt, StopsBefore};
-ghost use Rattle.ksm_book.specs.Scanned.{StopsShort, ahead_before, ahead_up_to, doing, from_to, is_nowhere};
-ghost use Rattle.ksm_book.specs.Scanned.{is_quiet, last_visited, passes_ended, up_to};
+ghost use Rattle.ksm_book.specs.Scanned.{Comes, FindsUpTo, GoesOn, HasScanned, HasVisited, StopsBefore, StopsShort};
+ghost use Rattle.ksm_book.specs.Scanned.{ahead_before, ahead_up_to, doing, is_nowhere, is_quiet, last_visited};
+ghost use Rattle.ksm_book.specs.Scanned.{passes_ended};
 ghost use Rattle.ksm_book.specs.Whole.{view_of};
 
 use crate::due::Due;
@@ -78,10 +73,9 @@ impl Made {
 }
 
 impl State {
-    // A law: the rows are in the order of their pages, and the restless ones are listed, where they are known.
+    // A law: the rows are in the order of their pages.
     fn lies_in_order(&self)
-        ensures rise { InPageOrder self.now.state.rows }
-        ensures listed { self.now.restless.known ≡ true → ListsAll self.now }
+        ensures { InPageOrder self.now.state.rows }
     {
         self.pages.lie_in_order();
     }
@@ -89,7 +83,6 @@ impl State {
     fn set_cursor(&mut self, cursor: Option<GuestPage>)
         ensures own { self.new.keeper.table ≡ self.old.keeper.table }
         ensures comes { Comes self.old self.new (λ s. (record s.0 { cursor = cursor }, s.1)) }
-        ensures restless { self.new.restless ≡ self.old.restless }
     {
         self.cursor = cursor;
     }
@@ -98,7 +91,6 @@ impl State {
     fn end_passes(&mut self, count: u64)
         ensures own { self.new.keeper.table ≡ self.old.keeper.table }
         ensures comes { Comes self.old self.new (λ s. (passes_ended count s.0, s.1)) }
-        ensures restless { self.new.restless ≡ self.old.restless }
     {
         self.passes = self.passes.saturating_add(count);
         self.cursor = None;
@@ -108,7 +100,6 @@ impl State {
     fn settle_all(&mut self)
         ensures own { self.new.keeper.table ≡ self.old.keeper.table }
         ensures comes { Comes self.old self.new (λ s. (with_none_waiting s.0, s.1)) }
-        ensures restless { self.new.restless ≡ self.old.restless }
     {
         self.pages.settle_all();
     }
@@ -129,48 +120,25 @@ impl State {
         self.pages.between(self.cursor, page)
     }
 
-    // How many of the listed pages do not come behind a cursor.
-    fn listed_up_to(&self, cursor: Option<GuestPage>) -> usize
-        ensures { result ≡ length (filter (λ p. not (after_cursor cursor p)) self.now.restless.pages) }
+    // The first page behind one, up to the last one, that a visit may change, or a page before it.
+    #[inline(always)]
+    fn next_up_to(&mut self, last: Option<GuestPage>, cursor: Option<GuestPage>) -> Option<Spot>
+        ensures kept { self.new ≡ self.old }
+        ensures next { FindsUpTo last cursor self.old.state.rows (option_map (λ s. s.page) result) }
     {
-        self.pages.restless_up_to(cursor)
-    }
-
-    fn listed_len(&self) -> usize
-        ensures { result ≡ length self.now.restless.pages }
-    {
-        self.pages.restless_len()
-    }
-
-    // How many of the listed pages do not come behind the last one: all where there is no last one.
-    fn listed_to(&self, last: Option<GuestPage>) -> usize
-        ensures many { result ≡ length (filter (up_to last) self.now.restless.pages) }
-        ensures within { result ≤ length self.now.restless.pages }
-    {
+        let spot = self.pages.next_restless(cursor)?;
         match last {
-            Some(_) => self.listed_up_to(last),
-            None => self.listed_len(),
+            Some(last) if last.comes_before(spot.page) => None,
+            _ => Some(spot),
         }
     }
 
     // Of the listed pages those go that need no visit from now on, if there are some.
     fn drop_over(&mut self, over: bool)
-        ensures own { self.new.keeper.table ≡ self.old.keeper.table }
-        ensures comes { Comes self.old self.new (λ s. s) }
-        ensures known { self.new.restless.known ≡ self.old.restless.known }
+        ensures { self.new ≡ self.old }
     {
         if over {
             self.pages.sweep_restless();
-        }
-    }
-
-    fn listed_at(&self, at: usize) -> Spot
-        requires { at < length self.now.restless.pages }
-        ensures { slice_get self.now.restless.pages at ≡ Some result.page }
-    {
-        match self.pages.restless_at(at) {
-            Some(spot) => spot,
-            None => unreachable!(),
         }
     }
 
@@ -178,34 +146,6 @@ impl State {
         ensures { result ≡ self.now.state.cursor }
     {
         self.cursor
-    }
-
-    // Visits the listed pages from one index up to another. Where memory is refused, tells the index of the page that
-    // was not visited.
-    fn visit_listed(&mut self, table: &FrameTable, first: usize, end: usize) -> Result<Made, usize>
-        requires own { self.old.keeper.table ≡ table.now }
-        requires within { end ≤ length self.old.restless.pages }
-        ensures own { self.new.keeper.table ≡ self.old.keeper.table }
-        ensures restless { self.new.restless ≡ self.old.restless }
-        ensures visited { IfOk result (λ made. HasVisited self.old self.new
-            (λ s. pages_visited doing s (from_to first end self.old.restless.pages)) made.quiet) }
-        ensures due { IfOk result (λ made. made.quiet ≡ true → first ≤ end
-            → AreDue self.old.state (drop first self.old.restless.pages)
-            → AreDue self.new.state (drop end self.old.restless.pages)) }
-        ensures stopped { IfErr result (λ at. StopsAt self.old self.new first end at) }
-    {
-        let mut made = Made {
-            quiet: true,
-            over: false,
-        };
-        for at in first..end {
-            let spot = self.listed_at(at);
-            match self.visit(table, spot) {
-                Ok(visited) => made = made.and(visited),
-                Err(_) => return Err(at),
-            }
-        }
-        Ok(made)
     }
 
     // Visits the pages ahead up to the last one, or all of them, and says whether that changed nothing but which rows
@@ -216,9 +156,7 @@ impl State {
         last: Option<GuestPage>,
     ) -> Result<bool, GuestPage>
         requires own { self.old.keeper.table ≡ table.now }
-        requires known { self.old.restless.known ≡ true }
         ensures own { self.new.keeper.table ≡ self.old.keeper.table }
-        ensures known { self.new.restless.known ≡ true }
         ensures visited { IfOk result (λ quiet. HasVisited self.old self.new
             (λ s. pages_visited doing s (ahead_up_to last s.0)) quiet) }
         ensures due { IfOk result (λ quiet. quiet ≡ true → self.old.state.cursor ≡ None → last ≡ None
@@ -226,15 +164,20 @@ impl State {
         ensures stopped { IfErr result (λ page. StopsBefore self.old self.new last page) }
     {
         self.lies_in_order();
-        let first = self.listed_up_to(self.cursor());
-        let end = self.listed_to(last);
-        match self.visit_listed(table, first, end) {
-            Ok(made) => {
-                self.drop_over(made.over);
-                Ok(made.quiet)
+        let mut made = Made {
+            quiet: true,
+            over: false,
+        };
+        let mut reached = self.cursor();
+        while let Some(spot) = self.next_up_to(last, reached) {
+            match self.visit(table, spot) {
+                Ok(visited) => made = made.and(visited),
+                Err(_) => return Err(spot.page),
             }
-            Err(at) => Err(self.listed_at(at).page),
+            reached = Some(spot.page);
         }
+        self.drop_over(made.over);
+        Ok(made.quiet)
     }
 
     // Ends the pass if it has gone through all pages. Says where so many visits end.
@@ -243,7 +186,6 @@ impl State {
         ensures own { self.new.keeper.table ≡ self.old.keeper.table }
         ensures comes { Comes self.old self.new (λ s. (pass_ended_at_last s.0, s.1)) }
         ensures ahead { EndsAt (pages_ahead self.new.state) most result }
-        ensures restless { self.new.restless ≡ self.old.restless }
     {
         let ahead = self.ahead(most);
         let nowhere = is_none(ahead);
@@ -259,7 +201,6 @@ impl State {
     fn begin_pass(&mut self)
         ensures own { self.new.keeper.table ≡ self.old.keeper.table }
         ensures comes { Comes self.old self.new (λ s. (pass_begun s.0, s.1)) }
-        ensures restless { self.new.restless ≡ self.old.restless }
     {
         if self.cursor().is_none() {
             self.settle_all();
@@ -283,10 +224,8 @@ impl State {
         last: Option<GuestPage>,
     ) -> Result<bool, GuestPage>
         requires own { self.old.keeper.table ≡ table.now }
-        requires known { self.old.restless.known ≡ true }
         requires due { due.old.known ≡ true → AreDue self.old.state due.old.pages }
         ensures own { self.new.keeper.table ≡ self.old.keeper.table }
-        ensures known { self.new.restless.known ≡ true }
         ensures visited { IfOk result (λ quiet. HasVisited self.old self.new (part_visited last) quiet) }
         ensures due { due.new.known ≡ true → AreDue self.new.state due.new.pages }
         ensures stopped { IfErr result (λ page. StopsInPart self.old self.new last page) }
@@ -300,7 +239,7 @@ impl State {
         match self.visit_up_to(table, last) {
             Ok(quiet) => {
                 if whole && quiet {
-                    due.begin(self.listed_len() / 8);
+                    due.begin(self.counters().unshared as usize / 8);
                 }
                 Ok(quiet)
             }
@@ -315,10 +254,8 @@ impl State {
         requires own { self.old.keeper.table ≡ table.now }
         requires most { 1 ≤ most }
         requires some { 1 ≤ length (mergeable_pages self.old.state.rows) }
-        requires known { self.old.restless.known ≡ true }
         requires due { due.old.known ≡ true → AreDue self.old.state due.old.pages }
         ensures own { self.new.keeper.table ≡ self.old.keeper.table }
-        ensures known { self.new.restless.known ≡ true }
         ensures due { due.new.known ≡ true → AreDue self.new.state due.new.pages }
         ensures made { IfOk result (λ made. GoesOn self.old self.new most made) }
         ensures stopped { IfErr result (λ made. StopsShort self.old self.new most made) }
@@ -353,7 +290,6 @@ impl State {
         ensures many { result ≡ length (ahead_before page self.old.state) }
         ensures comes { Comes self.old self.new
             (λ s. (record s.0 { cursor = last_of s.0.cursor (ahead_before page s.0) }, s.1)) }
-        ensures restless { self.new.restless ≡ self.old.restless }
     {
         let (made, last) = self.between(page);
         self.set_cursor(last);
@@ -364,7 +300,6 @@ impl State {
     fn visits(&mut self, table: &FrameTable, due: &mut Due, count: u64) -> Reply
         requires own { self.old.keeper.table ≡ table.now }
         requires some { 1 ≤ length (mergeable_pages self.old.state.rows) }
-        requires known { self.old.restless.known ≡ true }
         requires due { due.old.known ≡ true → AreDue self.old.state due.old.pages }
         ensures own { self.new.keeper.table ≡ self.old.keeper.table }
         ensures due { due.new.known ≡ true → AreDue self.new.state due.new.pages }
@@ -386,16 +321,6 @@ impl State {
             visits: count,
             stop: None,
         }
-    }
-
-    // Lists all restless pages. Refused for memory alone.
-    fn list_restless(&mut self) -> Result<(), Fault>
-        ensures own { self.new.keeper.table ≡ self.old.keeper.table }
-        ensures view { view_of self.new ≡ view_of self.old }
-        ensures known { OnOk result (self.new.restless.known ≡ true) }
-        ensures fault { OnErr result (result ≡ Err Memory) }
-    {
-        self.pages.list_restless()
     }
 
     // How many pages a scan visits.
@@ -422,7 +347,7 @@ impl State {
                 stop: None,
             });
         }
-        self.list_restless()?;
+        self.pages.list_restless();
         Ok(self.visits(table, due, count))
     }
 }

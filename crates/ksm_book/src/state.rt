@@ -53,7 +53,6 @@ impl Model for State {
       state = state_of (seen s.pages) s.cursor s.passes;
       lodgings = s.pages.lodgings;
       keeper = s.keeper;
-      restless = s.pages.restless;
     } };
 
     ghost invariant = { λ s. IsSound (state_of (seen s.pages) s.cursor s.passes) × IsLaid (seen s.pages) s.keeper };

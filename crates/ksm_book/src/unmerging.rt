@@ -84,7 +84,6 @@ fn unshare_each(
 fn make_mergeable(pages: &mut Pages, guest: u16)
     ensures { seen pages.new ≡ record (seen pages.old) {
       rows = change_rows (is_of guest) (λ r. record r { mergeable = true }) pages.old.rows;
-      restless = pages.new.restless;
     } }
 {
     pages.lie_in_order();

@@ -42,7 +42,6 @@ impl State {
             → StaysStill self.old (λ s. page_visited doing s spot.page)) }
         ensures due { IfOk result (λ visited. is_quiet visited ≡ true
             → IsDueNoMore spot.page self.old.state self.new.state) }
-        ensures restless { self.new.restless ≡ self.old.restless }
         ensures refused { OnErr result (Comes self.old self.new (λ s. s)) }
         ensures refused_row { OnErr result (restless_at spot.page self.new.state.rows ≡ true) }
     {
@@ -63,7 +62,6 @@ impl State {
             → StaysStill self.old (λ s. page_visited doing s spot.page)) }
         ensures due { IfOk result (λ visited. is_quiet visited ≡ true
             → IsDueNoMore spot.page self.old.state self.new.state) }
-        ensures restless { self.new.restless ≡ self.old.restless }
         ensures refused { OnErr result (Comes self.old self.new (λ s. s)) }
         ensures refused_row { OnErr result (restless_at spot.page self.new.state.rows ≡ true) }
     {
@@ -94,7 +92,6 @@ impl State {
             (MayJoin self.old.state best) }
         ensures own { self.new.keeper.table ≡ self.old.keeper.table }
         ensures visited { OnOk result (VisitsPage (view_of self.old) (view_of self.new) spot.page) }
-        ensures restless { self.new.restless ≡ self.old.restless }
         ensures refused { OnErr result (self.new ≡ self.old) }
     {
         let frame = self.pages.dup_frame(best.place);
@@ -110,7 +107,6 @@ impl State {
         requires row { MatchOption (row_at spot.page self.old.state.rows) (true ≡ false) (IsForZero self.old.state) }
         ensures own { self.new.keeper.table ≡ self.old.keeper.table }
         ensures visited { VisitsPage (view_of self.old) (view_of self.new) spot.page }
-        ensures restless { self.new.restless ≡ self.old.restless }
     {
         let lone = self.pages.become_zero(spot);
         release_if(&mut self.keeper, table, lone);
@@ -128,7 +124,6 @@ impl State {
             (MeetsPage self.old.state other) }
         ensures own { self.new.keeper.table ≡ self.old.keeper.table }
         ensures visited { OnOk result (VisitsPage (view_of self.old) (view_of self.new) spot.page) }
-        ensures restless { self.new.restless ≡ self.old.restless }
         ensures refused { OnErr result (self.new ≡ self.old) }
     {
         let Some(held) = self.pages.held(other) else {

@@ -35,7 +35,6 @@ module _ (s : Inside) (are : AreLawful s) {p : PagesValue} (seen_as : view_of s 
       → Comes s rows s.dups (record (seen p) {
         rows = with_row h.row p.rows;
         frame = lies_on h.row.page (seat (of_dup s) (Some h)) (frame_of p.lodgings);
-        restless = rows.restless;
       })
   entered apart still rows put =
       let lain = ap (λ held. frame_of (lodgings_of (of_dup s) held)) put
@@ -44,8 +43,8 @@ module _ (s : Inside) (are : AreLawful s) {p : PagesValue} (seen_as : view_of s 
 
 -- where a page comes to lie on a frame, that frame may be named as the one on which the page lies now
 pub but_there : {new : PagesView} (old : PagesView) (rows : List Row) (page : GuestPage) (o : Option ℕ)
-    → new ≡ record old { rows = rows; frame = lies_on page o old.frame; restless = new.restless }
-    → (new ≡ record old { rows = rows; frame = new.frame; restless = new.restless }) × (new.frame ≡ lies_on page (new.frame page) old.frame)
+    → new ≡ record old { rows = rows; frame = lies_on page o old.frame }
+    → (new ≡ record old { rows = rows; frame = new.frame }) × (new.frame ≡ lies_on page (new.frame page) old.frame)
 but_there {new} old rows page o is = grind arith
 
 -- ---------------------------------------------------------------- results

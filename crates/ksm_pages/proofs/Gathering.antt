@@ -1,8 +1,10 @@
 -- A walk along the order that lists the pages that a visit may change.
-use Rattle.ksm_pages.proofs.Names.{after_cursor, All, All-map, ap, AreAllListed, AreAscending, AreFiled, AreListed, arith, before_irrefl, Bool, comes_before, Entry, false, filter, find, find_all}
-use Rattle.ksm_pages.proofs.Names.{find_none, find_passes, get, GuestPage, has_item, Held, held_in, held_of, inl, inr, is_of, is_restless, is_some, IsAddedTo, IsUnder, length, List, Listing, Named}
-use Rattle.ksm_pages.proofs.Names.{named_of, None, not, one_before, Option, option_map, rows_of, rules, same_page_eq, same_page_refl, same_Some, shared_state, Slab, Some, sym, true, ℕ, [], ◌<◌, ◌∙◌}
-use Rattle.ksm_pages.proofs.Names.{◌∷◌, ◌≡◌, ◌≤◌, ◌⊎◌}
+use Rattle.ksm_pages.proofs.Names.{after_cursor, All, All-map, ap, AreAscending, AreFiled, AreListed, arith, before_irrefl, Bool, cases_Bool, comes_before, Entry, false, filter, find, find_all}
+use Rattle.ksm_pages.proofs.Names.{find_none, find_passes, get, GuestPage, has_item, Held, held_in, held_of, IfSome, inl, InPageOrder, inr, is_of, is_restless, is_some, IsAddedTo, IsUnder, length}
+use Rattle.ksm_pages.proofs.Names.{List, Listing, Named, named_of, None, not, one_before, Option, option_map, Row, rows_of, rules, same_page, same_page_eq, same_page_refl, same_Some, shared_state}
+use Rattle.ksm_pages.proofs.Names.{Slab, Some, Spot, subst, suc, sym, true, true≢false, ℕ, [], ◌<◌, ◌∙◌, ◌∷◌, ◌≡◌, ◌≤◌, ◌⊎◌}
+use Rattle.std.specs.Prelude.{IfNone}
+use Rattle.ksm_pages.specs.Ahead.{FindsNext}
 use Rattle.ksm_pages.specs.Paged.{is_restless as may_change}
 use Rattle.ksm_pages.proofs.Found.{first_found}
 use Rattle.ksm_pages.proofs.Filing.{all_stand, named_under, one_key, under_named}
@@ -11,6 +13,14 @@ use Rattle.ksm_pages.proofs.Listings.{with_has}
 -- a visit may change a row exactly where it may change its entry
 pub restless_as : (pass : ℕ) (e : Entry) → may_change (held_of pass e).row ≡ is_restless e
 restless_as pass e = grind arith
+
+-- what holds of all pages of a list holds of one that it has
+all_listed : (P : GuestPage → Type 0) (pages : List GuestPage) → All P pages → (page : GuestPage) → has_item page pages ≡ true → P page
+all_listed P [] all page has = absurd (true≢false (sym has))
+all_listed P (p ∷ pages) all page has = elim (cases_Bool (same_page p page)) [
+  | inl same ↦ subst P (same_page_eq p page same) (all 0 p (omega arith))
+  | inr other ↦ all_listed P pages (λ k d lt. all (suc k) d (omega arith)) page (grind arith)
+]
 
 -- of the pages up to a cursor those that a visit may change are listed
 abbrev pub AreListedUpTo : Slab Entry → Option GuestPage → Listing → Type 0
@@ -73,13 +83,38 @@ module _ (slab : Slab Entry) (order : List Named) (rise : AreAscending order) (f
       let u = under_named slab _ (all_stand slab _ rise filed k d lt) in
       rw u.stands (each _ u.entry u.stands))
 
-  -- where the pages of all entries that a visit may change are listed, so are the pages of all such rows
-  pub rows_listed : (pass : ℕ) (pages : List GuestPage) → AreListed slab pages → AreAllListed (rows_of (held_in pass slab order)) pages
-  rows_listed pass pages listed =
-      All-map (λ r. may_change r ≡ true → has_item r.page pages ≡ true) _ _
-      (rows_all pass (λ h. may_change h.row ≡ true → has_item h.row.page pages ≡ true)
-      (λ k e stands may. listed k e stands (grind (arith, restless_as pass e))))
+  -- what holds of the row of each entry that a visit may change holds of all such rows
+  rows_such : (pass : ℕ) (P : Row → Type 0) → ((key : ℕ) (e : Entry) → get slab key ≡ Some e → is_restless e ≡ true → P (held_of pass e).row)
+      → All (λ r. may_change r ≡ true → P r) (rows_of (held_in pass slab order))
+  rows_such pass P each =
+      All-map (λ r. may_change r ≡ true → P r) _ _ (rows_all pass (λ h. may_change h.row ≡ true → P h.row)
+      (λ k e stands may. each k e stands (grind (arith, restless_as pass e))))
+
+  -- where the pages of all entries that a visit may change are listed, the next one listed is found as the next row
+  pub listed_next : (pass : ℕ) (pages : List GuestPage) (cursor : Option GuestPage) → AreListed slab pages → (o : Option Spot)
+      → IfNone o (All (λ p. after_cursor cursor p ≡ false) pages)
+      → IfSome o (λ s. (after_cursor cursor s.page ≡ true)
+      × All (λ p. after_cursor cursor p ≡ true → comes_before p s.page ≡ false) pages)
+      → FindsNext cursor (rows_of (held_in pass slab order)) (option_map (λ s. s.page) o)
+  listed_next pass pages cursor listed None none some =
+      rows_such pass (λ r. after_cursor cursor r.page ≡ false) (λ k e stands may.
+      all_listed (λ p. after_cursor cursor p ≡ false) pages none e.page (listed k e stands may))
+  listed_next pass pages cursor listed (Some s) none some = (
+    some.0,
+    rows_such pass (λ r. after_cursor cursor r.page ≡ true → comes_before r.page s.page ≡ false)
+        (λ k e stands may.
+        all_listed (λ p. after_cursor cursor p ≡ true → comes_before p s.page ≡ false) pages some.1 e.page
+        (listed k e stands may)),
+  )
 
   -- a row has a frame of its own exactly where it is not shared
   pub rows_framed : (pass : ℕ) → All (λ h. is_some h.frame ≡ not (shared_state h.row.state)) (held_in pass slab order)
   rows_framed pass = rows_all pass (λ h. is_some h.frame ≡ not (shared_state h.row.state)) (λ k e stands. grind arith)
+
+-- the first row behind a cursor, of rows in order, is found as the next one
+pub found_next : (cursor : Option GuestPage) (rows : List Row) → InPageOrder rows → (o : Option Row) → find (λ r. after_cursor cursor r.page) rows ≡ o
+    → FindsNext cursor rows (option_map (λ r. r.page) o)
+found_next cursor rows rise None is = λ k d lt may. find_none _ rows is k d lt
+found_next cursor rows rise (Some r) is =
+    let first = first_found (λ (r : Row). r.page) (λ r. after_cursor cursor r.page) rows r rise is in
+    (find_passes _ rows r is, λ k d lt may. first k d lt)

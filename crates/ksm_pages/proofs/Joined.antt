@@ -70,7 +70,6 @@ module _ (s : Inside) (are : AreLawful s) (page : GuestPage) {h : Held} (found :
   pub joins : Comes s rows later (record (seen p) {
     rows = change_row page (λ r. record r { state = Merged number }) p.rows;
     frame = lies_on page (of_dup s number) (frame_of p.lodgings);
-    restless = rows.restless;
   })
   joins =
       let at = of_page s are _ found in

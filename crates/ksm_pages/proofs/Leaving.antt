@@ -19,7 +19,6 @@ view_of s = record {
   dups = dup_rows s.dups.dups;
   knobs = s.knobs;
   next = s.dups.next;
-  restless = s.rows.restless;
 }
 
 -- the pages inside are lawful
@@ -38,14 +37,14 @@ pub comes : (s : Inside) → AreLawful s → (rows : RowsView) {now : List Row} 
     → later ≡ record s.dups { dups = ds; waiting = later.waiting } → dup_rows ds ≡ dup_rows s.dups.dups
     → InPageOrder now → AreTied now ds
     → AreWaiting s.knobs now later.waiting → {lay : Frames} → frame_of (lodgings_of (of_dup s) rows.held) ≡ lay
-    → Comes s rows later (record (seen (view_of s)) { rows = now; frame = lay; restless = rows.restless })
+    → Comes s rows later (record (seen (view_of s)) { rows = now; frame = lay })
 comes s are rows {now} is {ds} {later} rest alike order tied waits lain = record {
   lawful = grind arith;
   told_as =
       let same : dup_rows later.dups ≡ dup_rows s.dups.dups = (λ i. dup_rows (rest i).dups) ∙ alike in
       let lies_so = ap (λ rs. frame_of (lodgings_of (lodging rs s.frames.items) rows.held)) same ∙ lain in
       λ i. record (seen (view_of s))
-      { rows = is i; frame = lies_so i; dups = same i; next = (rest i).next; restless = rows.restless };
+      { rows = is i; frame = lies_so i; dups = same i; next = (rest i).next };
 }
 
 -- a page that comes to lie where it lay does not move
@@ -105,7 +104,7 @@ module _ (s : Inside) (are : AreLawful s) (page : GuestPage) {h : Held} (found :
         → AreTied (change_row page (λ _. to old) (rows_of s.rows.held)) ds
         → AreWaiting s.knobs (change_row page (λ _. to old) (rows_of s.rows.held)) later.waiting → {frame : Option ℕ}
         → seat (of_dup s) (Some (f h)) ≡ frame
-        → Comes s rows later (record (seen p) { rows = change_row page to p.rows; frame = lies_on page frame (frame_of p.lodgings); restless = rows.restless })
+        → Comes s rows later (record (seen p) { rows = change_row page to p.rows; frame = lies_on page frame (frame_of p.lodgings) })
     turned_so f g is same turned rest alike to agree tied waits lodged =
         let before = rows_of s.rows.held in
         let by_g = ap rows_of turned ∙ rows_changed _ f g _ is in
@@ -119,8 +118,8 @@ module _ (s : Inside) (are : AreLawful s) (page : GuestPage) {h : Held} (found :
 
 -- a page that comes to lie where it lay does not move
 pub stays_there : {s : Inside} {rows : RowsView} {later : DupsState} (p : PagesValue) (page : GuestPage) {now : List Row}
-    → Comes s rows later (record (seen p) { rows = now; frame = lies_on page (frame_of p.lodgings page) (frame_of p.lodgings); restless = rows.restless })
-    → Comes s rows later (record (seen p) { rows = now; restless = rows.restless })
+    → Comes s rows later (record (seen p) { rows = now; frame = lies_on page (frame_of p.lodgings page) (frame_of p.lodgings) })
+    → Comes s rows later (record (seen p) { rows = now })
 stays_there {s} {rows} {later} p page {now} =
-    subst (λ lay. Comes s rows later (record (seen p) { rows = now; frame = lay; restless = rows.restless }))
+    subst (λ lay. Comes s rows later (record (seen p) { rows = now; frame = lay }))
     (lies_same page)

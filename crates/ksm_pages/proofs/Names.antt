@@ -24,7 +24,7 @@ pub use Rattle.ksm_pages.specs.Held.{AreInOrder, change_held, forgotten, Held, h
 pub use Rattle.ksm_pages.specs.Held.{RowsView, state_of, with_held, without_held}
 pub use Rattle.ksm_pages.specs.Left.{IsLeft}
 pub use Rattle.ksm_pages.specs.Ordered.{AreAscending, is_of, key_of, marked, named_by, page_of, visited, with_named, without_named}
-pub use Rattle.ksm_pages.specs.Paged.{AreAllListed, AreKept, elsewhere, Finds, FindsAt, frame_of, frame_seen, Frames, HasRoom, is_item, is_next, IsAlone, IsHeld, IsKnown, IsVacant, items_on, lies_on}
+pub use Rattle.ksm_pages.specs.Paged.{AreKept, elsewhere, Finds, FindsAt, frame_of, frame_seen, Frames, HasRoom, is_item, is_next, IsAlone, IsHeld, IsKnown, IsVacant, items_on, lies_on}
 pub use Rattle.ksm_pages.specs.Paged.{lodging, lodgings_of, MayPair, of_guest, page_beside, PagesValue, PagesView, paired, seen}
 pub use Rattle.ksm_pages.specs.declared.named.Named.{Named}
 pub use Rattle.ksm_pages.specs.declared.pages.Find.{Find}

@@ -283,8 +283,7 @@ module _ {s : Inside} {p : PagesValue} {place : ℕ} {first second : GuestPage} 
         ∙ both_changed _ _ _ (λ r. refl) may.apart _ in
         let dups = now_rows ∙ ap (λ t. with_dup (record dup { tree = t }) (dup_rows s.dups.dups)) (in_tree b.row refl) in
         let next = (λ i. (out_too i).next) ∙ (λ i. (out i).next) ∙ (λ i. (is_made i).next) in
-        let listed = ap (λ (r : RowsView). r.restless) turned in
-        λ i. record (seen (view_of s)) { rows = changed i; frame = now_lie i; dups = dups i; next = next i; restless = listed i }
+        λ i. record (seen (view_of s)) { rows = changed i; frame = now_lie i; dups = dups i; next = next i }
 
     -- once two pages became the items of a new dup, the pages are seen as paired on the first one's frame
     pub told_paired : let now = seen (view_of (record s { rows = rows; dups = later; frames = with_frame s.frames place frame })) in

@@ -1,8 +1,9 @@
 -- Spots in the order of their pages: the pages of them, once one was put in, written or taken away.
-use Rattle.ksm_pages.proofs.Names.{add-one, ap, append-nil, append_assoc, ap₂, AreInOrder, arith, Bool, comes_before, drop, drop_all, Entry, false, filter, find, find_filter, find_passes, get, get_or}
-use Rattle.ksm_pages.proofs.Names.{get_or_default, GuestPage, has_item, if◌then◌else◌, insert, is_some, is_useless, IsInVain, length, length-append, length-map, length-take-le, List, Listing, map}
-use Rattle.ksm_pages.proofs.Names.{Named, None, not, not-true, Option, pages_of, pages_ordered, point_is_count, refl, rules, same_page, same_page_eq, set, Slab, Some, Spot, sym, take, true}
-use Rattle.ksm_pages.proofs.Names.{true≢false, ℕ, [], ◌++◌, ◌+◌, ◌-◌, ◌<◌, ◌∙◌, ◌∷◌, ◌≡◌, ◌≤◌, ◌⊎◌}
+use Rattle.ksm_pages.proofs.Names.{add-one, after_cursor, All, All-map, ap, append-nil, append_assoc, ap₂, AreInOrder, arith, Bool, comes_before, drop, drop_all, Entry, false, filter, filter_none}
+use Rattle.ksm_pages.proofs.Names.{find, find_filter, find_none, find_passes, get, get_or, get_or_default, GuestPage, has_item, IfSome, if◌then◌else◌, insert, is_some, is_useless, IsInVain}
+use Rattle.ksm_pages.proofs.Names.{IsPartitionedBy, length, length-append, length-map, length-take-le, List, Listing, map, Named, None, not, not-true, Option, pages_of, pages_ordered, pairs_head}
+use Rattle.ksm_pages.proofs.Names.{pairs_tail, point_is_count, refl, rules, same_page, same_page_eq, set, Slab, slice_get, Some, Spot, sym, take, true, true≢false, ℕ, [], ◌++◌, ◌+◌, ◌-◌, ◌<◌}
+use Rattle.ksm_pages.proofs.Names.{◌∙◌, ◌∷◌, ◌≡◌, ◌≤◌, ◌⊎◌}
 use Rattle.std.specs.List.{copy_within}
 use Rattle.std.specs.Option.{is_none}
 use Rattle.std.proofs.Math.Seq.{take-append_seam, take-suc}
@@ -10,6 +11,8 @@ use Rattle.std.proofs.lemmas.Bool.{false_from_ne_true}
 use Rattle.std.proofs.lemmas.List.{drop-take, set_at, take-append-le}
 use Rattle.ksm_rmap.specs.Items.{AreAscending}
 use Rattle.ksm_tree.proofs.Alike.{filter_mapped, find_mapped, map_mapped, pairs_mapped}
+use Rattle.ksm_pages.proofs.Found.{first_found}
+use Rattle.std.specs.Prelude.{IfNone}
 use Rattle.ksm_rmap.proofs.Ordered.{any_found, parted, with_rises}
 use Rattle.ksm_pages.proofs.Options.{some_mapped}
 
@@ -97,3 +100,48 @@ place_between page spots rise {at} d e some within low high =
     (λ k x from lt. split k (at - 1) x (omega arith) (omega arith) (rw (get_or_default spots (at - 1) x d (omega arith)) low))
     (λ k x from lt. false_from_ne_true _ (λ is.
     absurd (true≢false (sym (split at k x from lt is) ∙ ap before (get_or_default _ _ x e within) ∙ high))))
+
+-- spots in order, and a cursor that some of them do not come behind
+module _ (cursor : Option GuestPage) where
+  abbrev pub passed : Spot → Bool
+  passed s = not (after_cursor cursor s.page)
+
+  -- the first spot behind the cursor stands behind so many
+  pub first_behind : (spots : List Spot) → AreInOrder spots
+      → slice_get spots (length (filter passed spots)) ≡ find (λ s. after_cursor cursor s.page) spots
+  first_behind [] rise = refl
+  first_behind (s ∷ spots) rise = grind (arith, first_behind spots (pairs_tail Before s spots rise), filter_none, none_passed)
+    where
+      Before : Spot → Spot → Type 0
+      Before s t = comes_before s.page t.page ≡ true
+
+      none_passed : after_cursor cursor s.page ≡ true → All (λ t. passed t ≡ false) spots
+      none_passed here k d lt = grind (arith, pairs_head Before s spots rise k d lt)
+
+  -- where that spot is told, no page of the spots behind the cursor comes before its page; where none is, there is none
+  pub told_behind : (spots : List Spot) → AreInOrder spots → (o : Option Spot) → o ≡ slice_get spots (length (filter passed spots))
+      → IfNone o (All (λ p. after_cursor cursor p ≡ false) (pages_of spots))
+      × IfSome o (λ s. (after_cursor cursor s.page ≡ true)
+      × All (λ p. after_cursor cursor p ≡ true → comes_before p s.page ≡ false) (pages_of spots))
+  told_behind spots rise None is = (
+    All-map (λ p. after_cursor cursor p ≡ false) page_of spots
+        (find_none (λ s. after_cursor cursor s.page) spots (sym (is ∙ first_behind spots rise))),
+    tt,
+  )
+  told_behind spots rise (Some s) is =
+      let found = sym (is ∙ first_behind spots rise) in (
+        tt,
+        (
+          find_passes _ spots s found,
+          All-map (λ p. after_cursor cursor p ≡ true → comes_before p s.page ≡ false) page_of spots
+              (first_found page_of (λ s. after_cursor cursor s.page) spots s rise found),
+        ),
+      )
+
+-- where the page before an index of spots in order is that of the cursor, so many do not come behind it as stand before the index
+pub place_at : (page : GuestPage) (spots : List Spot) → AreInOrder spots → {at : ℕ} (d : Spot) → 0 < at → at ≤ length spots
+    → same_page (get_or spots (at - 1) d).page page ≡ true
+    → at ≡ length (filter (λ s. not (comes_before page s.page)) spots)
+place_at page spots rise {at} d some within here = point_is_count _ _ at within
+    (λ k x from lt. grind (arith, rise k (at - 1) x, get_or_default spots (at - 1) x d, same_page_eq))
+    (λ k x from lt. grind (arith, rise (at - 1) k x, get_or_default spots (at - 1) x d, same_page_eq))

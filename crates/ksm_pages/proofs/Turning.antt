@@ -67,7 +67,7 @@ module _ {s : Inside} {p : PagesValue} {page : GuestPage} {later : DupsState} {f
           → merged_state (to it.held.row).state ≡ false
           → waiting_state (to it.held.row).state ≡ false → {frame : Option ℕ}
           → seat (of_dup s) (Some (f it.held)) ≡ frame
-          → Comes s rows later (record (seen p) { rows = change_row page to p.rows; frame = lies_on page frame (frame_of p.lodgings); restless = rows.restless })
+          → Comes s rows later (record (seen p) { rows = change_row page to p.rows; frame = lies_on page frame (frame_of p.lodgings) })
       left_so f g is same turned to agree apart still =
           turned_so s it.lawful page it.found it.seen_as rows f g is same turned out (rows_out _ _ _) to agree
           (tied_left _ _ _ it.lawful.order there _ _ apart it.lawful.tied)
@@ -80,7 +80,6 @@ module _ {s : Inside} {p : PagesValue} {page : GuestPage} {later : DupsState} {f
           → Comes s rows later (record (seen p) {
             rows = change_row page (λ r. record r { state = state }) p.rows;
             frame = lies_on page (frame_seen (of_dup s) state own) (frame_of p.lodgings);
-            restless = rows.restless;
           })
       moved state own apart still turned =
           left_so (mapped state own) (λ r. record r { state = state }) (λ x. refl) (λ r. refl) turned _ refl apart
@@ -90,7 +89,7 @@ module _ {s : Inside} {p : PagesValue} {page : GuestPage} {later : DupsState} {f
       pub rested : (g to : Row → Row) → ((r : Row) → (g r).page ≡ r.page) → ((r : Row) → (to r).state ≡ Private) → IsAlone page p.rows
           → (shared_state it.held.row.state ≡ false → g it.held.row ≡ to it.held.row)
           → rows.held ≡ change_held page (on_row g) s.rows.held
-          → Comes s rows later (record (seen p) { rows = change_row page to p.rows; restless = rows.restless })
+          → Comes s rows later (record (seen p) { rows = change_row page to p.rows })
       rested g to same rest alone_seen agree turned =
           let alone = alone_found s it.seen_as _ it.found alone_seen in
           let private = rest it.held.row in
@@ -104,7 +103,6 @@ module _ {s : Inside} {p : PagesValue} {page : GuestPage} {later : DupsState} {f
           → Comes s rows later (record (seen p) {
             rows = without_page page p.rows;
             frame = lies_on page None (frame_of p.lodgings);
-            restless = rows.restless;
           })
       parted gone =
           rw (← it.seen_as)
@@ -125,7 +123,7 @@ module _ (s : Inside) (are : AreLawful s) {p : PagesValue} (seen_as : view_of s 
       → (rows : RowsView) → rows.held ≡ map (on_row f) s.rows.held → (later : DupsState)
       → later ≡ record s.dups { waiting = later.waiting }
       → AreWaiting s.knobs (map f before) later.waiting
-      → Comes s rows later (record (seen p) { rows = map f p.rows; restless = rows.restless })
+      → Comes s rows later (record (seen p) { rows = map f p.rows })
   still f pages like rows turned later rest waits =
       rw (← seen_as)
       (comes s are rows (ap rows_of turned ∙ rows_mapped f s.rows.held) rest refl (ordered_map f _ pages are.order)
@@ -135,7 +133,7 @@ module _ (s : Inside) (are : AreLawful s) {p : PagesValue} (seen_as : view_of s 
   -- where every row is settled by a change and no page waits any more, all rows are seen changed so
   pub rest_all : (f : Row → Row) → ((r : Row) → (f r).page ≡ r.page) → ((r : Row) → (f r).state ≡ settled_state r.state) → (rows : RowsView)
       → rows.held ≡ map (on_row f) s.rows.held → {later : DupsState} → later ≡ record s.dups { waiting = [] }
-      → Comes s rows later (record (seen p) { rows = map f p.rows; restless = rows.restless })
+      → Comes s rows later (record (seen p) { rows = map f p.rows })
   rest_all f pages states rows turned cleared =
       still f pages (λ r. grind (arith, states r, settled_again)) _ turned _ (grind arith)
       (rw cleared (none_waiting s.knobs _ (All-map (λ r. waiting_state r.state ≡ false) f _
@@ -146,7 +144,7 @@ module _ (s : Inside) (are : AreLawful s) {p : PagesValue} (seen_as : view_of s 
       → ((r : Row) → row_at page p.rows ≡ Some r → (t : ℕ) (b : List ℕ)
       → waits_there s.knobs t b (Some (g r)) ≡ waits_there s.knobs t b (Some r))
       → (rows : RowsView) → rows.held ≡ change_held page (on_row g) s.rows.held
-      → Comes s rows s.dups (record (seen p) { rows = change_row page g p.rows; restless = rows.restless })
+      → Comes s rows s.dups (record (seen p) { rows = change_row page g p.rows })
   stays page g same states alike rows turned =
       still f (λ r. grind (arith, same r)) (λ r. grind (arith, states r)) rows
       (grind (arith, map_alike)) _ refl waiting

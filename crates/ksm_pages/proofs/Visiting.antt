@@ -158,7 +158,7 @@ module _ {s : Inside} {p : PagesValue} {page : GuestPage} {e : Entry} {group : �
           to r = record r { state = Waiting }
 
           -- the pages are lawful once the row waits, and are seen so
-          pub waits_then : Comes s rows later (record (seen p) { rows = change_row page to p.rows; restless = rows.restless })
+          pub waits_then : Comes s rows later (record (seen p) { rows = change_row page to p.rows })
           waits_then =
               let lay = lies s it.lawful page it.found it.seen_as in
               let here = ap (λ q. row_at q before) at_row ∙ there in

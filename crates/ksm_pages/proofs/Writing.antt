@@ -15,13 +15,13 @@ use Rattle.ksm_rmap.proofs.Ordered.{absent_kept, with_rises, without_rises}
 use Rattle.ksm_pages.proofs.Listings.{with_has}
 use Rattle.ksm_pages.proofs.Tallying.{can_move, tally_changed, tally_gone, tally_put}
 
--- what is seen of entries in an order, with a list, in a pass
-abbrev pub view : ℕ → Slab Entry → List Named → Listing → RowsView
-view pass entries order restless = record { held = held_in pass entries order; restless = restless; pass = pass }
+-- what is seen of entries in an order, in a pass
+abbrev pub view : ℕ → Slab Entry → List Named → RowsView
+view pass entries order = record { held = held_in pass entries order; pass = pass }
 
 -- what is seen of the rows inside
 abbrev pub view_of : Inside → RowsView
-view_of s = view s.pass s.entries s.order s.restless
+view_of s = view s.pass s.entries s.order
 
 -- the rows inside are lawful
 abbrev pub AreRows : Inside → Type 0
@@ -152,24 +152,15 @@ module _ (s : Inside) (are : AreRows s) where
           counting = are.counting;
         }
 
-      -- with an entry written anew whose row is changed by f, the rows are seen with f at that page, and the new list
-      pub viewed : (f : Held → Held) → held_of s.pass e' ≡ f (held_of s.pass e) → (now : Listing) {v : RowsView} → view_of s ≡ v
-          → view s.pass later s.order now ≡ record v { held = change_held page f v.held; restless = now }
-      viewed f is now seen_as = grind (arith, held_later)
-
       -- with an entry written anew whose row is changed by f, the rows are seen with f at that page
-      pub viewed_same : (f : Held → Held) → held_of s.pass e' ≡ f (held_of s.pass e) → {now : Listing} → now ≡ s.restless → {v : RowsView}
-          → view_of s ≡ v
-          → view s.pass later s.order now ≡ record v { held = change_held page f v.held }
-      viewed_same f is same_list {v} seen_as =
-          viewed f is _ seen_as
-          ∙ ap (λ l. record v { held = change_held page f v.held; restless = l }) (grind arith)
+      pub viewed : (f : Held → Held) → held_of s.pass e' ≡ f (held_of s.pass e) → {v : RowsView} → view_of s ≡ v
+          → view s.pass later s.order ≡ record v { held = change_held page f v.held }
+      viewed f is seen_as = grind (arith, held_later)
 
-      -- with an entry written anew and its page marked, the rows are seen with f at that page, and the new list
-      pub viewed_marked : (f : Held → Held) → held_of s.pass e' ≡ f (held_of s.pass e) → (m : Bool) (now : Listing) {v : RowsView}
-          → view_of s ≡ v
-          → view s.pass later (marked page m s.order) now ≡ record v { held = change_held page f v.held; restless = now }
-      viewed_marked f is m now seen_as = search (rules, marked_same, viewed)
+      -- with an entry written anew and its page marked, the rows are seen with f at that page
+      pub viewed_marked : (f : Held → Held) → held_of s.pass e' ≡ f (held_of s.pass e) → (m : Bool) {v : RowsView} → view_of s ≡ v
+          → view s.pass later (marked page m s.order) ≡ record v { held = change_held page f v.held }
+      viewed_marked f is m seen_as = search (rules, marked_same, viewed)
 
     -- ---------------------------------------------------------------- the entry changed, and then forgot its pass
 
@@ -184,8 +175,8 @@ module _ (s : Inside) (are : AreRows s) where
     -- the row of an entry that is changed, and then forgets its pass, is seen changed and settled
     pub viewed_forgotten : (e' : Entry) {now : Entry} → now ≡ forgotten e' → e'.page ≡ e.page → (f : Row → Row)
         → on_row settled (held_of s.pass e') ≡ on_row f (held_of s.pass e) → {v : RowsView} → view_of s ≡ v
-        → view s.pass (with_value s.entries key now) s.order s.restless ≡ record v { held = change_held page (on_row f) v.held }
-    viewed_forgotten e' is same f told seen_as = grind (arith, viewed_same)
+        → view s.pass (with_value s.entries key now) s.order ≡ record v { held = change_held page (on_row f) v.held }
+    viewed_forgotten e' is same f told seen_as = grind (arith, viewed)
 
     -- ---------------------------------------------------------------- the entry went
 
@@ -211,7 +202,7 @@ module _ (s : Inside) (are : AreRows s) where
 
       -- once the entry of a page is gone with the page's name, the rows are seen without that page
       pub viewed_gone : {v : RowsView} → view_of s ≡ v
-          → view s.pass later (without_named page s.order) s.restless ≡ record v { held = without_held page v.held }
+          → view s.pass later (without_named page s.order) ≡ record v { held = without_held page v.held }
       viewed_gone seen_as = grind (arith, held_gone)
 
 -- where a page has no row, the rows without that page are seen as before
@@ -260,9 +251,9 @@ module _ (s : Inside) (are : AreRows s) {v : RowsView} (seen_as : view_of s ≡ 
     counting = are.counting;
   }
 
-  -- once an entry came under a vacant key with a name, the rows are seen with its row, and the new list
-  pub viewed_put : (now : Listing) → view s.pass later (with_named (named_of key e) s.order) now ≡ record v { held = with_held (held_of s.pass e) v.held; restless = now }
-  viewed_put now = grind (arith, held_put)
+  -- once an entry came under a vacant key with a name, the rows are seen with its row
+  pub viewed_put : view s.pass later (with_named (named_of key e) s.order) ≡ record v { held = with_held (held_of s.pass e) v.held }
+  viewed_put = grind (arith, held_put)
 
 -- rows are lawful under a list that lost only pages that were there in vain
 pub swept_rows : (s : Inside) → AreRows s → {now : Listing} → now.known ≡ s.restless.known

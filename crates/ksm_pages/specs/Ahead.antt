@@ -1,9 +1,11 @@
--- Which pages scans visit, which of them are ahead, and where so many visits end. (own)
-use Rattle.std.specs.Prelude.{◌≡◌, ℕ, ◌-◌, ◌<◌, ◌≤◌, List, [], ◌∷◌, filter, length, map, slice_get, Option, Some}
+-- Which pages scans visit, which of them are ahead, which is the next that a visit may change, and where so many visits
+-- end. (own)
+use Rattle.std.specs.Prelude.{◌≡◌, ℕ, ◌-◌, ◌<◌, ◌≤◌, true, false, All, List, [], ◌∷◌, filter, length, map, slice_get, Option, None, Some}
 use Rattle.ksm_base.specs.declared.page.GuestPage.{GuestPage}
 use Rattle.ksm_base.specs.declared.row.Row.{Row}
 use Rattle.ksm_base.specs.Rows.{comes_before}
 use Rattle.ksm_base.specs.Visit.{after_cursor}
+use Rattle.ksm_pages.specs.Paged.{is_restless}
 use Rattle.ksm_pages.specs.declared.ahead.Ahead.{Ahead}
 use Rattle.ksm_pages.specs.declared.ahead.Ahead.TheVariants.{At, End}
 
@@ -18,6 +20,14 @@ pages_behind cursor pages = filter (after_cursor cursor) pages
 -- those that come behind a cursor and before a page
 abbrev pub pages_between : Option GuestPage → GuestPage → List GuestPage → List GuestPage
 pages_between cursor page pages = filter (λ p. comes_before p page) (pages_behind cursor pages)
+
+-- a search behind a cursor for a page that a visit may change: the page found is behind the cursor, and a visit changes no
+-- page between the two; where none is found, a visit changes no page behind the cursor
+abbrev pub FindsNext : Option GuestPage → List Row → Option GuestPage → Type 0
+FindsNext cursor rows None = All (λ r. is_restless r ≡ true → after_cursor cursor r.page ≡ false) rows
+FindsNext cursor rows (Some page) =
+    (after_cursor cursor page ≡ true)
+    × All (λ r. is_restless r ≡ true → after_cursor cursor r.page ≡ true → comes_before r.page page ≡ false) rows
 
 -- the last of some pages, or where there are none the cursor before them
 abbrev pub last_of : Option GuestPage → List GuestPage → Option GuestPage

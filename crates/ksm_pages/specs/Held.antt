@@ -33,10 +33,9 @@ pages_of spots = map (λ s. s.page) spots
 abbrev pub IsAddedTo : GuestPage → Listing → Listing → Type 0
 IsAddedTo page old new = (new ≡ record old { pages = with_item page old.pages }) ⊎ (new ≡ record old { known = false })
 
--- what is seen of the rows: each with its frame, the pages that a visit may change, and the number of the pass
+-- what is seen of the rows: each with its frame, and the number of the pass
 pub record RowsView : Type 0 where
   pub held : List Held
-  pub restless : Listing
   pub pass : ℕ
 
 -- ---------------------------------------------------------------- entries

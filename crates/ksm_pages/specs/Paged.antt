@@ -18,9 +18,8 @@ use Rattle.ksm_base.specs.Refusals.{is_of}
 use Rattle.ksm_pages.specs.declared.pages.Find.{Find}
 use Rattle.ksm_pages.specs.declared.pages.Find.TheVariants as finds
 use Rattle.ksm_pages.specs.declared.pages.Held.{Held}
-use Rattle.ksm_pages.specs.Held.{Held as HeldRow, Listing}
+use Rattle.ksm_pages.specs.Held.{Held as HeldRow}
 use Rattle.ksm_base.specs.declared.row.PageState.{PageState}
-use Rattle.ksm_rmap.specs.Items.{has_item}
 use Rattle.ksm_tree.specs.Bridge.{AreTied}
 use Rattle.ksm_tree.specs.Dups.{DupsState}
 use Rattle.ksm_tree.specs.Waits.{AreWaiting}
@@ -63,10 +62,8 @@ pub record PagesValue : Type 0 where
   pub dups : List DupRow
   pub knobs : Knobs
   pub next : ℕ
-  pub restless : Listing
 
--- what is seen of the pages: the rows, where each page lies, the dups, the knobs, the number of the next dup, and the
--- list of the rows that a visit may change
+-- what is seen of the pages: the rows, where each page lies, the dups, the knobs, and the number of the next dup
 pub record PagesView : Type 0 where
   pub shape : Shape
   pub rows : List Row
@@ -74,7 +71,6 @@ pub record PagesView : Type 0 where
   pub dups : List DupRow
   pub knobs : Knobs
   pub next : ℕ
-  pub restless : Listing
 
 abbrev pub seen : PagesValue → PagesView
 seen p = record {
@@ -84,7 +80,6 @@ seen p = record {
   dups = p.dups;
   knobs = p.knobs;
   next = p.next;
-  restless = p.restless;
 }
 
 -- a page has a row
@@ -173,10 +168,6 @@ paired place first second p =
 -- a visit may change the row
 abbrev pub is_restless : Row → Bool
 is_restless r = r.mergeable && not (shared_state r.state)
-
--- each row that a visit may change is of one of these pages
-abbrev pub AreAllListed : List Row → List GuestPage → Type 0
-AreAllListed rows pages = All (λ r. is_restless r ≡ true → has_item r.page pages ≡ true) rows
 
 -- the pages once a visit changed the row of a page
 abbrev pub visited : GuestPage → (Row → Row) → PagesView → PagesView

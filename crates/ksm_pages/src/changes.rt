@@ -21,7 +21,6 @@ impl Pages {
         ensures added { OnOk result (seen self.new ≡ record (seen self.old) {
           rows = with_row (fresh_row page node bytes.now) self.old.rows;
           frame = (seen self.new).frame;
-          restless = self.new.restless;
         }) }
         ensures others { OnOk result ((seen self.new).frame
             ≡ lies_on page ((seen self.new).frame page) (seen self.old).frame) }
@@ -41,7 +40,6 @@ impl Pages {
         ensures settled { seen self.new ≡ record (seen self.old) {
           rows = change_row spot.page on_its_own self.old.rows;
           frame = lies_on spot.page (Some frame) (seen self.old).frame;
-          restless = self.new.restless;
         } }
     {
         let left = leave(&mut self.dups, &self.frames, &self.knobs, &self.rows, spot);
@@ -69,7 +67,6 @@ impl Pages {
         requires { IsAlone spot.page self.old.rows }
         ensures { seen self.new ≡ record (seen self.old) {
           rows = change_row spot.page (stored bytes.now) self.old.rows;
-          restless = self.new.restless;
         } }
     {
         // Mostly the row lies where that was guessed, and is Private, so in nothing: then nothing is written between
@@ -89,7 +86,6 @@ impl Pages {
         requires { IsAlone spot.page self.old.rows }
         ensures { seen self.new ≡ record (seen self.old) {
           rows = change_row spot.page (stored bytes.now) self.old.rows;
-          restless = self.new.restless;
         } }
     {
         let Some(entry) = self.rows.find(spot) else {
@@ -106,7 +102,6 @@ impl Pages {
         requires { HasRow spot.page self.old.rows (λ r. private_state r.state ≡ true) }
         ensures { seen self.new ≡ record (seen self.old) {
           rows = change_row spot.page (λ r. record r { home = node }) self.old.rows;
-          restless = self.new.restless;
         } }
     {
         self.rows.set_home(spot, node);
@@ -117,7 +112,6 @@ impl Pages {
         requires { IsKnown spot.page self.old.rows }
         ensures { seen self.new ≡ record (seen self.old) {
           rows = change_row spot.page (λ r. record r { unchanged = false }) self.old.rows;
-          restless = self.new.restless;
         } }
     {
         self.rows.forget_unchanged(spot);
@@ -128,7 +122,6 @@ impl Pages {
         requires { IsKnown spot.page self.old.rows }
         ensures { seen self.new ≡ record (seen self.old) {
           rows = change_row spot.page (λ r. record r { mergeable = true }) self.old.rows;
-          restless = self.new.restless;
         } }
     {
         self.rows.set_mergeable(spot, true);
@@ -139,7 +132,6 @@ impl Pages {
         requires { IsAlone spot.page self.old.rows }
         ensures { seen self.new ≡ record (seen self.old) {
           rows = change_row spot.page as_let_go self.old.rows;
-          restless = self.new.restless;
         } }
     {
         leave(&mut self.dups, &self.frames, &self.knobs, &self.rows, spot);
@@ -170,7 +162,6 @@ impl Pages {
         requires { All (λ r. shared_state r.state ≡ false) self.old.rows }
         ensures { seen self.new ≡ record (seen self.old) {
           rows = map as_unshared self.old.rows;
-          restless = self.new.restless;
         } }
     {
         self.rows.unshare_all();

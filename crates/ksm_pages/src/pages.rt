@@ -10,8 +10,7 @@ ghost use Rattle.ksm_base.specs.declared.fault.Fault.TheVariants.{Memory};
 ghost use Rattle.ksm_base.specs.Rows.{InPageOrder, row_at, waiting_state};
 ghost use Rattle.ksm_base.specs.State.{default_knobs};
 ghost use Rattle.ksm_base.specs.Values.{IsShape};
-ghost use Rattle.ksm_rmap.specs.Items.{AreAscending};
-ghost use Rattle.ksm_pages.specs.Paged.{AreAllListed, nowhere, seen};
+ghost use Rattle.ksm_pages.specs.Paged.{nowhere, seen};
 
 use crate::row::Spot;
 use crate::rows::Rows;
@@ -85,7 +84,6 @@ impl Model for Pages {
       dups = dup_rows p.dups.dups;
       knobs = p.knobs;
       next = p.dups.next;
-      restless = p.rows.restless;
     } };
 
     ghost invariant = { λ p. AreKept p.shape p.knobs (rows_of p.rows.held) p.dups p.frames.items };
@@ -102,7 +100,6 @@ impl Pages {
           dups = [];
           knobs = default_knobs;
           next = 0;
-          restless = record { pages = []; known = true };
         }) }
         ensures fault { IfErr result (λ fault. fault ≡ Memory) }
     {
@@ -120,13 +117,9 @@ impl Pages {
     pub fn lie_in_order(&self)
         ensures rise { InPageOrder self.now.rows }
         ensures absent { (page : GuestPage) → row_at page self.now.rows ≡ None → (seen self.now).frame page ≡ None }
-        ensures listed { self.now.restless.known ≡ true
-            → AreAllListed self.now.rows self.now.restless.pages }
-        ensures ascending { AreAscending self.now.restless.pages }
     {
-        // Called for their contracts alone.
+        // Called for its contract alone.
         self.rows.are_lawful();
-        let _ = self.rows.restless_len();
     }
 
     /// The shape of the table on whose frames the pages lie.

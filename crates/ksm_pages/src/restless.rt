@@ -3,16 +3,17 @@
 //!
 //! Some other pages may be listed too: whoever visits a page looks at its row anyhow. So a page stays listed in vain
 //! once it is merged, its row is gone, or no scan visits it any more, until many may be so. Where memory for a page is
-//! refused, the list is no longer known to have all, and the next scan makes it anew: so no command is refused for it.
-//! So it is where pages that came in another order have moved so many others that a walk over all rows costs no more,
-//! and where more than half of the list is there in vain.
+//! refused, the list is no longer known to have all, and the next scan makes it anew, or goes through all rows where
+//! memory is refused again: so no command is refused for it, and no contract speaks of the list. So it is where pages
+//! that came in another order have moved so many others that a walk over all rows costs no more, and where more than
+//! half of the list is there in vain.
 
-ghost use Rattle.std.specs.Prelude.{◌≡◌, ◌⊎◌, ◌≤◌, [], true, false, filter, find, is_some, length, not, slice_get};
-ghost use Rattle.std.specs.Prelude.{slice_index_or, option_map, IsTrue, OnErr, OnOk, insert, ◌<◌};
+ghost use Rattle.std.specs.Prelude.{◌≡◌, ◌⊎◌, ◌≤◌, [], true, false, filter, find, is_some, length, not, All};
+ghost use Rattle.std.specs.Prelude.{slice_index_or, IfNone, IfSome, IsTrue, OnErr, OnOk, insert, ◌<◌};
 ghost use Rattle.ksm_base.specs.declared.page.GuestPage.{GuestPage};
 ghost use Rattle.ksm_base.specs.Rows.{comes_before, same_page};
 ghost use Rattle.ksm_base.specs.Visit.{after_cursor};
-ghost use Rattle.ksm_rmap.specs.Items.{AreAscending, has_item};
+ghost use Rattle.ksm_rmap.specs.Items.{has_item};
 ghost use Rattle.ksm_pages.specs.Filed.{IsInVain, is_useless as is_of_no_use};
 ghost use Rattle.ksm_pages.specs.Held.{AreInOrder, IsAddedTo};
 ghost use Rattle.slab.specs.Slab.{get};
@@ -48,6 +49,8 @@ pub struct Restless {
     moved: usize,
     /// A guess of the index at which the next page is put: the one behind the last.
     next: usize,
+    /// A guess of the index of the next page that a scan asks for.
+    told: usize,
 }
 
 impl Model for Restless {
@@ -89,6 +92,23 @@ fn place_near(spots: &[Spot], guess: usize, page: GuestPage) -> usize
         return guess;
     }
     place_of(spots, page)
+}
+
+/// How many of the pages do not come behind a cursor: the index of the first that does. The guess is right where the page
+/// before it stands at the cursor.
+#[inline(always)]
+fn place_behind(spots: &[Spot], guess: usize, cursor: Option<GuestPage>) -> usize
+    requires { AreInOrder spots.now }
+    ensures count { result ≡ length (filter (λ s. not (after_cursor cursor s.page)) spots.now) }
+    ensures within { result ≤ length spots.now }
+{
+    let Some(page) = cursor else {
+        return 0;
+    };
+    if 0 < guess && guess <= spots.len() && spots[guess - 1].page == page {
+        return guess;
+    }
+    spots.partition_point(|spot| !page.comes_before(spot.page))
 }
 
 /// Whether the page stands at the index.
@@ -149,6 +169,7 @@ impl Restless {
             useless: 0,
             moved: 0,
             next: 0,
+            told: 0,
         }
     }
 
@@ -170,33 +191,17 @@ impl Restless {
         self.next = 0;
     }
 
-    /// How many pages are listed.
-    pub fn len(&self) -> usize
-        ensures count { result ≡ length self.now.pages }
-        ensures ascending { AreAscending self.now.pages }
-    {
-        self.spots.len()
-    }
-
-    /// The page at an index, with a guess of its key.
+    /// The first listed page behind a cursor. A guess of its index is the one behind the page that was told last.
     #[inline(always)]
-    pub fn get(&self, at: usize) -> Option<Spot>
-        ensures { option_map (λ s. s.page) result ≡ slice_get self.now.pages at }
+    pub fn after(&mut self, cursor: Option<GuestPage>) -> Option<Spot>
+        ensures kept { self.new ≡ self.old }
+        ensures none { IfNone result (All (λ p. after_cursor cursor p ≡ false) self.old.pages) }
+        ensures next { IfSome result (λ spot. (after_cursor cursor spot.page ≡ true)
+            × All (λ p. after_cursor cursor p ≡ true → comes_before p spot.page ≡ false) self.old.pages) }
     {
+        let at = place_behind(self.spots.as_slice(), self.told, cursor);
+        self.told = at + 1;
         self.spots.get(at).copied()
-    }
-
-    /// How many pages come up to a cursor.
-    pub fn up_to(&self, cursor: Option<GuestPage>) -> usize
-        ensures { result ≡ length (filter (λ p. not (after_cursor cursor p)) self.now.pages) }
-    {
-        match cursor {
-            None => 0,
-            Some(page) => self
-                .spots
-                .as_slice()
-                .partition_point(|spot| !page.comes_before(spot.page)),
-        }
     }
 
     /// The page of a spot is listed, where there are so many rows. Where memory for it is refused, or many pages were

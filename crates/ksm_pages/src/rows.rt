@@ -14,13 +14,11 @@ ghost use Rattle.ksm_base.specs.declared.row.PageState.TheVariants.{Private, Wai
 ghost use Rattle.ksm_base.specs.Apply.{fresh_row};
 ghost use Rattle.ksm_base.specs.Rows.{InPageOrder, settled, shared_state};
 ghost use Rattle.ksm_base.specs.Visit.{after_cursor};
-ghost use Rattle.ksm_rmap.specs.Items.{AreAscending as AreRising};
-ghost use Rattle.ksm_pages.specs.Ahead.{EndsAt, last_of, mergeable_pages, pages_behind, pages_between};
+ghost use Rattle.ksm_pages.specs.Ahead.{EndsAt, FindsNext, last_of, mergeable_pages, pages_behind, pages_between};
 ghost use Rattle.ksm_pages.specs.Filed.{AreFiled, AreListed, IsTally, IsUnder, key_in};
 ghost use Rattle.ksm_pages.specs.Held.{change_held, held_at, held_of, mapped, on_row, rows_of};
 ghost use Rattle.ksm_pages.specs.Held.{with_held, without_held};
 ghost use Rattle.ksm_pages.specs.Ordered.{AreAscending};
-ghost use Rattle.ksm_pages.specs.Paged.{AreAllListed};
 
 use crate::ahead::Ahead;
 use crate::order::Order;
@@ -54,7 +52,7 @@ impl Model for Rows {
 
     ghost Value = { RowsView };
 
-    ghost view = { λ r. record { held = held_in r.pass r.entries r.order; restless = r.restless; pass = r.pass } };
+    ghost view = { λ r. record { held = held_in r.pass r.entries r.order; pass = r.pass } };
 
     ghost invariant = { λ r. IsRows r.entries r.order r.restless r.tally r.pass };
 }
@@ -114,7 +112,6 @@ impl Rows {
     pub fn new(alloc: Global, frames: u32) -> Rows
         requires { frames ≤ MOST_FRAMES }
         ensures held { result.held ≡ [] }
-        ensures restless { result.restless ≡ record { pages = []; known = true } }
     {
         let last_slot = last_slot(frames);
         Rows {
@@ -130,13 +127,10 @@ impl Rows {
 
     // ------------------------------------------------------------ what is read
 
-    /// A law: the rows are in the order of their pages, those with frames of their own have them, and those that a
-    /// visit may change are listed, if all of them are known.
+    /// A law: the rows are in the order of their pages, and those with frames of their own have them.
     pub fn are_lawful(&self)
         ensures rise { InPageOrder (rows_of self.now.held) }
         ensures framed { All (λ h. is_some h.frame ≡ not (shared_state h.row.state)) self.now.held }
-        ensures listed { self.now.restless.known ≡ true
-            → AreAllListed (rows_of self.now.held) self.now.restless.pages }
     {
         // A law is told of the fields where one of them is read.
         let _ = self.order.len();
@@ -266,7 +260,6 @@ impl Rows {
         requires absent { held_at page self.old.held ≡ None }
         ensures added { OnOk result (self.new ≡ record self.old {
           held = with_held (record { row = fresh_row page home bytes; frame = Some frame }) self.old.held;
-          restless = self.new.restless;
         }) }
         ensures spot { IfOk result (λ spot. spot.page ≡ page) }
         ensures kept { OnErr result (self.new ≡ self.old) }
@@ -317,7 +310,6 @@ impl Rows {
     pub fn settle_on(&mut self, spot: Spot, frame: u32)
         ensures { self.new ≡ record self.old {
           held = change_held spot.page (mapped Private (Some frame)) self.old.held;
-          restless = self.new.restless;
         } }
     {
         let Some(key) = key_of(&self.entries, &self.order, spot) else {
@@ -471,7 +463,6 @@ impl Rows {
     pub fn set_mergeable(&mut self, spot: Spot, mergeable: bool)
         ensures { self.new ≡ record self.old {
           held = change_held spot.page (on_row (λ r. record r { mergeable = mergeable })) self.old.held;
-          restless = self.new.restless;
         } }
     {
         let Some(key) = key_of(&self.entries, &self.order, spot) else {
@@ -543,50 +534,32 @@ impl Rows {
 
     // ------------------------------------------------------------ rows that a visit may change
 
-    /// All rows that a visit may change are listed then. The one fault is `Memory`.
-    pub fn list_restless(&mut self) -> Result<(), Fault>
-        ensures known { OnOk result (self.new.restless.known ≡ true) }
-        ensures rest { self.new ≡ record self.old { restless = self.new.restless } }
-        ensures memory { IfErr result (λ fault. fault ≡ Fault.Memory) }
+    /// Lists all rows that a visit may change, unless memory for that is refused.
+    pub fn list_restless(&mut self)
+        ensures { self.new ≡ self.old }
     {
-        if self.restless.is_known() {
-            return Ok(());
-        }
-        gather(&self.entries, &self.order, &mut self.restless);
-        if self.restless.is_known() {
-            Ok(())
-        } else {
-            Err(Fault::Memory)
+        if !self.restless.is_known() {
+            gather(&self.entries, &self.order, &mut self.restless);
         }
     }
 
-    /// How many pages are listed.
-    pub fn restless_len(&self) -> usize
-        ensures count { result ≡ length self.now.restless.pages }
-        ensures ascending { AreRising self.now.restless.pages }
-    {
-        self.restless.len()
-    }
-
-    /// How many listed pages come up to a cursor.
-    pub fn restless_up_to(&self, cursor: Option<GuestPage>) -> usize
-        ensures { result ≡ length (filter (λ p. not (after_cursor cursor p)) self.now.restless.pages) }
-    {
-        self.restless.up_to(cursor)
-    }
-
-    /// The listed page at an index.
+    /// The first page behind a cursor that a visit may change, or a page before it. Where not all of them are listed,
+    /// it is the first page behind the cursor.
     #[inline(always)]
-    pub fn restless_at(&self, at: usize) -> Option<Spot>
-        ensures { option_map (λ s. s.page) result ≡ slice_get self.now.restless.pages at }
+    pub fn next_restless(&mut self, cursor: Option<GuestPage>) -> Option<Spot>
+        ensures kept { self.new ≡ self.old }
+        ensures next { FindsNext cursor (rows_of self.old.held) (option_map (λ s. s.page) result) }
     {
-        self.restless.get(at)
+        if self.restless.is_known() {
+            self.restless.after(cursor)
+        } else {
+            self.after(cursor)
+        }
     }
 
     /// Of the listed pages those that no visit may change are listed no more, once they may be many.
     pub fn sweep_restless(&mut self)
-        ensures rest { self.new ≡ record self.old { restless = self.new.restless } }
-        ensures known { self.new.restless.known ≡ self.old.restless.known }
+        ensures { self.new ≡ self.old }
     {
         self.restless.sweep(&self.entries, &self.order);
     }

@@ -1,15 +1,12 @@
-//! Which visits a scan has ahead, and which pages are listed for it: those whose rows a visit may change.
+//! Which visits a scan has ahead, and the next page whose row a visit may change.
 
-ghost use Rattle.std.specs.Prelude.{◌≡◌, ◌≤◌, not, true, Err, filter, length, option_map, OnOk, OnErr, slice_get};
-ghost use Rattle.ksm_base.specs.declared.fault.Fault.TheVariants.{Memory};
-ghost use Rattle.ksm_base.specs.Visit.{after_cursor};
-ghost use Rattle.ksm_pages.specs.Ahead.{EndsAt, last_of, mergeable_pages, pages_behind, pages_between};
-ghost use Rattle.ksm_pages.specs.Paged.{seen};
+ghost use Rattle.std.specs.Prelude.{◌≡◌, ◌≤◌, length, option_map};
+ghost use Rattle.ksm_pages.specs.Ahead.{EndsAt, FindsNext, last_of, mergeable_pages, pages_behind, pages_between};
 
 use crate::ahead::Ahead;
 use crate::pages::Pages;
 use crate::row::Spot;
-use ksm_base::{Fault, GuestPage};
+use ksm_base::GuestPage;
 
 impl Pages {
     /// Where so many visits behind the cursor end.
@@ -29,40 +26,25 @@ impl Pages {
         self.rows.between(cursor, page)
     }
 
-    /// All rows that a visit may change are listed then. Refused for memory alone.
-    pub fn list_restless(&mut self) -> Result<(), Fault>
-        ensures rest { seen self.new ≡ record (seen self.old) { restless = self.new.restless } }
-        ensures known { OnOk result (self.new.restless.known ≡ true) }
-        ensures fault { OnErr result (result ≡ Err Memory) }
+    /// Lists all rows that a visit may change, unless memory for that is refused.
+    pub fn list_restless(&mut self)
+        ensures { self.new ≡ self.old }
     {
-        self.rows.list_restless()
+        self.rows.list_restless();
     }
 
-    /// How many listed pages come up to the cursor.
-    pub fn restless_up_to(&self, cursor: Option<GuestPage>) -> usize
-        ensures { result ≡ length (filter (λ p. not (after_cursor cursor p)) self.now.restless.pages) }
+    /// The first page behind a cursor that a visit may change, or a page before it.
+    #[inline(always)]
+    pub fn next_restless(&mut self, cursor: Option<GuestPage>) -> Option<Spot>
+        ensures kept { self.new ≡ self.old }
+        ensures next { FindsNext cursor self.old.rows (option_map (λ s. s.page) result) }
     {
-        self.rows.restless_up_to(cursor)
-    }
-
-    /// How many pages are listed.
-    pub fn restless_len(&self) -> usize
-        ensures { result ≡ length self.now.restless.pages }
-    {
-        self.rows.restless_len()
-    }
-
-    /// The listed page at an index.
-    pub fn restless_at(&self, at: usize) -> Option<Spot>
-        ensures { option_map (λ s. s.page) result ≡ slice_get self.now.restless.pages at }
-    {
-        self.rows.restless_at(at)
+        self.rows.next_restless(cursor)
     }
 
     /// Of the listed pages those that no visit may change are listed no more, once they may be many.
     pub fn sweep_restless(&mut self)
-        ensures rest { seen self.new ≡ record (seen self.old) { restless = self.new.restless } }
-        ensures known { self.new.restless.known ≡ self.old.restless.known }
+        ensures { self.new ≡ self.old }
     {
         self.rows.sweep_restless();
     }

@@ -16,7 +16,7 @@ returns-then-count_mergeable-eq0-clause-carried c =
 pub returns-clause-carried : goal.returns-clause-carried
 returns-clause-carried c =
     let runs = running ((goal.at.returns-clause-carried c).After-count_mergeable) in
-    grind (arith, c.list_restless.ensures.view, visits_carried)
+    grind (arith, c.list_restless.ensures, c.self.view_is, visits_carried)
 
 pub visits-requires-clause-due : goal.visits-requires-clause-due
-visits-requires-clause-due c = λ known. grind (arith, c.list_restless.ensures.view, c.requires.due known)
+visits-requires-clause-due c = λ known. grind (arith, c.list_restless.ensures, c.self.view_is, c.requires.due known)

@@ -24,7 +24,7 @@ set_knobs-requires c = inr (subst (λ (p : PagesView). All (λ r. waiting_state 
 laid : (c : goal.After-set_knobs) → IsLaid (seen c.set_knobs.new.self) c.drop_stale.new.keeper
 laid c =
     let there = subst (λ (p : PagesView). IsLaid p c.drop_stale.new.keeper) (sym c.settle_all.ensures)
-    (laid_mapped c.drop_stale.ensures.laid _ _ (λ r. refl) (λ i d lt. settled_lodges (get_or c.drop_stale.new.pages.rows i d))) in
+    (laid_mapped c.drop_stale.ensures.laid _ (λ r. refl) (λ i d lt. settled_lodges (get_or c.drop_stale.new.pages.rows i d))) in
     rw c.set_knobs.ensures (retuned (inr (none_left c)) there)
 
 sound : (c : goal.After-set_knobs) → IsSound (effect (state_of (seen c.self.inside.pages) c.self.inside.cursor c.self.inside.passes) (SetAcross c.args.across) Done)

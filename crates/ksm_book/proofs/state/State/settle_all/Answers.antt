@@ -8,5 +8,5 @@ invariant_of-self c =
     let s = c.self.inside in (
       subst IsSound (sym (grind (arith, c.settle_all.ensures))) (sound_none_waiting _ c.self.invariant.0),
       rw c.settle_all.ensures
-          (laid_mapped c.self.invariant.1 _ _ (λ r. refl) (λ i d lt. settled_lodges (get_or s.pages.rows i d))),
+          (laid_mapped c.self.invariant.1 _ (λ r. refl) (λ i d lt. settled_lodges (get_or s.pages.rows i d))),
     )

@@ -35,7 +35,7 @@ invariant_of-self-2 c =
     let wide : length c.args.bytes.now ≡ PAGE_WORDS = search rules in (
       sound_carried c.self.invariant.0 (written c),
       rw c.store-2.ensures
-          (laid_written c.self.invariant.1 _ c.in-Some.ensures.row _ _ _ _ c.self.invariant.0.rows_rise
+          (laid_written c.self.invariant.1 _ c.in-Some.ensures.row _ _ _ c.self.invariant.0.rows_rise
           (row_held c.in-Some.ensures) (λ r. refl)
           (grind arith) (rw c.write.ensures.wrote) c.write.ensures.ledger wide (sym c.in-Some.ensures.shared ∙ c.if-held.false) refl refl),
     )

@@ -4,7 +4,7 @@ use Rattle.std.proofs.Common.{refl, rules, ◌∙◌}
 use Rattle.ksm_book.proofs.state.State.visit_all_due.Goals as goal
 
 pub loop-spot-init : goal.loop-spot-init
-loop-spot-init c = (none_passed c.args.self.now, c.requires.due, c.requires.ready, refl, refl)
+loop-spot-init c = (none_passed c.args.self.now, c.requires.due, c.requires.ready, refl)
 
 pub loop-spot-smaller : goal.loop-spot-smaller
 loop-spot-smaller c = less_room _ _ (search rules, search rules) c.in-Some.ensures.1
@@ -15,8 +15,7 @@ loop-spot-preserved c = (
       c.loop-spot.invariant.1 c.loop-spot.invariant.0 c.visit_due.new.self _ c.in-Some.ensures c.in-Ok.ensures.comes,
   c.in-Ok.ensures.due,
   c.visit_due.ensures.ready,
-  c.visit_due.ensures.restless ∙ c.loop-spot.invariant.3,
-  c.visit_due.ensures.own ∙ c.loop-spot.invariant.4,
+  c.visit_due.ensures.own ∙ c.loop-spot.invariant.3,
 )
 
 pub returns-in-Err-clause-stopped : goal.returns-in-Err-clause-stopped

@@ -9,10 +9,9 @@ go_on-requires-clause-some c = grind (arith, comes_to, visits_mergeable)
 pub loop-done-preserved : goal.loop-done-preserved
 loop-done-preserved c = (
   omega (arith, c.in-Ok.ensures.made.fit, c.loop-done.invariant.0),
-  c.go_on.ensures.known,
   λ from s before. rw (beside_on doing c.loop-done.done c.in-Ok.visits (c.loop-done.done + c.in-Ok.visits) s refl)
-      (c.in-Ok.ensures.made.comes from _ (c.loop-done.invariant.2 from s before)),
-  c.go_on.ensures.own ∙ c.loop-done.invariant.3,
+      (c.in-Ok.ensures.made.comes from _ (c.loop-done.invariant.1 from s before)),
+  c.go_on.ensures.own ∙ c.loop-done.invariant.2,
   c.go_on.ensures.due,
 )
 
@@ -25,9 +24,9 @@ returns-in-Err-clause-scanned c =
       record {
         fewer = omega arith;
         comes = λ from s before. rw (beside_on doing n k _ s refl)
-            (stopped.comes from _ (c.loop-done.invariant.2 from s before));
+            (stopped.comes from _ (c.loop-done.invariant.1 from s before));
       },
     )
 
 pub returns-clause-scanned : goal.returns-clause-scanned
-returns-clause-scanned c = (refl, λ from s before. grind (arith, c.loop-done.invariant.2 from s before))
+returns-clause-scanned c = (refl, λ from s before. grind (arith, c.loop-done.invariant.1 from s before))

@@ -14,7 +14,6 @@ returns c = record {
         dups = dup_rows dups.dups;
         knobs = default_knobs;
         next = dups.next;
-        restless = c.new.ensures.restless i;
       });
   fault = tt;
 }

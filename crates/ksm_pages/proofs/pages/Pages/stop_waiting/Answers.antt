@@ -12,7 +12,6 @@ gone c = alone_left c.self.invariant c.self.view_is c.requires c.leave.ensures
 stopped : (c : goal.After-stop_waiting)
     → Comes c.self.inside c.stop_waiting.new.self c.leave.new.dups (record (seen c.args.self.now) {
       rows = change_row c.args.spot.page on_its_own c.args.self.now.rows;
-      restless = c.stop_waiting.new.self.restless;
     })
 stopped c =
     rested (gone c) c.stop_waiting.new.self settled on_its_own (λ r. refl) (λ r. refl) c.requires

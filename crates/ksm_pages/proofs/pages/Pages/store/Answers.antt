@@ -13,7 +13,6 @@ alone c =
 -- it gets its bytes
 written : (c : goal.After-store) → Comes c.self.inside c.store.new.self c.self.inside.dups (record (seen c.args.self.now) {
   rows = change_row c.args.spot.page (stored c.args.bytes.now) c.args.self.now.rows;
-  restless = c.store.new.self.restless;
 })
 unfolding alone
 written c =

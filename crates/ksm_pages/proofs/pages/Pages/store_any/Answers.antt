@@ -14,7 +14,6 @@ left c = search rules
 -- a page that waited does so no more, and gets its bytes
 settled_too : (c : goal.After-store) → Comes c.self.inside c.store.new.self c.left_by_any.new.dups (record (seen c.args.self.now) {
   rows = change_row c.args.spot.page (stored c.args.bytes.now) c.args.self.now.rows;
-  restless = c.store.new.self.restless;
 })
 settled_too c =
     rested (left c) c.store.new.self (λ r. put_bytes c.args.bytes.now (settled r)) _ (λ r. refl) (λ r. refl) c.requires

@@ -13,4 +13,4 @@ pub returns : goal.returns
 returns c =
     (rest_all c.self.inside c.self.invariant c.self.view_is _ (λ r. refl) (λ r. refl) c.unshare_all.new.self
     (held_as c.unshare_all.ensures) c.clear_waiting.ensures).told_as
-    ∙ ap (λ rows. record (seen c.args.self.now) { rows = rows; restless = c.unshare_all.new.self.restless }) (grind (arith, map_alike, rests))
+    ∙ ap (λ rows. record (seen c.args.self.now) { rows = rows }) (grind (arith, map_alike, rests))

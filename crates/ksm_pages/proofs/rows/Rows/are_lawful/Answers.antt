@@ -1,5 +1,5 @@
 use Rattle.ksm_pages.proofs.Filing.{rows_rise}
-use Rattle.ksm_pages.proofs.Gathering.{rows_framed, rows_listed}
+use Rattle.ksm_pages.proofs.Gathering.{rows_framed}
 use Rattle.ksm_pages.proofs.rows.Rows.are_lawful.Goals as goal
 
 pub returns : goal.returns
@@ -8,6 +8,4 @@ returns c =
     record {
       rise = rw (← c.self.view_is) (rows_rise s.entries _ c.self.invariant.ascending c.self.invariant.filed _);
       framed = rw (← c.self.view_is) (rows_framed s.entries _ c.self.invariant.ascending c.self.invariant.filed _);
-      listed = rw (← c.self.view_is)
-          (λ known. rows_listed s.entries _ c.self.invariant.ascending c.self.invariant.filed _ _ (c.self.invariant.listed known));
     }

@@ -1,5 +1,5 @@
 use Rattle.ksm_pages.proofs.Names.{arith, refl, rules}
-use Rattle.ksm_pages.proofs.Writing.{can_be, kept, nothing, viewed_same}
+use Rattle.ksm_pages.proofs.Writing.{can_be, kept, nothing, viewed}
 use Rattle.ksm_pages.proofs.rows.Rows.become_zero.Goals as goal
 
 pub returns-in_default : goal.returns-in_default
@@ -14,4 +14,4 @@ invariant_of-self c =
     c.state-old.ensures refl c.change.ensures refl (λ is. cc) (λ may. absurd (grind arith)) _ c.let_be.ensures
 
 pub returns : goal.returns
-returns c = search (rules, viewed_same)
+returns c = search (rules, viewed)

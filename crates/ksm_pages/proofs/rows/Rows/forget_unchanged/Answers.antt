@@ -1,5 +1,5 @@
 use Rattle.ksm_pages.proofs.Names.{rules}
-use Rattle.ksm_pages.proofs.Writing.{nothing, untouched, viewed_same}
+use Rattle.ksm_pages.proofs.Writing.{nothing, untouched, viewed}
 use Rattle.ksm_pages.proofs.rows.Rows.forget_unchanged.Goals as goal
 
 pub returns-in_default : goal.returns-in_default
@@ -9,4 +9,4 @@ pub invariant_of-self : goal.invariant_of-self
 invariant_of-self c = search (rules, untouched c.self.inside c.self.invariant c.in-Some.ensures.there)
 
 pub returns : goal.returns
-returns c = search (rules, viewed_same c.self.inside c.self.invariant c.in-Some.ensures.there)
+returns c = search (rules, viewed c.self.inside c.self.invariant c.in-Some.ensures.there)

@@ -37,5 +37,5 @@ invariant_of-self-2 c =
 pub returns-clause-added : goal.returns-clause-added
 returns-clause-added c =
     let now = viewed_put c.self.inside c.self.invariant c.self.view_is c.reserve_one.ensures.rest (came c).0
-    c.requires.absent (came c).1 c.add.new.self in
+    c.requires.absent (came c).1 in
     grind (arith, now, c.in_ok-insert.ensures.added, rests_now c.self.inside.pass c.self.invariant.counting)

@@ -1,5 +1,5 @@
 use Rattle.ksm_pages.proofs.Names.{ap, ap₂, Bool, change_held, cond, false, GuestPage, Held, List, refl, rules, true, [], ◌∙◌, ◌∷◌, ◌≡◌}
-use Rattle.ksm_pages.proofs.Writing.{untouched, viewed_same}
+use Rattle.ksm_pages.proofs.Writing.{untouched, viewed}
 use Rattle.ksm_pages.proofs.rows.Rows.remember.Goals as goal
 
 pub invariant_of-self : goal.invariant_of-self
@@ -16,5 +16,5 @@ unchanged page (h ∷ hs) = ap₂ (λ g gs. g ∷ gs) (either _ _) (unchanged _ 
 
 pub returns : goal.returns
 returns c =
-    viewed_same c.self.inside c.self.invariant c.in-Some.ensures.there c.index_mut.ensures.value _ refl _ refl refl c.self.view_is
+    viewed c.self.inside c.self.invariant c.in-Some.ensures.there c.index_mut.ensures.value _ refl _ refl c.self.view_is
     ∙ ap (λ held. record c.args.self.now { held = held }) (unchanged _ _)

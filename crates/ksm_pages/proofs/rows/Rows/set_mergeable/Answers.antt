@@ -36,10 +36,10 @@ pub returns-then-restless : goal.returns-then-restless
 returns-then-restless c =
     rw c.mark.ensures
     (viewed_marked c.self.inside c.self.invariant c.in-Some.ensures.there c.index_mut-entry.ensures.value _ refl _ refl
-    _ _ c.self.view_is)
+    _ c.self.view_is)
 
 pub returns-else-restless : goal.returns-else-restless
 returns-else-restless c =
     rw c.mark.ensures
     (viewed_marked c.self.inside c.self.invariant c.in-Some.ensures.there c.index_mut-entry.ensures.value _ refl _ refl
-    _ _ c.self.view_is)
+    _ c.self.view_is)

@@ -13,12 +13,12 @@ invariant_of-self-in-None c =
 pub returns-in-Some : goal.returns-in-Some
 returns-in-Some c =
     let s = c.self.inside in
-    ap (λ held. record { held = held; restless = s.restless; pass = c.in-Some.pass })
+    ap (λ held. record { held = held; pass = c.in-Some.pass })
     (ap (λ pass. held_in pass s.entries s.order) c.in-Some.ensures.1 ∙ next_seen c.self.invariant)
     ∙ ap (λ (v : RowsView). record v { held = map (on_row settled) v.held; pass = c.in-Some.pass }) c.self.view_is
 
 pub returns-in-None : goal.returns-in-None
 returns-in-None c =
-    ap (λ held. record { held = held; restless = c.self.inside.restless; pass = 1 }) (anew_seen c.self.invariant c.retain.new.self
+    ap (λ held. record { held = held; pass = 1 }) (anew_seen c.self.invariant c.retain.new.self
     (retained_all _ _ (λ f k old keep new next t. search rules) _ _ _ _ c.retain.ensures.retained))
     ∙ ap (λ (v : RowsView). record v { held = map (on_row settled) v.held; pass = 1 }) c.self.view_is

@@ -1,5 +1,5 @@
 use Rattle.ksm_pages.proofs.Names.{ap, bytes_eq, Entry, held_in, List, refl, rules, with_value, ℕ, ◌&&◌, ◌∙◌}
-use Rattle.ksm_pages.proofs.Writing.{nothing, untouched, viewed_same}
+use Rattle.ksm_pages.proofs.Writing.{nothing, untouched, viewed}
 use Rattle.ksm_pages.proofs.rows.Rows.store.Goals as goal
 
 -- the entry with the bytes
@@ -16,5 +16,5 @@ invariant_of-self c =
 pub returns : goal.returns
 returns c =
     let s = c.self.inside in
-    ap (λ x. record { held = held_in s.pass (with_value s.entries c.in-Some.key x) s.order; restless = s.restless; pass = s.pass }) c.take_bytes.ensures
-    ∙ viewed_same s c.self.invariant c.in-Some.ensures.there c.index_mut.ensures.value _ refl _ refl refl c.self.view_is
+    ap (λ x. record { held = held_in s.pass (with_value s.entries c.in-Some.key x) s.order; pass = s.pass }) c.take_bytes.ensures
+    ∙ viewed s c.self.invariant c.in-Some.ensures.there c.index_mut.ensures.value _ refl _ refl c.self.view_is

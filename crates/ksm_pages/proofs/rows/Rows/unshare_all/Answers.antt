@@ -13,7 +13,7 @@ returns c =
     let held = held_in s.pass s.entries s.order in
     let slots = retained_all _ _ (λ f k old keep new next t. search rules) _ _ _ _ c.retain.ensures.retained in
     c.settle_all.ensures
-    ∙ ap (λ hs. record { held = hs; restless = s.restless; pass = c.settle_all.new.self.pass })
+    ∙ ap (λ hs. record { held = hs; pass = c.settle_all.new.self.pass })
     (ap (map (on_row settled)) (plain_seen c.self.invariant c.retain.new.self slots)
     ∙ map_mapped _ _ _ _ (λ k d lt. refl))
     ∙ ap (λ (v : RowsView). record v { held = map (on_row (λ r. record (settled r) { unchanged = false })) v.held; pass = c.settle_all.new.self.pass }) c.self.view_is

@@ -1,5 +1,5 @@
 use Rattle.ksm_pages.proofs.Names.{arith, refl, rules, sym}
-use Rattle.ksm_pages.proofs.Writing.{can_be, kept, nothing, own_there, viewed_same, waits_now}
+use Rattle.ksm_pages.proofs.Writing.{can_be, kept, nothing, own_there, viewed, waits_now}
 use Rattle.ksm_pages.proofs.rows.Rows.wait.Goals as goal
 
 pub returns-in_default : goal.returns-in_default
@@ -19,4 +19,4 @@ invariant_of-self c =
     c.state_alone-old.ensures (sym waits) c.change.ensures refl (λ own. omega arith) (λ may. may) _ refl
 
 pub returns : goal.returns
-returns c = search (rules, waits_now, own_there, viewed_same)
+returns c = search (rules, waits_now, own_there, viewed)
