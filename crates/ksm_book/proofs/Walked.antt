@@ -14,7 +14,8 @@ use Rattle.ksm_book.proofs.Reached.{begins, comes_to, first as at_first}
 use Rattle.ksm_book.proofs.Scanned.{restless_mergeable}
 
 -- what is so of the page of each row that a visit may change is so of each page whose row one may
-all_restless : (P : GuestPage → Type 0) (rows : List Row) → All (λ r. is_restless r ≡ true → P r.page) rows → (page : GuestPage)
+all_restless : (P : GuestPage → Type 0) (rows : List Row) → All (λ r. is_restless r ≡ true → P r.page) rows
+    → (page : GuestPage)
     → restless_at page rows ≡ true → P page
 all_restless P rows each page is = by _ refl is
   where
@@ -44,7 +45,8 @@ module _ (s : BookState × Deed) (rise : InPageOrder s.0.rows) (reached : Option
   went = pages_go doing (filter passed all) s rise
 
   -- of the restless pages those are ahead that come behind the book's cursor
-  there : (x : GuestPage) → restless_at x (walked_to reached s).0.rows ≡ true → has_item x all ≡ after_cursor s.0.cursor x
+  there : (x : GuestPage) → restless_at x (walked_to reached s).0.rows ≡ true
+      → has_item x all ≡ after_cursor s.0.cursor x
   there x is = grind (arith, has_filter, restless_mergeable x (walked_to reached s).0.rows is, went.mergeable)
 
   -- the visits of the pages ahead that pass a test go on with those of any pages that have the same restless ones
@@ -70,18 +72,21 @@ pub record IsWalking (last : Option GuestPage) (old now : BookValue) (reached : 
   -- it is not before the cursor
   pub behind : (p : GuestPage) → after_cursor reached p ≡ true → after_cursor old.state.cursor p ≡ true
   -- nor behind the last page
-  pub within : (p : GuestPage) → after_cursor old.state.cursor p ≡ true → after_cursor reached p ≡ false → up_to last p ≡ true
+  pub within : (p : GuestPage) → after_cursor old.state.cursor p ≡ true → after_cursor reached p ≡ false
+      → up_to last p ≡ true
 
 -- up to the book's cursor no page ahead was visited
 none_walked : (s : BookState × Deed) → walked_to s.0.cursor s ≡ s
 none_walked s = ap (pages_visited doing s) (none s.0.cursor (mergeable_pages s.0.rows))
   where
-    none : (cursor : Option GuestPage) (pages : List GuestPage) → filter (λ p. not (after_cursor cursor p)) (filter (after_cursor cursor) pages) ≡ []
+    none : (cursor : Option GuestPage) (pages : List GuestPage)
+        → filter (λ p. not (after_cursor cursor p)) (filter (after_cursor cursor) pages) ≡ []
     none cursor [] = refl
     none cursor (p ∷ pages) = grind (arith, none cursor pages)
 
 -- a walk begins at the book's cursor
-pub begins_walk : (last : Option GuestPage) (v : BookValue) (reached : Option GuestPage) → reached ≡ v.state.cursor → IsWalking last v v reached
+pub begins_walk : (last : Option GuestPage) (v : BookValue) (reached : Option GuestPage) → reached ≡ v.state.cursor
+    → IsWalking last v v reached
 begins_walk last v reached at = record {
   comes = λ from s before. grind (arith, none_walked s);
   behind = λ p is. grind arith;
@@ -89,7 +94,8 @@ begins_walk last v reached at = record {
 }
 
 -- and has changed nothing then
-pub begins_still : (v : BookValue) (reached : Option GuestPage) → reached ≡ v.state.cursor → StaysStill v (walked_to reached)
+pub begins_still : (v : BookValue) (reached : Option GuestPage) → reached ≡ v.state.cursor
+    → StaysStill v (walked_to reached)
 begins_still v reached at from s before = grind (arith, none_walked s)
 
 module _ {last : Option GuestPage} {old mid : BookValue} (rise : InPageOrder old.state.rows) {reached : Option GuestPage}
@@ -105,14 +111,16 @@ module _ {last : Option GuestPage} {old mid : BookValue} (rise : InPageOrder old
       walk_on s (rw (← before.0) rise) reached (rw (← before.0) w.behind) t pages rising (rw (← before.0) more) (rw (← is) same)
 
   -- where no restless page is left up to the last, all pages ahead up to it were visited
-  pub walk_ends : FindsUpTo last reached mid.state.rows None → (from : BookValue) (s : BookState × Deed) → Reached from old s
+  pub walk_ends : FindsUpTo last reached mid.state.rows None → (from : BookValue) (s : BookState × Deed)
+      → Reached from old s
       → walked_to reached s ≡ pages_visited doing s (ahead_up_to last s.0)
   walk_ends none from s before = sym (left (up_to last) [] (λ i j d less lt. absurd (omega arith)) w.within
       (λ x is. grind (arith, all_restless (λ p. after_cursor reached p ≡ true → up_to last p ≡ false) mid.state.rows none x is)) from s before)
 
   module _ (page : GuestPage) (next : FindsNext reached mid.state.rows (Some page)) where
     -- a restless page behind the one reached does not come before the next
-    not_before : (x : GuestPage) → restless_at x mid.state.rows ≡ true → after_cursor reached x ≡ true → comes_before x page ≡ false
+    not_before : (x : GuestPage) → restless_at x mid.state.rows ≡ true → after_cursor reached x ≡ true
+        → comes_before x page ≡ false
     not_before = all_restless (λ p. after_cursor reached p ≡ true → comes_before p page ≡ false) mid.state.rows next.1
 
     -- with the visit of the next page the pages ahead up to it were visited
@@ -138,7 +146,8 @@ module _ {last : Option GuestPage} {old mid : BookValue} (rise : InPageOrder old
         (still_on s _ _ (still from s before) (visit from _ (w.comes from s before)))
 
     -- where that page was not visited, those before it were
-    pub walk_stops : up_to last page ≡ true → {new : BookValue} → Comes mid new (λ s. s) → restless_at page new.state.rows ≡ true
+    pub walk_stops : up_to last page ≡ true → {new : BookValue} → Comes mid new (λ s. s)
+        → restless_at page new.state.rows ≡ true
         → StopsBefore old new last page
     walk_stops inside {new} stays restless = record {
       within = inside;
