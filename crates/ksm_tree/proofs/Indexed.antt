@@ -152,3 +152,6 @@ found_passing p test (d ∷ dups) rise =
       all_rows (λ r. d.row.place < r.place) dups (λ k e lt. (pairs_head Lower d.row (rows_of dups) rise k e lt).0),
       found_passing p test dups (pairs_tail Lower d.row (rows_of dups) rise),
     )
+
+-- how the index stays beside a dup that is found by its number
+pub ruleset steps = (room_indexed, stays_indexed, told_items, told_there)

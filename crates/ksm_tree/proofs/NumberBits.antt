@@ -1,4 +1,5 @@
 -- What the words of a set, and their summary, say of its numbers.
+use Rattle.ksm_tree.proofs.Names.{get_or_default, bit_at-trailing_zeros, bit_at_above, bit_at_ones, nat_tests}
 use Rattle.ksm_tree.proofs.Names.{AreSummed, arith, bit_and, bit_at, bit_at_clear_other, bit_at_clear_same, bit_at_set_other, bit_at_set_same, bit_or, Bool, false, get_or, get_or-replicate}
 use Rattle.ksm_tree.proofs.Names.{get_or-set_other, get_or-set_same, get_or_past, has, HasNoBit, HasNone, IsLeast, IsLowestBit, IsSummed, length, length-set, List, Marks, MatchOption, not, Option}
 use Rattle.ksm_tree.proofs.Names.{replicate, set, shr-shr, true, w64, ℕ, ◌%◌, ◌*◌, ◌+◌, ◌-◌, ◌/◌, ◌<◌, ◌==◌, ◌^◌, ◌≡◌, ◌≢◌, ◌≤◌}
@@ -58,3 +59,12 @@ bit_of_rest word from i = grind (arith, shr-shr)
 
 pub bit_behind : (word from i : ℕ) → from ≤ i → bit_at word i ≡ bit_at (word / 2 ^ from) (i - from)
 bit_behind word from i behind = grind (arith, bit_of_rest)
+
+-- one word is put, and the others stay
+pub ruleset put_there = (nat_tests, get_or_default, get_or-set_same, get_or-set_other, length-set, bit_at_set_same)
+
+-- the bits of one word
+pub ruleset in_word = (bit_at-trailing_zeros, bit_at_above, bit_behind, bit_of_rest)
+
+-- words that are all alike
+pub ruleset all_there = (bit_at_ones, get_or-replicate, length-replicate)

@@ -229,3 +229,6 @@ same_items page (Some d) absent = grind (
 
 pub slots_same : (p : ℕ) (page : GuestPage) (slots : Slots) → has_item page (items_in (get_or slots p None)) ≡ false → change_slot p (without_item page) slots ≡ slots
 slots_same p page slots absent = grind (arith, same_items, set-get_or)
+
+-- what a place where a dup is seen has
+pub ruleset steps = (slot_filled, seen_slot, count_within, seen_within, may_be_marked, view_changed, length-set)

@@ -194,3 +194,9 @@ one_more old new tree bytes key none was long updates = (
 pub reserve_left : (old : Groups) {g : Groups} {tree : ℕ} {bytes : List ℕ} → (IsSwept g ⊎ IsAsWas old g)
     → KeepsReserve (is_used_in g) tree bytes old.numbers.entries g.numbers.entries old.most g.most
 reserve_left old is = grind (arith)
+
+-- how the groups stay where one is written
+pub ruleset steps = (rewritten, same_waiting, stands_under)
+
+-- what waits in a group that is found by its number
+pub ruleset met = (rewritten, repaged, waiting_found, stands_under, not_unused, is_one)

@@ -1,4 +1,6 @@
 -- The places at which a test is passed: what a change at one place does to them.
+use Rattle.std.proofs.lemmas.List.{length-take}
+use Rattle.ksm_tree.proofs.Names.{get_or_default, length-set}
 use Rattle.ksm_tree.proofs.Names.{add-one, All, arith, Bool, false, filter_all, filter_none, get_or, if◌then◌else◌, length, List, nat_lt, nat_tests, not, places_where, refl, set, suc, take}
 use Rattle.ksm_tree.proofs.Names.{with_place, without, zero, ℕ, [], ◌+◌, ◌<◌, ◌==◌, ◌∷◌, ◌≡◌, ◌≤◌}
 
@@ -44,3 +46,9 @@ module _ {X : Type 0} (test : X → Bool) where
   where_next d k p zero (y ∷ xs) is within = grind arith
   where_next d k p (suc i) (y ∷ xs) is within =
       grind (arith, nat_tests, add-one i, add-one (suc i), where_next d (suc k) p i xs (omega arith) (omega arith))
+
+-- the places that pass, as one element changes
+pub ruleset steps = (where_room, where_same, where_set, length-set, get_or_default)
+
+-- the places that pass among the first elements
+pub ruleset next_steps = (where_next, length-take)

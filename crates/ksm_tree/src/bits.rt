@@ -138,6 +138,7 @@ impl<S: Bits, const MOST: usize> Words<S, MOST> {
     }
 
     // Which of the words has a number's bit. Where there is one at most that is known before the program runs.
+    #[tactic(auto, using(crate::proofs::NumberBits::within_named))]
     #[inline(always)]
     fn word_of(&self, number: u32) -> u32
         requires { number < 64 * length self.now }
@@ -148,6 +149,7 @@ impl<S: Bits, const MOST: usize> Words<S, MOST> {
     }
 
     // The least number in the words behind one.
+    #[tactic(auto, using(crate::proofs::NumberBits::within_named))]
     #[inline(always)]
     fn first_behind(&self, at: u32) -> Option<u32>
         requires { at < length self.now }
@@ -166,6 +168,7 @@ impl<S: Bits, const MOST: usize> Words<S, MOST> {
 impl<S: Bits, const MOST: usize> Bits for Words<S, MOST> {
     ghost words = { λ w. w };
 
+    #[tactic(auto, using(crate::proofs::NumberBits::marks_more, crate::proofs::NumberBits::summed_put, crate::proofs::NumberBits::put_there))]
     #[inline(always)]
     fn add(&mut self, number: u32) {
         let at = self.word_of(number);
@@ -175,6 +178,7 @@ impl<S: Bits, const MOST: usize> Bits for Words<S, MOST> {
         }
     }
 
+    #[tactic(auto, using(crate::proofs::NumberBits::marks_less, crate::proofs::NumberBits::put_there))]
     #[inline(always)]
     fn remove(&mut self, number: u32) {
         let at = self.word_of(number);

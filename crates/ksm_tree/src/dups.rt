@@ -128,6 +128,7 @@ impl Dups {
 
     /// The dup that a page of the group with a number joins: that which `best` tells for its tree and bytes. None where
     /// no group has the number.
+    #[tactic(auto, using(crate::proofs::Standing::stands_under))]
     #[inline(always)]
     pub fn best_of(&self, group: u32, limit: u32) -> Option<Best>
         ensures best { (tree : ℕ) (bytes : List ℕ) → number_of tree bytes self.now.numbers ≡ Some group
@@ -227,6 +228,7 @@ impl Dups {
 
     /// The page that waits in a tree with these bytes, if there is one. Of the dup at the place, if there is one, the
     /// group is tried first.
+    #[tactic(auto, using(crate::proofs::Standing::none_here))]
     pub fn waiting_of(&self, place: u32, tree: u32, bytes: &PageBytes) -> Option<GuestPage>
         ensures { result ≡ waiting_page tree bytes.now self.now.waiting }
     {
@@ -438,6 +440,7 @@ impl Dups {
     }
 
     // The same, where the place is guessed: the dup that stands there is looked at first.
+    #[tactic(auto, using(crate::proofs::Indexed::stands_numbered))]
     #[inline(always)]
     fn place_by(&self, guess: u32, dup: u64) -> Option<u32>
         ensures { result ≡ option_map (λ d. d.row.place) (dup_of dup self.now.dups) }
@@ -582,6 +585,7 @@ impl Dups {
         }
     }
 
+    #[tactic(auto, using(crate::proofs::Indexed::placed_found))]
     fn find(&self, number: u64) -> Option<&Dup>
         ensures { option_copied result ≡ dup_of number self.now.dups }
     {

@@ -169,6 +169,7 @@ impl Groups {
     }
 
     // The same, where nothing is guessed.
+    #[tactic(auto, using(crate::proofs::Standing::reserve_left, crate::proofs::Standing::none_here))]
     #[inline(never)]
     fn search_or_enter(&mut self, alloc: Global, tree: u32, bytes: &PageBytes) -> Result<u32, Fault>
         ensures numbered { IfOk result (λ number. number_of tree bytes.now self.new.numbers.entries ≡ Some number) }
@@ -188,6 +189,7 @@ impl Groups {
     }
 
     // A group that has no number gets one. The one fault is `Memory`, and then nothing changes.
+    #[tactic(auto, using(crate::proofs::Standing::none_here))]
     fn enter(&mut self, alloc: Global, tree: u32, bytes: &PageBytes) -> Result<u32, Fault>
         requires { number_of tree bytes.now self.old.numbers.entries ≡ None }
         ensures numbered { IfOk result (λ number. number_of tree bytes.now self.new.numbers.entries ≡ Some number) }
@@ -277,6 +279,7 @@ impl Groups {
 
     /// A place joins the group of a tree and bytes, which has a number. The guess is tried first. The one fault is
     /// `Memory`, and then nothing changes.
+    #[tactic(auto, using(crate::proofs::Standing::steps))]
     pub fn add(&mut self, guess: u32, tree: u32, bytes: &PageBytes, place: u32) -> Result<(), Fault>
         requires known { is_some (number_of tree bytes.now self.old.numbers.entries) ≡ true }
         requires counted { IsCounted tree bytes.now self.old }
@@ -317,6 +320,7 @@ impl Groups {
     }
 
     /// The page that waits in the group with a number: none where no group has it.
+    #[tactic(auto, using(crate::proofs::Standing::met))]
     pub fn waiting(&self, number: u32) -> Option<GuestPage>
         ensures waits { (t : ℕ) (b : List ℕ) → number_of t b self.now.numbers.entries ≡ Some number
             → result ≡ waiting_page t b (waiting_in self.now) }
@@ -328,6 +332,7 @@ impl Groups {
 
     /// The page that waits in the group with a number from now on: the one that did, or else this one. Where no group
     /// has the number, nothing changes.
+    #[tactic(auto, using(crate::proofs::Standing::met))]
     #[inline(always)]
     pub fn meet(&mut self, number: u32, page: GuestPage) -> GuestPage
         ensures met { (t : ℕ) (b : List ℕ) → number_of t b self.old.numbers.entries ≡ Some number
@@ -356,6 +361,7 @@ impl Groups {
     }
 
     /// The page that waits in a tree with these bytes waits no more, if there is one. The guess is tried first.
+    #[tactic(auto, using(crate::proofs::Standing::met))]
     #[inline(always)]
     pub fn stop_waiting(&mut self, guess: u32, tree: u32, bytes: &PageBytes)
         ensures removed { IsRemoved tree bytes.now (waiting_in self.old) (waiting_in self.new) }

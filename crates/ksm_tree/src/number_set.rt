@@ -53,6 +53,7 @@ impl NumberSet {
     }
 
     /// No numbers, with room for all below a limit. The one fault is `Memory`.
+    #[tactic(auto, using(crate::proofs::NumberBits::none_there))]
     pub fn empty(alloc: Global, limit: u32) -> Result<NumberSet, Fault>
         requires { limit ≤ most_frames }
         ensures wide { IfOk result (λ set. limit ≤ 64 * length set) }
@@ -129,6 +130,7 @@ fn words_for(limit: u32) -> usize
 }
 
 // The heights above so many words, with no number. One that nothing asks for has no words. The one fault is `Memory`.
+#[tactic(auto, using(crate::proofs::NumberBits::all_there))]
 fn upper(alloc: Global, words: usize) -> Result<Upper, Fault>
     requires { words ≤ most_words }
     ensures room { IfOk result (λ set. words < 64 * length set) }

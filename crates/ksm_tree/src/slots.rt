@@ -59,6 +59,7 @@ impl Slots {
     }
 
     /// The dup at a place.
+    #[tactic(auto, using(crate::proofs::OneSlot::seen_slot))]
     pub fn at(&self, place: u32) -> Option<&Dup>
         ensures { option_copied result ≡ dup_at place self.now.dups }
     {
@@ -80,6 +81,7 @@ impl Slots {
     }
 
     /// The places of the open dups, those with an item and fewer than the limit, where they are known for this limit.
+    #[tactic(auto, using(crate::proofs::Opened::open_seen))]
     pub fn open_places(&self, limit: u32) -> Option<&[u32]>
         ensures { IfSome result (λ found. found.now ≡ places_open limit self.now.dups) }
     {
@@ -94,6 +96,7 @@ impl Slots {
     }
 
     /// The least place that no dup has.
+    #[tactic(auto, using(crate::proofs::OneSlot::first_empty))]
     pub fn first_empty(&self) -> Option<u32>
         ensures { result ≡ empty_place self.now.places (rows_of self.now.dups) }
     {
@@ -101,6 +104,7 @@ impl Slots {
     }
 
     /// The least place of a stale dup.
+    #[tactic(auto, using(crate::proofs::OneSlot::first_stale))]
     pub fn first_stale(&self) -> Option<u32>
         ensures { result ≡ option_map (λ d. d.row.place) (find is_stale self.now.dups) }
     {
@@ -108,6 +112,7 @@ impl Slots {
     }
 
     /// How many dups have an item.
+    #[tactic(auto, using(crate::proofs::Opened::three_kinds))]
     pub fn count_live(&self) -> usize
         ensures { result ≡ count_by is_live self.now.dups }
     {
@@ -115,6 +120,7 @@ impl Slots {
     }
 
     /// How many dups are stale.
+    #[tactic(auto, using(crate::proofs::Opened::stale_slots))]
     pub fn count_stale(&self) -> usize
         ensures { result ≡ count_by is_stale self.now.dups }
     {
@@ -132,6 +138,7 @@ impl Slots {
 
     /// A dup with items takes its place, in the stead of one that stood there, with a guess of its group's number. Room
     /// for it is taken.
+    #[tactic(auto, using(crate::proofs::OneSlot::steps, crate::proofs::OneSlot::slot_put))]
     pub fn put(&mut self, dup: Dup, group: u32)
         requires place { dup.row.place < self.old.places }
         requires live { is_live dup ≡ true }
@@ -146,6 +153,7 @@ impl Slots {
     }
 
     /// The dup at a place goes.
+    #[tactic(auto, using(crate::proofs::OneSlot::steps, crate::proofs::OneSlot::slot_emptied))]
     pub fn clear(&mut self, place: u32)
         requires { is_some (dup_at place self.old.dups) ≡ true }
         ensures { self.new ≡ record self.old { dups = without_place place self.old.dups; ready = self.new.ready } }
@@ -157,6 +165,7 @@ impl Slots {
     }
 
     /// A page becomes an item of the dup at a place. The one fault is `Memory`, and then nothing changes.
+    #[tactic(auto, using(crate::proofs::OneSlot::steps))]
     pub fn add_item(&mut self, place: u32, page: GuestPage) -> Result<(), Fault>
         requires known { is_some (dup_at place self.old.dups) ≡ true }
         requires fewer { length (items_in (dup_at place self.old.dups)) < MOST_REFERENCES }
@@ -177,6 +186,7 @@ impl Slots {
     }
 
     /// A page is no item of the dup at a place any more.
+    #[tactic(auto, using(crate::proofs::OneSlot::steps))]
     #[inline(always)]
     pub fn remove_item(&mut self, place: u32, page: GuestPage)
         requires { is_some (dup_at place self.old.dups) ≡ true }

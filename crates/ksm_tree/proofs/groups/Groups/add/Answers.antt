@@ -1,9 +1,6 @@
-use Rattle.ksm_tree.proofs.Names.{ap, refl, rules, sym, with_place, ◌∙◌}
-use Rattle.ksm_tree.proofs.Standing.{rechained, rewritten, same_waiting, stands_under}
+use Rattle.ksm_tree.proofs.Names.{ap, refl, sym, with_place, ◌∙◌}
+use Rattle.ksm_tree.proofs.Standing.{rechained, rewritten, same_waiting}
 use Rattle.ksm_tree.proofs.groups.Groups.add.Goals as goal
-
-pub unreachable-requires-in_default-get_mut : goal.unreachable-requires-in_default-get_mut
-unreachable-requires-in_default-get_mut c = search (rules, stands_under)
 
 pub invariant_of-self : goal.invariant_of-self
 invariant_of-self c =

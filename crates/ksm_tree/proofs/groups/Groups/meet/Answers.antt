@@ -1,5 +1,5 @@
-use Rattle.ksm_tree.proofs.Names.{arith, Group, refl, rules}
-use Rattle.ksm_tree.proofs.Standing.{not_unused, repaged, rewritten, stands_under, waiting_found}
+use Rattle.ksm_tree.proofs.Names.{arith, Group, refl}
+use Rattle.ksm_tree.proofs.Standing.{repaged, rewritten, waiting_found}
 use Rattle.ksm_tree.proofs.groups.Groups.meet.Goals as goal
 
 pub returns-then-group-self-clause-met : goal.returns-then-group-self-clause-met
@@ -26,15 +26,3 @@ returns-else-group-self-clause-added c t b is t' b' =
 pub returns-else-group-self-clause-kept : goal.returns-else-group-self-clause-kept
 returns-else-group-self-clause-kept c t b is waits =
     grind (arith, waiting_found c.args.self.now.lawful t b)
-
-pub returns-in-None-clause-met : goal.returns-in-None-clause-met
-returns-in-None-clause-met c t b is = absurd (search (rules, stands_under))
-
-pub returns-in-None-clause-added : goal.returns-in-None-clause-added
-returns-in-None-clause-added c t b is = absurd (search (rules, stands_under))
-
-pub returns-then-group-self-clause-alone : goal.returns-then-group-self-clause-alone
-returns-then-group-self-clause-alone c unused = absurd (search (rules, not_unused))
-
-pub returns-else-group-self-clause-none : goal.returns-else-group-self-clause-none
-returns-else-group-self-clause-none c unused = absurd (search (rules, not_unused))

@@ -1,5 +1,5 @@
-use Rattle.ksm_tree.proofs.Names.{arith, Group, refl, rules, sym}
-use Rattle.ksm_tree.proofs.Standing.{is_one, repaged, rewritten, stands_under, waiting_found}
+use Rattle.ksm_tree.proofs.Names.{arith, Group, refl, sym}
+use Rattle.ksm_tree.proofs.Standing.{is_one, repaged, rewritten, waiting_found}
 use Rattle.ksm_tree.proofs.groups.Groups.stop_waiting.Goals as goal
 
 pub invariant_of-self : goal.invariant_of-self
@@ -14,9 +14,6 @@ returns-in-Some-get_mut-clause-removed c t b =
       repaged c.args.self.now _ _ now c.in-Some-get_mut.ensures.value refl (λ same. omega arith) _ _
           (sym c.in-Some.ensures) t b,
     )
-
-pub returns-in_default-get_mut-clause-removed : goal.returns-in_default-get_mut-clause-removed
-returns-in_default-get_mut-clause-removed c = search (rules, stands_under)
 
 pub returns-in_default-clause-removed : goal.returns-in_default-clause-removed
 returns-in_default-clause-removed c t b =

@@ -1,10 +1,7 @@
-use Rattle.ksm_tree.proofs.Names.{ap, arith, get, get_or, kept_at, length, None, rules, ◌<◌, ◌∙◌, ◌≡◌}
-use Rattle.ksm_tree.proofs.Shelved.{seen_by, seen_past}
+use Rattle.ksm_tree.proofs.Names.{ap, arith, get, get_or, kept_at, length, None, ◌<◌, ◌∙◌, ◌≡◌}
+use Rattle.ksm_tree.proofs.Shelved.{seen_by}
 use Rattle.ksm_tree.proofs.shelf.Shelf.at.Goals as goal
 use Rattle.ksm_tree.proofs.shelf.Shelf.at.Goals.{In_ok-key}
-
-pub returns-in_err-key : goal.returns-in_err-key
-returns-in_err-key c = search (rules, seen_past)
 
 -- what is at the place lies under its key
 seen : (c : In_ok-key) → kept_at c.args.place (get c.self.inside.dups c.in_ok-key.field-0.now) ≡ get_or c.args.self.now.slots c.args.place None

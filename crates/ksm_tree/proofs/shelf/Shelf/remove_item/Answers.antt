@@ -1,10 +1,7 @@
 use Rattle.ksm_tree.proofs.Names.{ap, change_slot, get_or, items_in, length, None, refl, rules, slots_by, Updates-with_value, with_value, without_item, ◌∙◌, ◌≡◌}
-use Rattle.ksm_tree.proofs.Shelved.{changed, filled_key, items_there, not_none}
+use Rattle.ksm_tree.proofs.Shelved.{changed, items_there, not_none}
 use Rattle.ksm_tree.proofs.shelf.Shelf.remove_item.Goals as goal
 use Rattle.ksm_tree.proofs.shelf.Shelf.remove_item.Goals.{After-remove}
-
-pub index-key-requires : goal.index-key-requires
-index-key-requires c = search (rules, filled_key)
 
 pub unreachable-requires : goal.unreachable-requires
 unreachable-requires c = not_none _ _ _ c.self.view_is c.index-key.ensures c.requires c.in-None.ensures.value
