@@ -28,12 +28,9 @@ found_stands dups found = search (eqb-true, find_passes)
 
 -- where a dup of another group stands, the places of a group stay without that place
 pub not_in_group : (p t : ℕ) (b : List ℕ) (dups : List Dup) {d : Dup} → InPlaceOrder (rows_of dups) → dup_at p dups ≡ Some d → in_group t b d.row ≡ false → without p (group_places t b (rows_of dups)) ≡ group_places t b (rows_of dups)
-not_in_group p t b dups rise found outside = group_unlike p t b _
-    (λ k e lt. grind (
-      arith,
-      found_stands dups found,
-      alone (λ r. r.place == p) _ _ rise (row_at_place p _ found) k e lt,
-    ))
+not_in_group p t b dups rise found outside =
+    let one = alone (λ r. r.place == p) _ _ rise (row_at_place p _ found) in
+    group_unlike p t b _ (λ k e lt. grind (arith, found_stands dups found, one k e lt))
 
 -- slots with other dups
 abbrev pub with_dups : SlotsState → List Dup → Bool → SlotsState
@@ -80,12 +77,8 @@ module _ {s : SlotsState} {next : ℕ} {index : Index} (h : AreIndexed s next in
       let at_p = row_at_place p s.dups found in
       let rise = ordered_filter test rows law.in_place_order in
       let grouped : (t : ℕ) (b : List ℕ) → places_of t b new ≡ group_places t b (filter test rows) = λ t b.
-      grind (
-        arith,
-        not_in_group p t b s.dups law.in_place_order found,
-        own_group t b d.row,
-        chosen (λ (r : DupRow). r.place) (in_group t b) (λ q. not (q == p)) rows,
-      ) in
+      let kept = chosen (λ (r : DupRow). r.place) (in_group t b) (λ q. not (q == p)) rows in
+      grind (arith, kept, not_in_group p t b s.dups law.in_place_order found, own_group t b d.row) in
       let more = more_there p rows d.row law.in_place_order at_p in
       by_rows (filter test rows) (rows_without p s.dups) h.few rise
       (All-filter test (λ r. r.place < s.places) rows law.places_below)
@@ -129,12 +122,9 @@ module _ {s : SlotsState} {next : ℕ} {index : Index} (h : AreIndexed s next in
 -- the dup found at a place is the one that has its number
 pub stands_numbered : (p q : ℕ) (dups : List Dup) (d : Dup) → InPlaceOrder (rows_of dups) → dup_at p dups ≡ Some d → d.row.number ≡ q → Some p ≡ option_map (λ d. d.row.place) (dup_of q dups)
 stands_numbered p q dups d rise found is =
+    let only = alone (λ r. r.place == p) _ _ rise (row_at_place p _ found) in
     let one = all_rows (λ r. (r.place == p) ≡ (r.number == q)) dups
-    (λ k e lt. grind (
-      arith,
-      found_stands dups found,
-      alone (λ r. r.place == p) _ _ rise (row_at_place p _ found) k e lt,
-    )) in
+    (λ k e lt. grind (arith, found_stands dups found, only k e lt)) in
     grind (arith, found_stands dups found, find_alike (stands_at p) (has_number q) dups one)
 
 -- the dup found at a place, if it passes a test
@@ -146,12 +136,9 @@ passing test (Some d) = if test d then Some d else None
 pub found_passing : (p : ℕ) (test : Dup → Bool) (dups : List Dup) → InPlaceOrder (rows_of dups) → find (λ d. stands_at p d && test d) dups ≡ passing test (dup_at p dups)
 found_passing p test [] rise = refl
 found_passing p test (d ∷ dups) rise =
-    grind (
-      arith,
-      find_nothing (λ e. stands_at p e && test e) dups,
-      all_rows (λ r. d.row.place < r.place) dups (λ k e lt. (pairs_head Lower d.row (rows_of dups) rise k e lt).0),
-      found_passing p test dups (pairs_tail Lower d.row (rows_of dups) rise),
-    )
+    let behind = all_rows (Lower d.row) dups (pairs_head Lower d.row (rows_of dups) rise) in
+    let rest = found_passing p test dups (pairs_tail Lower d.row (rows_of dups) rise) in
+    grind (arith, find_nothing (λ e. stands_at p e && test e) dups, behind)
 
 -- how the index stays beside a dup that is found by its number
 pub ruleset steps = (room_indexed, stays_indexed, told_items, told_there)

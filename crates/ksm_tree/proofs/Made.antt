@@ -97,22 +97,13 @@ module _ {s : SlotsState} {next : ℕ} {index : Index} (new : Index) (dup : Dup)
         let older : old.row.number < dup.row.number = find_all (λ r. r.place == p) (λ r. r.number < dup.row.number) rows
         old.row row_found fresh in
         let grouped : (t : ℕ) (b : List ℕ) → places_of t b new ≡ group_places t b all = λ t b.
-        grind (
-          arith,
-          not_in_group p t b s.dups rise (sym found),
-          own_group t b dup.row,
-          own_group t b old.row,
-          group_joined t b dup.row rows,
-          group_passed t b dup.row rows rise,
-        ) in
+        let joined = group_joined t b dup.row rows in
+        let passed = group_passed t b dup.row rows rise in
+        grind (arith, joined, passed, not_in_group p t b s.dups rise (sym found), own_group) in
         made ready (totals_swapped there here rise less_rise new_rise first (grind (arith, own_group)) h.counted)
-        (λ q. grind (
-          arith,
-          nat_tests,
-          place_gone p q rows rise row_found,
-          place_new dup.row rows fresh,
-          place_kept q dup.row rows rise,
-        )) grouped
+        (λ q.
+        let kept = place_kept q dup.row rows rise in
+        grind (arith, kept, nat_tests, place_gone p q rows rise row_found, place_new dup.row rows fresh)) grouped
 
 -- once a dup is made, callers see that dup among the others, and the next number one higher
 pub seen_made : (s : SlotsState) (next : ℕ) (index new : Index) (dup : ℕ → Dup) (ready : Bool) {old : DupsState} → dups_seen s next index ≡ old → SameWaits index.groups new.groups

@@ -4,11 +4,9 @@ use Rattle.ksm_tree.proofs.Names.{ℕ, ◌∙◌, ◌≡◌}
 
 -- contents that the order does not tell apart are one
 pub same_content : {p q : Content} → is_at (content_order p) q ≡ true → p ≡ q
-same_content {p} {q} same = grind (
-  arith,
-  exact_pairs _ _ exact_unsigned exact_bytes (p.tree, p.bytes)
-      (q.tree, q.bytes) ((Equal-is (content_order p q)).0 same),
-)
+same_content {p} {q} same =
+    let one = exact_pairs _ _ exact_unsigned exact_bytes (p.tree, p.bytes) (q.tree, q.bytes) in
+    grind (arith, one ((Equal-is (content_order p q)).0 same))
 
 -- a slot is not both empty and full
 pub full : {X : Type 0} (x : X) (slot : Option X) → slot ≡ None → slot ≡ Some x → ⊥

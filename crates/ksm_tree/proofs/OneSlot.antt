@@ -128,36 +128,20 @@ module _ {slots : Slots} {counts : List ℕ} {empty stale : CountedSet} (h : Are
   -- the least place in the set of the empty ones is the least that no dup has
   pub first_empty : (found : Option ℕ) → FoundLeast empty slots found → found ≡ empty_place (length slots) (rows_of (present slots))
   first_empty None none =
-      grind (
-        arith,
-        get_or_past,
-        empty_first 0 (length slots) slots h.placed (before h.empties (omega arith) none)
-            (omega arith),
-      )
+      let first = empty_first 0 (length slots) slots h.placed (before h.empties (omega arith) none) (omega arith) in
+      grind (arith, get_or_past, first)
   first_empty (Some p) least =
-      grind (
-        arith,
-        least.there,
-        empty_first 0 p slots h.placed
-            (before h.empties (omega (arith, least.high_is)) least.least) (omega (arith, least.high_is)),
-      )
+      let none = before h.empties (omega (arith, least.high_is)) least.least in
+      grind (arith, least.there, empty_first 0 p slots h.placed none (omega (arith, least.high_is)))
 
   -- the least place in the set of the stale ones is that of the first stale dup
   pub first_stale : (found : Option ℕ) → FoundLeast stale slots found → found ≡ option_map (λ d. d.row.place) (find is_stale (present slots))
   first_stale None none =
-      grind (
-        arith,
-        get_or_past,
-        stale_first 0 (length slots) slots h.placed (before h.stales (omega arith) none)
-            (omega arith) (λ less. absurd (omega arith)),
-      )
+      let first = stale_first 0 (length slots) slots h.placed (before h.stales (omega arith) none) (omega arith) in
+      grind (arith, get_or_past, first (λ less. absurd (omega arith)))
   first_stale (Some p) least =
-      grind (
-        arith,
-        least.there,
-        stale_first 0 p slots h.placed
-            (before h.stales (omega (arith, least.high_is)) least.least) (omega (arith, least.high_is)),
-      )
+      let none = before h.stales (omega (arith, least.high_is)) least.least in
+      grind (arith, least.there, stale_first 0 p slots h.placed none (omega (arith, least.high_is)))
 
   -- the slots are right once one changes, its count with it, and the sets follow
   pub slots_set : (p : ℕ) {n : ℕ} (s : Option Dup) {empty' stale' : CountedSet} → p < length slots → n ≡ count_in s → ArePlaced p (s ∷ [])
@@ -221,14 +205,11 @@ had_item page (p ∷ pages) found = grind arith
 -- taking a page out of items of which it is none changes no slot
 same_items : (page : GuestPage) (s : Option Dup) → has_item page (items_in s) ≡ false → option_map (change_items_of (without_item page)) s ≡ s
 same_items page None absent = refl
-same_items page (Some d) absent = grind (
-  arith,
-  absent_kept pages_ordered (λ q. q) page d.items
-      (none_found _ d.items absent),
-)
+same_items page (Some d) absent =
+    grind (arith, absent_kept pages_ordered (λ q. q) page d.items (none_found _ d.items absent))
 
 pub slots_same : (p : ℕ) (page : GuestPage) (slots : Slots) → has_item page (items_in (get_or slots p None)) ≡ false → change_slot p (without_item page) slots ≡ slots
 slots_same p page slots absent = grind (arith, same_items, set-get_or)
 
--- what a place where a dup is seen has
-pub ruleset steps = (slot_filled, seen_slot, count_within, seen_within, may_be_marked, view_changed, length-set)
+-- what the slots say of the dups that are seen
+pub ruleset steps = (count_within, first_empty, first_stale, length-set, may_be_marked, seen_slot, seen_within, slot_emptied, slot_filled, slot_put, view_changed)

@@ -91,3 +91,6 @@ pub filled : (p key : ℕ) (keys : List ℕ) (old new : Slab Kept) (s : ShelfSta
 filled p key keys old new s view kept is within vacant fills =
     let moved = moved_by 0 p p keys (omega arith) within fills (λ q apart. grind arith) in
     grind (arith, moved)
+
+-- what the keys say of the slots
+pub ruleset steps = (emptied, filled_key, many, none_by, same_slots, seen_by, seen_past)

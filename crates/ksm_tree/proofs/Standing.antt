@@ -195,8 +195,5 @@ pub reserve_left : (old : Groups) {g : Groups} {tree : ℕ} {bytes : List ℕ} �
     → KeepsReserve (is_used_in g) tree bytes old.numbers.entries g.numbers.entries old.most g.most
 reserve_left old is = grind (arith)
 
--- how the groups stay where one is written
-pub ruleset steps = (rewritten, same_waiting, stands_under)
-
--- what waits in a group that is found by its number
-pub ruleset met = (rewritten, repaged, waiting_found, stands_under, not_unused, is_one)
+-- what a number and a content say of the groups
+pub ruleset steps = (is_one, none_here, not_unused, reserve_left, stands_under)

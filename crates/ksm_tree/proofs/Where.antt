@@ -47,8 +47,5 @@ module _ {X : Type 0} (test : X → Bool) where
   where_next d k p (suc i) (y ∷ xs) is within =
       grind (arith, nat_tests, add-one i, add-one (suc i), where_next d (suc k) p i xs (omega arith) (omega arith))
 
--- the places that pass, as one element changes
-pub ruleset steps = (where_room, where_same, where_set, length-set, get_or_default)
-
--- the places that pass among the first elements
-pub ruleset next_steps = (where_next, length-take)
+-- the places that pass, as one element changes, and among the first elements
+pub ruleset steps = (get_or_default, length-set, length-take, where_room, where_same, where_set, where_short)

@@ -168,7 +168,7 @@ impl<S: Bits, const MOST: usize> Words<S, MOST> {
 impl<S: Bits, const MOST: usize> Bits for Words<S, MOST> {
     ghost words = { λ w. w };
 
-    #[tactic(auto, using(crate::proofs::NumberBits::marks_more, crate::proofs::NumberBits::summed_put, crate::proofs::NumberBits::put_there))]
+    #[tactic(auto, using(crate::proofs::NumberBits::put_there))]
     #[inline(always)]
     fn add(&mut self, number: u32) {
         let at = self.word_of(number);

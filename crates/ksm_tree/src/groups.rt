@@ -8,6 +8,8 @@
 //! the last sweep, in a large table four for each place: then all such groups go, so a sweep costs each new group a few
 //! steps. A page waits as long as the pass goes on whose number stands beside it, so
 //! when a pass begins none waits. How many groups are chains is kept beside them, so the counters of chains are read.
+#![tactic(auto, using(crate::proofs::Standing::steps))]
+
 ghost use Rattle.std.specs.Prelude.{◌≡◌, ◌≢◌, ◌⊎◌, ℕ, ◌+◌, ◌<◌, ◌≤◌, ◌==◌, ◌&&◌, List, [], Some, None, IfErr, IfOk};
 ghost use Rattle.std.specs.Prelude.{IsTrue, OnOk, OnErr, bytes_eq, false, is_some, length, true, option_copied};
 ghost use Rattle.std.specs.Option.{ForSome, unwrap_or};
@@ -169,7 +171,6 @@ impl Groups {
     }
 
     // The same, where nothing is guessed.
-    #[tactic(auto, using(crate::proofs::Standing::reserve_left, crate::proofs::Standing::none_here))]
     #[inline(never)]
     fn search_or_enter(&mut self, alloc: Global, tree: u32, bytes: &PageBytes) -> Result<u32, Fault>
         ensures numbered { IfOk result (λ number. number_of tree bytes.now self.new.numbers.entries ≡ Some number) }
@@ -189,7 +190,6 @@ impl Groups {
     }
 
     // A group that has no number gets one. The one fault is `Memory`, and then nothing changes.
-    #[tactic(auto, using(crate::proofs::Standing::none_here))]
     fn enter(&mut self, alloc: Global, tree: u32, bytes: &PageBytes) -> Result<u32, Fault>
         requires { number_of tree bytes.now self.old.numbers.entries ≡ None }
         ensures numbered { IfOk result (λ number. number_of tree bytes.now self.new.numbers.entries ≡ Some number) }
@@ -279,7 +279,6 @@ impl Groups {
 
     /// A place joins the group of a tree and bytes, which has a number. The guess is tried first. The one fault is
     /// `Memory`, and then nothing changes.
-    #[tactic(auto, using(crate::proofs::Standing::steps))]
     pub fn add(&mut self, guess: u32, tree: u32, bytes: &PageBytes, place: u32) -> Result<(), Fault>
         requires known { is_some (number_of tree bytes.now self.old.numbers.entries) ≡ true }
         requires counted { IsCounted tree bytes.now self.old }
@@ -320,7 +319,6 @@ impl Groups {
     }
 
     /// The page that waits in the group with a number: none where no group has it.
-    #[tactic(auto, using(crate::proofs::Standing::met))]
     pub fn waiting(&self, number: u32) -> Option<GuestPage>
         ensures waits { (t : ℕ) (b : List ℕ) → number_of t b self.now.numbers.entries ≡ Some number
             → result ≡ waiting_page t b (waiting_in self.now) }
@@ -332,7 +330,6 @@ impl Groups {
 
     /// The page that waits in the group with a number from now on: the one that did, or else this one. Where no group
     /// has the number, nothing changes.
-    #[tactic(auto, using(crate::proofs::Standing::met))]
     #[inline(always)]
     pub fn meet(&mut self, number: u32, page: GuestPage) -> GuestPage
         ensures met { (t : ℕ) (b : List ℕ) → number_of t b self.old.numbers.entries ≡ Some number
@@ -361,7 +358,6 @@ impl Groups {
     }
 
     /// The page that waits in a tree with these bytes waits no more, if there is one. The guess is tried first.
-    #[tactic(auto, using(crate::proofs::Standing::met))]
     #[inline(always)]
     pub fn stop_waiting(&mut self, guess: u32, tree: u32, bytes: &PageBytes)
         ensures removed { IsRemoved tree bytes.now (waiting_in self.old) (waiting_in self.new) }

@@ -4,6 +4,8 @@
 //! The counts stand by themselves, four bytes each, so a walk along a chain reads no dup but one that may be joined.
 //! The open places are kept only while they are asked for: a store to a merged page may open or close one, and where
 //! all chains are short that costs more than it saves.
+#![tactic(auto, using(crate::proofs::Where::steps, crate::proofs::Opened::none))]
+
 ghost use Rattle.std.specs.Prelude.{◌≡◌, ℕ, ◌<◌, ◌≤◌, All, IfErr, IfOk, IfSome, length, not, replicate, slice_index};
 ghost use Rattle.std.specs.Prelude.{slice_set};
 ghost use Rattle.std.specs.List.{list_all};
@@ -40,7 +42,6 @@ impl Model for Counts {
 impl Counts {
     /// No items at so many places, with room for each of them among the open ones if they are few. The one fault is
     /// `Memory`.
-    #[tactic(auto, using(crate::proofs::Opened::none_open))]
     pub fn open(alloc: Global, places: u32) -> Result<Counts, Fault>
         ensures none { IfOk result (λ counts. counts ≡ replicate places 0) }
         ensures memory { IfErr result (λ fault. fault ≡ Fault.Memory) }
@@ -72,7 +73,6 @@ impl Counts {
 
     /// The open places are kept from now on by this limit, if there is room for all. By the limit 0 no place is open,
     /// and nothing has to be kept.
-    #[tactic(auto, using(crate::proofs::Opened::none_kept))]
     pub fn keep_open(&mut self, limit: u32)
         requires { length self.old ≤ MOST_FRAMES }
         ensures { self.new ≡ self.old }
@@ -90,7 +90,6 @@ impl Counts {
     }
 
     /// Sets how many items there are at a place.
-    #[tactic(auto, using(crate::proofs::Where::steps))]
     pub fn set(&mut self, place: u32, count: u32)
         requires { place < length self.old }
         ensures { self.new ≡ slice_set self.old place count }
@@ -122,7 +121,6 @@ fn is_open(limit: u32, count: u32) -> bool
 }
 
 /// Whether none of the places is open by a limit.
-#[tactic(auto, using(crate::proofs::Where::where_short))]
 #[inline(always)]
 pub fn none_open(limit: u32, counts: &[u32], places: &[u32]) -> bool
     requires { All (λ p. p < length counts.now) places.now }
@@ -139,7 +137,6 @@ pub fn none_open(limit: u32, counts: &[u32], places: &[u32]) -> bool
 }
 
 /// Fills `open_at` with the places that are open by a limit.
-#[tactic(auto, using(crate::proofs::Where::where_short, crate::proofs::Where::next_steps))]
 fn open_anew(limit: u32, counts: &[u32], open_at: &mut Places)
     requires few { length counts.now ≤ MOST_FRAMES }
     requires room { length counts.now ≤ open_at.old.list.capacity }

@@ -1,4 +1,6 @@
 //! Sets of the numbers of frames, or of places, as words of bits with as many heights above them as their limit wants.
+#![tactic(auto, using(crate::proofs::NumberBits::replicated))]
+
 ghost use Rattle.std.specs.Prelude.{◌≡◌, ◌*◌, ◌<◌, ◌≤◌, ℕ, true, false, length, IfErr, IfOk, MatchOption};
 ghost use Rattle.ksm_base.specs.declared.limits.TheConstants.{MOST_FRAMES as most_frames};
 ghost use Rattle.ksm_tree.specs.declared.number_set.TheConstants.{WORDS as most_words};
@@ -53,7 +55,6 @@ impl NumberSet {
     }
 
     /// No numbers, with room for all below a limit. The one fault is `Memory`.
-    #[tactic(auto, using(crate::proofs::NumberBits::none_there))]
     pub fn empty(alloc: Global, limit: u32) -> Result<NumberSet, Fault>
         requires { limit ≤ most_frames }
         ensures wide { IfOk result (λ set. limit ≤ 64 * length set) }
@@ -130,7 +131,6 @@ fn words_for(limit: u32) -> usize
 }
 
 // The heights above so many words, with no number. One that nothing asks for has no words. The one fault is `Memory`.
-#[tactic(auto, using(crate::proofs::NumberBits::all_there))]
 fn upper(alloc: Global, words: usize) -> Result<Upper, Fault>
     requires { words ≤ most_words }
     ensures room { IfOk result (λ set. words < 64 * length set) }

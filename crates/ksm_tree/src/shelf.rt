@@ -3,6 +3,8 @@
 //!
 //! A key is compared before it is believed: a dup is at a place if it stands there by its row. So nothing has to be
 //! written where no dup is, and a key that leads to a dup of another place leads nowhere.
+#![tactic(auto, using(crate::proofs::Shelved::steps))]
+
 ghost use Rattle.std.specs.Prelude.{◌≡◌, ◌<◌, true, false, None, Some, length, option_copied, option_map, replicate};
 ghost use Rattle.std.specs.Prelude.{if◌then◌else◌, is_some, slice_index_or, slice_set, IfErr, IfOk, OnErr, OnOk};
 ghost use Rattle.ksm_base.specs.declared.limits.TheConstants.{MOST_REFERENCES};
@@ -49,7 +51,6 @@ impl Model for Shelf {
 
 impl Shelf {
     /// So many empty places. The one fault is `Memory`.
-    #[tactic(auto, using(crate::proofs::Shelved::none_by))]
     pub fn open(alloc: Global, places: u32) -> Result<Shelf, Fault>
         ensures empty { IfOk result (λ shelf. shelf.slots ≡ replicate places None) }
         ensures memory { IfErr result (λ fault. fault ≡ Fault.Memory) }
@@ -61,7 +62,6 @@ impl Shelf {
     }
 
     /// How many places there are.
-    #[tactic(auto, using(crate::proofs::Shelved::many))]
     #[inline(always)]
     pub fn len(&self) -> usize
         ensures { result ≡ length self.now.slots }
@@ -70,7 +70,6 @@ impl Shelf {
     }
 
     /// The dup at a place.
-    #[tactic(auto, using(crate::proofs::Shelved::seen_past, crate::proofs::Shelved::seen_by))]
     #[inline(always)]
     pub fn at(&self, place: u32) -> Option<&Dup>
         ensures { option_copied result ≡ slice_index_or self.now.slots place None }
@@ -96,7 +95,6 @@ impl Shelf {
     }
 
     /// Takes room for one more dup. The one fault is `Memory`, and then nothing changes.
-    #[tactic(auto, using(crate::proofs::Shelved::same_slots))]
     pub fn reserve(&mut self) -> Result<(), Fault>
         ensures slots { self.new.slots ≡ self.old.slots }
         ensures ready { OnOk result (self.new.ready ≡ true) }
@@ -122,7 +120,6 @@ impl Shelf {
     }
 
     /// The dup at a place goes, if there is one.
-    #[tactic(auto, using(crate::proofs::Shelved::filled_key, crate::proofs::Shelved::emptied))]
     pub fn clear(&mut self, place: u32)
         ensures slots { self.new.slots ≡ slice_set self.old.slots place None }
         ensures ready { self.old.ready ≡ true → self.new.ready ≡ true }
@@ -135,7 +132,6 @@ impl Shelf {
 
     /// A page becomes an item of the dup at a place. Gives how many items that has then. The one fault is `Memory`, and
     /// then nothing changes.
-    #[tactic(auto, using(crate::proofs::Shelved::filled_key))]
     #[inline(always)]
     pub fn add_item(&mut self, place: u32, page: GuestPage) -> Result<u32, Fault>
         requires known { is_some (slice_index_or self.old.slots place None) ≡ true }
@@ -158,7 +154,6 @@ impl Shelf {
     }
 
     /// A page is no item of the dup at a place any more. Gives how many items are left, if it was one.
-    #[tactic(auto, using(crate::proofs::Shelved::filled_key))]
     #[inline(always)]
     pub fn remove_item(&mut self, place: u32, page: GuestPage) -> Option<u32>
         requires { is_some (slice_index_or self.old.slots place None) ≡ true }

@@ -1,4 +1,6 @@
 //! The dups by their places, a slot for each: a place leads to its dup in two steps, and an empty one takes few bytes.
+#![tactic(auto, using(crate::proofs::OneSlot::steps, crate::proofs::Opened::counts))]
+
 ghost use Rattle.std.specs.Prelude.{◌≡◌, ℕ, ◌<◌, ◌≤◌, [], true, false, None, Some};
 ghost use Rattle.std.specs.Prelude.{count_by, find, length, option_copied, option_map};
 ghost use Rattle.std.specs.Prelude.{is_some, slice_index_or, IfErr, IfOk, IfSome, OnErr, OnOk};
@@ -59,7 +61,6 @@ impl Slots {
     }
 
     /// The dup at a place.
-    #[tactic(auto, using(crate::proofs::OneSlot::seen_slot))]
     pub fn at(&self, place: u32) -> Option<&Dup>
         ensures { option_copied result ≡ dup_at place self.now.dups }
     {
@@ -81,7 +82,6 @@ impl Slots {
     }
 
     /// The places of the open dups, those with an item and fewer than the limit, where they are known for this limit.
-    #[tactic(auto, using(crate::proofs::Opened::open_seen))]
     pub fn open_places(&self, limit: u32) -> Option<&[u32]>
         ensures { IfSome result (λ found. found.now ≡ places_open limit self.now.dups) }
     {
@@ -96,7 +96,6 @@ impl Slots {
     }
 
     /// The least place that no dup has.
-    #[tactic(auto, using(crate::proofs::OneSlot::first_empty))]
     pub fn first_empty(&self) -> Option<u32>
         ensures { result ≡ empty_place self.now.places (rows_of self.now.dups) }
     {
@@ -104,7 +103,6 @@ impl Slots {
     }
 
     /// The least place of a stale dup.
-    #[tactic(auto, using(crate::proofs::OneSlot::first_stale))]
     pub fn first_stale(&self) -> Option<u32>
         ensures { result ≡ option_map (λ d. d.row.place) (find is_stale self.now.dups) }
     {
@@ -112,7 +110,6 @@ impl Slots {
     }
 
     /// How many dups have an item.
-    #[tactic(auto, using(crate::proofs::Opened::three_kinds))]
     pub fn count_live(&self) -> usize
         ensures { result ≡ count_by is_live self.now.dups }
     {
@@ -120,7 +117,6 @@ impl Slots {
     }
 
     /// How many dups are stale.
-    #[tactic(auto, using(crate::proofs::Opened::stale_slots))]
     pub fn count_stale(&self) -> usize
         ensures { result ≡ count_by is_stale self.now.dups }
     {
@@ -138,7 +134,6 @@ impl Slots {
 
     /// A dup with items takes its place, in the stead of one that stood there, with a guess of its group's number. Room
     /// for it is taken.
-    #[tactic(auto, using(crate::proofs::OneSlot::steps, crate::proofs::OneSlot::slot_put))]
     pub fn put(&mut self, dup: Dup, group: u32)
         requires place { dup.row.place < self.old.places }
         requires live { is_live dup ≡ true }
@@ -153,7 +148,6 @@ impl Slots {
     }
 
     /// The dup at a place goes.
-    #[tactic(auto, using(crate::proofs::OneSlot::steps, crate::proofs::OneSlot::slot_emptied))]
     pub fn clear(&mut self, place: u32)
         requires { is_some (dup_at place self.old.dups) ≡ true }
         ensures { self.new ≡ record self.old { dups = without_place place self.old.dups; ready = self.new.ready } }
@@ -165,7 +159,6 @@ impl Slots {
     }
 
     /// A page becomes an item of the dup at a place. The one fault is `Memory`, and then nothing changes.
-    #[tactic(auto, using(crate::proofs::OneSlot::steps))]
     pub fn add_item(&mut self, place: u32, page: GuestPage) -> Result<(), Fault>
         requires known { is_some (dup_at place self.old.dups) ≡ true }
         requires fewer { length (items_in (dup_at place self.old.dups)) < MOST_REFERENCES }
@@ -186,7 +179,6 @@ impl Slots {
     }
 
     /// A page is no item of the dup at a place any more.
-    #[tactic(auto, using(crate::proofs::OneSlot::steps))]
     #[inline(always)]
     pub fn remove_item(&mut self, place: u32, page: GuestPage)
         requires { is_some (dup_at place self.old.dups) ≡ true }
