@@ -39,8 +39,7 @@ count_split : (s p q : DupRow → Bool) (b : Bool) (rows : List DupRow) → All 
     → count_by p rows ≡ (if b then count_by s rows else 0) + count_by q rows
 count_split s p q b [] each = grind arith
 count_split s p q b (r ∷ rows) each =
-    let rest = count_split s p q b rows (λ k e lt. each (suc k) e (omega arith)) in
-    grind (arith, each 0 r (omega arith), count_more p r rows, count_more q r rows, count_more s r rows)
+    grind (arith, count_more, each 0 r, count_split s p q b rows (λ k e lt. each (suc k) e (omega arith)))
 
 -- ---------------------------------------------------------------- one group
 
@@ -122,20 +121,12 @@ module _ (t : ℕ) (b : List ℕ) where
 
     -- one row more in the group changes nothing of how many dups of other groups are in chains or lead them
     apart_kept : (apart (in_chain more) more ≡ apart (in_chain less) less) × (apart (leads more) more ≡ apart (leads less) less)
-    apart_kept =
-        let dups = count_alike (λ d. not (of_it d) && in_chain more d) (λ d. not (of_it d) && in_chain less d) less
-        (λ k e lt. grind (arith, same_size (get_or less k e))) in
-        let chains = count_alike (λ d. not (of_it d) && leads more d) (λ d. not (of_it d) && leads less d) less
-        (λ k e lt. let d = get_or less k e in
-        grind (arith, same_size d)) in
-        (grind (arith, dups), grind (arith, chains))
+    apart_kept = (grind (arith, count_alike, same_size), grind (arith, count_alike, same_size))
 
     -- the totals of rows change as the group does that has one row more
     pub regrouped : IsRegrouped (length (group_places t b less)) (length (group_places t b more)) (totals_of less) (totals_of more)
-    regrouped = rw (places_size less, places_size more) (record {
-      chains = omega (arith, apart_kept.1, chains_parted less rise, chains_parted more more_rise);
-      dups = omega (arith, apart_kept.0, dups_parted less, dups_parted more);
-    })
+    regrouped = rw (places_size less, places_size more)
+        (omega (arith, apart_kept, chains_parted less rise, chains_parted more more_rise, dups_parted less, dups_parted more))
 
     pub totals_more : {u v : Totals} → IsRegrouped (length (group_places t b less)) (length (group_places t b more)) u v → AreTotals less u → AreTotals more v
     totals_more change are = omega (arith, regrouped)
@@ -164,13 +155,7 @@ totals_few p {rows} few below rise are =
 -- the totals have room for each group as it is
 pub totals_tell : (t : ℕ) (b : List ℕ) (p : ℕ) {rows : List DupRow} {totals : Totals} → p ≤ MOST_FRAMES → All (λ r. r.place < p) rows → InPlaceOrder rows → AreTotals rows totals → Tells (length (group_places t b rows)) totals
 totals_tell t b p {rows} {totals} few below rise are =
-    let small = totals_few p few below rise are in
-    rw (places_size t b rows) (record {
-      chains = omega (arith, chains_parted t b _ rise);
-      dups = omega (arith, dups_parted t b rows);
-      few = omega (arith, small.0);
-      small = omega (arith, small.1);
-    })
+    rw (places_size t b rows) (omega (arith, chains_parted t b _ rise, dups_parted t b rows, totals_few p few below rise are))
 
 -- the totals tell of a group of any size that they told of, once a group has as many dups as before or one more
 grown_tells : {m n k : ℕ} {t u : Totals} → IsRegrouped m n t u → (m ≤ n) × (n ≤ m + 1) → (t.chains ≤ MOST_FRAMES) × (t.dups ≤ MOST_FRAMES) → Tells k t → Tells k u

@@ -2,7 +2,7 @@
 use Rattle.ksm_tree.proofs.Names.{All, All-filter, ap, AreIndexed, AreTotals, arith, Bool, change_at, change_items, content_of, Dup, dup_at, dup_of, DupRow, dups_seen, DupsState, eqb-true, false}
 use Rattle.ksm_tree.proofs.Names.{filter, find, find_nothing, find_passes, get, Group, group_places, GuestPage, has_number, if◌then◌else◌, in_group, Index, InPlaceOrder, is_some, IsCountedAnew}
 use Rattle.ksm_tree.proofs.Names.{items_in, length, List, MOST_FRAMES, None, not, number_of, Option, option_map, pairs_head, pairs_tail, place_of, places_of, refl, row_place, rows_of, rules}
-use Rattle.ksm_tree.proofs.Names.{SlotsState, Some, stands_at, Tells, true, without, without_place, ℕ, [], ◌&&◌, ◌<◌, ◌==◌, ◌∷◌, ◌≡◌, ◌≤◌}
+use Rattle.ksm_tree.proofs.Names.{SlotsState, sym, ◌∙◌, Some, stands_at, Tells, true, without, without_place, ℕ, [], ◌&&◌, ◌<◌, ◌==◌, ◌∷◌, ◌≡◌, ◌≤◌}
 use Rattle.ksm_tree.specs.Groups.{IsMoved}
 use Rattle.ksm_tree.proofs.Alike.{chosen, find_alike, map_alike}
 use Rattle.ksm_tree.proofs.Grouped.{more_there, totals_less, totals_tell}
@@ -102,7 +102,10 @@ module _ (q : ℕ) {p : ℕ} {s : SlotsState} {next : ℕ} {index : Index} {seen
 
   -- a change of the items at that place is seen as a change of the number's items
   pub told_changed : (f : List GuestPage → List GuestPage) (ready : Bool) → dups_seen (with_dups s (change_at p f s.dups) ready) next index ≡ record seen { dups = change_items q f seen.dups }
-  told_changed f ready = grind (arith, one_dup, row_placed, map_alike)
+  told_changed f ready =
+      let one = one_dup q s.dups h.lawful.in_place_order (row_placed q s.dups ∙ sym is_inside) in
+      rw (← view) (ap (λ dups. dups_seen (with_dups s dups ready) next index)
+      (map_alike _ _ s.dups (λ k d lt. grind (arith, one k d lt))))
 
 -- the group under the number of a tree and bytes is of these, and has the places of their dups
 module _ {s : SlotsState} {next : ℕ} {index : Index} (h : AreIndexed s next index) (tree : ℕ) (bytes : List ℕ) where

@@ -69,18 +69,16 @@ module _ {s : SlotsState} {next : ℕ} {index : Index} (new : Index) (dup : Dup)
     joined_in t b inside = grind (arith, own_group, group_joined)
 
     first : IsRegrouped (length (group_places dup.row.tree dup.row.bytes rows)) (length (group_places dup.row.tree dup.row.bytes all)) index.groups.totals mid.groups.totals
-    first = grind (arith, joined_in, self_group)
+    first = rw (← h.grouped dup.row.tree dup.row.bytes, ← joined_in dup.row.tree dup.row.bytes (self_group dup.row))
+        entered.totals
 
     -- once the new dup is entered beside the old one at its place, the totals are right for the group of the old one
     pub told_between : IsCounted old.row.tree old.row.bytes mid.groups
     told_between =
-        let r = dup.row in
-        let t = old.row.tree in
-        let b = old.row.bytes in
         let more = there in
         let also = here in
-        let size : length (places_of t b mid) ≡ length (places_of t b index) =
-        grind (arith, places_size t b, self_group old.row, joined_in t b, own_group t b r) in
+        let size : length (places_of old.row.tree old.row.bytes mid) ≡ length (places_of old.row.tree old.row.bytes index) =
+        grind (arith, places_size, self_group old.row, joined_in, own_group) in
         rw size (totals_between there here rise less_rise new_rise first
         (totals_few s.places h.few h.lawful.places_below rise h.counted) (told h _ _))
 

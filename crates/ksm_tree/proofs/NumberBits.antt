@@ -1,8 +1,7 @@
 -- What the words of a set, and their summary, say of its numbers.
-use Rattle.ksm_tree.proofs.Names.{get_or_default, bit_at_ones, nat_tests}
-use Rattle.ksm_tree.proofs.Names.{AreSummed, arith, bit_and, bit_at, bit_at_clear_other, bit_at_clear_same, bit_at_set_other, bit_at_set_same, bit_or, Bool, false, get_or, get_or-replicate}
-use Rattle.ksm_tree.proofs.Names.{get_or-set_other, get_or-set_same, get_or_past, has, HasNoBit, HasNone, IsLeast, IsLowestBit, IsSummed, length, length-set, List, Marks, MatchOption, not, Option}
-use Rattle.ksm_tree.proofs.Names.{replicate, set, shr-shr, true, w64, ℕ, ◌%◌, ◌*◌, ◌+◌, ◌-◌, ◌/◌, ◌<◌, ◌==◌, ◌^◌, ◌≡◌, ◌≢◌, ◌≤◌}
+use Rattle.ksm_tree.proofs.Names.{get_or_default, bit_at_ones, nat_tests, AreSummed, arith, bit_and, bit_at, bit_at_clear_other, bit_at_clear_same, bit_at_set_other, bit_at_set_same, bit_or, Bool}
+use Rattle.ksm_tree.proofs.Names.{false, get_or, get_or-replicate, get_or-set_other, get_or-set_same, get_or_past, has, HasNoBit, HasNone, IsLeast, IsLowestBit, IsSummed, length, length-set, List}
+use Rattle.ksm_tree.proofs.Names.{Marks, MatchOption, not, Option, replicate, set, shr-shr, true, w64, ℕ, ◌%◌, ◌*◌, ◌+◌, ◌-◌, ◌/◌, ◌<◌, ◌==◌, ◌^◌, ◌≡◌, ◌≢◌, ◌≤◌}
 use Rattle.std.proofs.lemmas.List.{length-replicate}
 
 module _ (words : List ℕ) where

@@ -86,8 +86,7 @@ module _ (knobs : Knobs) (rows : List Row) (w : List WaitingPage) (are : AreWait
   -- the waiting pages are those of the rows, once the row of a page is gone and the page has stopped waiting
   pub row_dropped : (new : List WaitingPage) (page : GuestPage) (old : Row) → row_at page rows ≡ Some old
       → IsStopped knobs old w new → AreWaiting knobs (without_page page rows) new
-  row_dropped new page old found stopped t b q =
-      grind (arith, at_without page q rows, are t b page)
+  row_dropped new page old found stopped t b q = grind (arith, at_without page q rows, are t b page)
 
   -- the waiting pages are those of the rows, once a row waits no more and its page has stopped
   pub row_stopped : (new : List WaitingPage) (row old : Row) → row_at row.page rows ≡ Some old → waiting_state row.state ≡ false → IsStopped knobs old w new
@@ -99,9 +98,8 @@ module _ (knobs : Knobs) (rows : List Row) (w : List WaitingPage) (are : AreWait
   pub row_begun : (new : List WaitingPage) (row old : Row) → row_at row.page rows ≡ Some old → waiting_state old.state ≡ false → row.state ≡ Waiting
       → waiting_page (tree_of knobs row) row.bytes w ≡ None → IsAdded (tree_of knobs row) row.bytes row.page w new → AreWaiting knobs (change_row row.page (λ _. row) rows) new
   row_begun new row old found still waits none added t b q =
-      let bytes = (bytes_eq-Decides b row.bytes).0 in
       let changed = at_changed row rows found q in
-      grind (arith, nat_tests, same_page_refl row.page, are t b q, are t b row.page)
+      grind (arith, nat_tests, same_page_refl row.page, are t b q, are t b row.page, (bytes_eq-Decides b row.bytes).0)
 
   -- a new row that does not wait changes no waiting page
   pub row_inserted : (row : Row) → row_at row.page rows ≡ None → waiting_state row.state ≡ false → AreWaiting knobs (with_row row rows) w
@@ -110,21 +108,17 @@ module _ (knobs : Knobs) (rows : List Row) (w : List WaitingPage) (are : AreWait
   -- a row that changes into one that waits alike changes no waiting page
   pub row_kept : (row old : Row) → row_at row.page rows ≡ Some old → IsAlike old row → AreWaiting knobs (change_row row.page (λ _. row) rows) w
   row_kept row old found alike t b q =
-      let same = alike_waits knobs t b old row alike in
-      grind (arith, nat_tests, at_changed row rows found q, are t b row.page, same)
+      grind (arith, nat_tests, at_changed row rows found q, are t b row.page, alike_waits knobs t b old row alike)
 
   -- where each row changes into one that waits alike, no waiting page changes
   pub rows_mapped : (f : Row → Row) → All (λ r. IsAlike r (f r)) rows → AreWaiting knobs (map f rows) w
   rows_mapped f alike t b q =
-      let each = λ (r : Row) (found : row_at q rows ≡ Some r). find_all (λ s. same_page s.page q)
-      (λ s. IsAlike s (f s)) _ r found alike in
+      let each = find_all (λ s. same_page s.page q) (λ s. IsAlike s (f s)) rows in
       grind (arith, are t b q, at_mapped f q rows (λ k d lt. (alike k d lt).0))
 
   -- where some rows change, each into one that waits alike, no waiting page changes
   pub rows_changed : (test : Row → Bool) (f : Row → Row) → All (λ r. test r ≡ true → IsAlike r (f r)) rows → AreWaiting knobs (change_rows test f rows) w
-  rows_changed test f alike =
-      rows_mapped _
-      (λ k d lt. grind (arith, alike k d lt))
+  rows_changed test f alike = rows_mapped _ (λ k d lt. grind (arith, alike k d lt))
 
   -- knobs with the same merge_across_nodes leave the waiting pages those of the rows
   pub knobs_tuned : (tuned : Knobs) → tuned.merge_across_nodes ≡ knobs.merge_across_nodes → AreWaiting tuned rows w
@@ -133,6 +127,4 @@ module _ (knobs : Knobs) (rows : List Row) (w : List WaitingPage) (are : AreWait
 -- where no row waits, no page does
 pub none_waiting : (knobs : Knobs) (rows : List Row) → All (λ r. waiting_state r.state ≡ false) rows → AreWaiting knobs rows []
 none_waiting knobs rows none t b q =
-    let each = λ (r : Row) (found : row_at q rows ≡ Some r). find_all (λ s. same_page s.page q)
-    (λ s. waiting_state s.state ≡ false) _ r found none in
-    grind (arith, each)
+    grind (arith, find_all (λ s. same_page s.page q) (λ s. waiting_state s.state ≡ false) rows)

@@ -4,7 +4,7 @@ use Rattle.ksm_tree.proofs.shelf.Shelf.add_item.Goals as goal
 use Rattle.ksm_tree.proofs.shelf.Shelf.add_item.Goals.{In-Some}
 
 pub unreachable-requires : goal.unreachable-requires
-unreachable-requires c = not_none _ _ _ c.self.view_is c.index-key.ensures c.requires.known c.in-None.ensures.value
+unreachable-requires c = not_none _ _ _ c.self.view_is c.index-key.ensures c.requires.known c.in_default.ensures.value
 
 -- the items at the place are those of the dup
 items : (c : In-Some) → items_in (get_or c.args.self.now.slots c.args.place None) ≡ c.in-Some.kept.now.dup.items
@@ -16,10 +16,10 @@ add-requires c = grind (arith, items (goal.at.add-requires c).In-Some)
 pub returns-clause-added : goal.returns-clause-added
 returns-clause-added c =
     changed _ _ _ c.self.view_is c.index-key.ensures c.requires.known (with_item c.args.page) c.in-Some.ensures.value
-    (λ i. record { row = c.in-Some.kept.now.dup.row; items = c.in_ok-add-in-Some.ensures.added i })
+    (λ i. record { row = c.in-Some.kept.now.dup.row; items = c.in_ok-add.ensures.added i })
     (Updates-with_value _ _ _ (search rules))
 
 pub returns-clause-count : goal.returns-clause-count
 returns-clause-count c =
     rw (items (goal.at.returns-clause-count c).In-Some)
-    (c.len.ensures.count ∙ ap length c.in_ok-add-in-Some.ensures.added)
+    (c.len.ensures.count ∙ ap length c.in_ok-add.ensures.added)

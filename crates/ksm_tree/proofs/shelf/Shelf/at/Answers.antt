@@ -15,10 +15,5 @@ pub returns-in_err-kept : goal.returns-in_err-kept
 returns-in_err-kept c =
     grind (arith, c.from_residual-in_err-kept.ensures, seen (goal.at.returns-in_err-kept c).In_ok-key)
 
-pub returns-then-kept-place : goal.returns-then-kept-place
-returns-then-kept-place c =
-    grind (arith, c.in_ok-kept.ensures, seen (goal.at.returns-then-kept-place c).In_ok-key)
-
-pub returns-else-kept-place : goal.returns-else-kept-place
-returns-else-kept-place c =
-    grind (arith, c.in_ok-kept.ensures, seen (goal.at.returns-else-kept-place c).In_ok-key)
+pub returns : goal.returns
+returns c = grind (arith, c.in_ok-kept.ensures, seen (goal.at.returns c).In_ok-key)

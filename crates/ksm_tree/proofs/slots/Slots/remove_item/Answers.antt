@@ -12,7 +12,7 @@ invariant_of-self-else-left-eq0 c = rw (c.in-Some.ensures.removed, c.set.ensures
     (slots_kept c.self.invariant c.args.place (without_item c.args.page) (grind (arith, slot_filled)) (grind arith)
     (grind (arith, had_item)))
 
-pub invariant_of-self-in-None : goal.invariant_of-self-in-None
-invariant_of-self-in-None c =
-    rw (c.in-None.ensures.removed) (rw (slots_same c.args.place c.args.page c.self.inside.dups.slots (grind arith))
+pub invariant_of-self-in_default : goal.invariant_of-self-in_default
+invariant_of-self-in_default c =
+    rw (c.in_default.ensures.removed) (rw (slots_same c.args.place c.args.page c.self.inside.dups.slots (grind arith))
     c.self.invariant)
