@@ -140,8 +140,8 @@ impl Slots {
         let place = dup.row.place;
         self.counts.set(place, dup.items.len() as u32);
         self.dups.put(dup, group);
-        self.empty.remove(place);
-        self.stale.remove(place);
+        self.empty.mark(place, false);
+        self.stale.mark(place, false);
     }
 
     /// The dup at a place goes.
@@ -151,8 +151,8 @@ impl Slots {
     {
         self.counts.set(place, 0);
         self.dups.clear(place);
-        self.stale.remove(place);
-        self.empty.add(place);
+        self.stale.mark(place, false);
+        self.empty.mark(place, true);
     }
 
     /// A page becomes an item of the dup at a place. The one fault is `Memory`, and then nothing changes.
@@ -170,7 +170,7 @@ impl Slots {
         let count = self.dups.add_item(place, page)?;
         self.counts.set(place, count);
         if count == 1 {
-            self.stale.remove(place);
+            self.stale.mark(place, false);
         }
         Ok(())
     }
@@ -187,7 +187,7 @@ impl Slots {
         if let Some(left) = self.dups.remove_item(place, page) {
             self.counts.set(place, left);
             if left == 0 {
-                self.stale.add(place);
+                self.stale.mark(place, true);
             }
         }
     }

@@ -5,7 +5,7 @@ use Rattle.ksm_tree.proofs.slots.Slots.add_item.Goals as goal
 pub invariant_of-self-then-count-eq1 : goal.invariant_of-self-then-count-eq1
 invariant_of-self-then-count-eq1 c = rw (c.in_ok-count.ensures.added, c.set.ensures)
     (slots_changed c.self.invariant c.args.place (with_item c.args.page) (grind (arith, slot_filled))
-    c.in_ok-count.ensures.count (grind (arith, c.remove.ensures)))
+    c.in_ok-count.ensures.count (grind (arith, c.mark.ensures)))
 
 pub invariant_of-self-else-count-eq1 : goal.invariant_of-self-else-count-eq1
 invariant_of-self-else-count-eq1 c =

@@ -6,4 +6,4 @@ pub invariant_of-self : goal.invariant_of-self
 invariant_of-self c =
     rw (c.clear.ensures.slots, c.set.ensures)
     (slots_set c.self.invariant _ None (seen_within _ _ c.self.view_is c.self.invariant.placed c.requires) refl tt
-    c.add.ensures c.remove.ensures)
+    c.mark-2.ensures c.mark.ensures)

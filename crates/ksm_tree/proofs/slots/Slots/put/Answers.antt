@@ -4,5 +4,5 @@ use Rattle.ksm_tree.proofs.slots.Slots.put.Goals as goal
 
 pub invariant_of-self : goal.invariant_of-self
 invariant_of-self c = rw (c.put.ensures, c.set.ensures)
-    (slots_set c.self.invariant _ (Some c.args.dup) (grind arith) c.len.ensures.count (refl, tt) c.remove.ensures
-    (grind (arith, c.remove-2.ensures)))
+    (slots_set c.self.invariant _ (Some c.args.dup) (grind arith) c.len.ensures.count (refl, tt) c.mark.ensures
+    (grind (arith, c.mark-2.ensures)))

@@ -5,7 +5,7 @@ use Rattle.ksm_tree.proofs.slots.Slots.remove_item.Goals as goal
 pub invariant_of-self : goal.invariant_of-self
 invariant_of-self c = rw (c.in-Some.ensures.removed, c.set.ensures)
     (slots_changed c.self.invariant c.args.place (without_item c.args.page) (grind (arith, slot_filled))
-    (grind arith) (grind (arith, c.add.ensures)))
+    (grind arith) (grind (arith, c.mark.ensures)))
 
 pub invariant_of-self-else-left-eq0 : goal.invariant_of-self-else-left-eq0
 invariant_of-self-else-left-eq0 c = rw (c.in-Some.ensures.removed, c.set.ensures)
