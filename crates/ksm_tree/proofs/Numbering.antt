@@ -1,6 +1,5 @@
 -- What one content more, and one less, makes of the numbers.
-use Rattle.ksm_tree.proofs.Names.{ap, arith, Content, content_order, Equal-is, exact_bytes, exact_pairs, exact_unsigned, is_at, is_some, None, number_of, Numbers, Option, Some, sym, true, true≢false}
-use Rattle.ksm_tree.proofs.Names.{ℕ, ◌∙◌, ◌≡◌}
+use Rattle.ksm_tree.proofs.Names.{ap, arith, Content, content_order, Equal-is, exact_bytes, exact_pairs, exact_unsigned, is_at, is_some, None, Option, Some, sym, true, true≢false, ◌∙◌, ◌≡◌}
 
 -- contents that the order does not tell apart are one
 pub same_content : {p q : Content} → is_at (content_order p) q ≡ true → p ≡ q
@@ -11,7 +10,3 @@ same_content {p} {q} same =
 -- a slot is not both empty and full
 pub full : {X : Type 0} (x : X) (slot : Option X) → slot ≡ None → slot ≡ Some x → ⊥
 full x slot none some = true≢false (ap is_some (sym some ∙ none))
-
--- the number of a content, if it has one
-abbrev pub its_number : Content → Numbers → Option ℕ
-its_number content numbers = number_of content.tree content.bytes numbers

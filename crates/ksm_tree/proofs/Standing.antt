@@ -4,7 +4,7 @@ use Rattle.ksm_tree.proofs.Names.{filter_map, ForSome, get, get_or, Group, Group
 use Rattle.ksm_tree.proofs.Names.{List, None, number_of, Numbers, Option, option_map, places_in, refl, Slab, Some, suc, sym, true, under, Updates, Updates-with_value, waiting_in, waiting_page}
 use Rattle.ksm_tree.proofs.Names.{waits_in, with_value, zero, ℕ, [], ◌&&◌, ◌+◌, ◌==◌, ◌∷◌, ◌≡◌, ◌≢◌, ◌≤◌}
 use Rattle.slab.specs.Slab.{Updates as Fills}
-use Rattle.ksm_tree.proofs.Numbering.{its_number, same_content}
+use Rattle.ksm_tree.proofs.Numbering.{same_content}
 use Rattle.ksm_tree.specs.Reserve.{KeepsReserve}
 use Rattle.std.specs.Prelude.{◌⊎◌}
 
@@ -135,7 +135,7 @@ module _ (g : Groups) {later : Slab Group} (numbers : BTreeMap Content ℕ) (k :
     (updates : Updates content_order g.numbers numbers k named) (fills : Fills g.groups later number slot)
     (was : IsIdle g.pass (get g.groups number)) (now : IsIdle g.pass slot) where
   keeps : ForSome slot (λ h. h.pass ≤ g.pass) → AreNumbered numbers.entries (λ n. content_in (get later n))
-      → under [] (λ n. places_in (get later n)) named ≡ under [] (λ n. places_in (get g.groups n)) (its_number k g.numbers.entries) → Keeps g later numbers
+      → under [] (λ n. places_in (get later n)) named ≡ under [] (λ n. places_in (get g.groups n)) (number_of k.tree k.bytes g.numbers.entries) → Keeps g later numbers
   keeps within numbered here = record {
     lawful = record {
       numbered = numbered;
@@ -150,7 +150,7 @@ module _ (g : Groups) {later : Slab Group} (numbers : BTreeMap Content ℕ) (k :
   }
 
   -- a group in which nothing stands came with a content that had no number
-  pub came : its_number k g.numbers.entries ≡ None → get g.groups number ≡ None → named ≡ Some number → content_in slot ≡ Some k → ForSome slot (λ h. h.pass ≤ g.pass) → Keeps g later numbers
+  pub came : number_of k.tree k.bytes g.numbers.entries ≡ None → get g.groups number ≡ None → named ≡ Some number → content_in slot ≡ Some k → ForSome slot (λ h. h.pass ≤ g.pass) → Keeps g later numbers
   came none vacant name content within =
       keeps within (λ q n. grind (arith, same_content {p = k} {q = q}, updates.0 q, g.lawful.numbered q n, fills))
       (grind (arith, fills.changed))

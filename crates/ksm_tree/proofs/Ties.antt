@@ -1,8 +1,8 @@
 -- The items of each dup stay the pages of the rows merged into it: the dups after a change of one row, and after a change of all.
 use Rattle.ksm_tree.proofs.Names.{absent_kept, All, All-append, All-cons, All-filter, All-map, ap, AreTied, arith, change_items, change_row, Dup, dup_of, DupRow, each_at_page, eqb-true, false}
-use Rattle.ksm_tree.proofs.Names.{filter_all, filter_none, find_all, find_none, find_passes, GuestPage, has_item, if◌then◌else◌, InPageOrder, is_some, item_count, items_in, items_of, length, let_out}
-use Rattle.ksm_tree.proofs.Names.{List, map, Merged, merged_into, merged_state, None, none_found, not, Option, ordered_map, pages_ordered, PageState, Private, refl, Row, row_at, rows_of, same_page}
-use Rattle.ksm_tree.proofs.Names.{Some, suc, sym, true, Waiting, with_item, with_new, with_row, without_item, without_page, without_place, Zero, ℕ, [], ◌<◌, ◌==◌, ◌∷◌, ◌≡◌}
+use Rattle.ksm_tree.proofs.Names.{filter_all, filter_none, find_all, find_none, find_passes, GuestPage, has_item, InPageOrder, is_some, item_count, items_in, items_of, length, let_out, List, map}
+use Rattle.ksm_tree.proofs.Names.{Merged, merged_into, merged_state, None, none_found, not, Option, ordered_map, pages_ordered, PageState, Private, refl, Row, row_at, rows_of, same_page, Some, suc}
+use Rattle.ksm_tree.proofs.Names.{sym, true, Waiting, with_item, with_new, with_row, without_item, without_page, without_place, Zero, ℕ, [], ◌<◌, ◌==◌, ◌∷◌, ◌≡◌}
 use Rattle.ksm_tree.specs.Dups.{items_of as items_numbered}
 use Rattle.ksm_tree.proofs.Alike.{kept_append}
 use Rattle.ksm_tree.proofs.Changes.{all_rows}
@@ -86,11 +86,8 @@ module _ (rows : List Row) (first second : Row) (row : DupRow) (rise : InPageOrd
   abbrev whole : List Row
   whole = change_row second.page (λ _. second_in) half
 
-  keeps_page : (r : Row) → (if same_page r.page first.page then first_in else r).page ≡ r.page
-  keeps_page r = grind arith
-
   half_rises : InPageOrder half
-  half_rises = ordered_map _ _ keeps_page rise
+  half_rises = ordered_map _ _ (λ r. grind arith) rise
 
   there : is_some (row_at second.page half) ≡ true
   there = grind (arith, row_stays)

@@ -25,9 +25,6 @@ at_chosen : (by : GuestPage → Bool) (q : GuestPage) (rows : List Row) → row_
 at_chosen by q [] = grind arith
 at_chosen by q (r ∷ rs) = grind (arith, at_chosen by q rs)
 
-at_without : (page q : GuestPage) (rows : List Row) → row_at q (without_page page rows) ≡ (if same_page page q then None else row_at q rows)
-at_without page q rows = at_chosen _ q rows ∙ grind arith
-
 -- a row inserted is found at its page, and other pages as before
 pub at_inserted : (row : Row) (rows : List Row) (q : GuestPage)
     → row_at q (with_row row rows) ≡ (if same_page row.page q then Some row else row_at q rows)
@@ -53,17 +50,13 @@ pub own_found : (knobs : Knobs) (rows : List Row) (w : List WaitingPage) (row : 
     → names row.page (waiting_page (tree_of knobs row) row.bytes w) ≡ waiting_state row.state
 own_found knobs rows w row found are = grind (arith, bytes_eq-Decides)
 
--- another row waits for a row where it is a waiting row of its tree and bytes
-waits_apart : (knobs : Knobs) (row r : Row) → waits_for knobs row r ≡ (waits_there knobs (tree_of knobs row) row.bytes (Some r) && not (same_page r.page row.page))
-waits_apart knobs row r = grind (arith, eq_bytes r.bytes row.bytes)
-
 module _ (knobs : Knobs) (rows : List Row) (w : List WaitingPage) (row : Row) (rise : InPageOrder rows) (are : AreWaiting knobs rows w) where
   abbrev looked_up : Option GuestPage
   looked_up = waiting_page (tree_of knobs row) row.bytes w
 
   -- each row waits for the row where it is named, and another
   each_waits : {o : Option GuestPage} → looked_up ≡ o → All (λ r. waits_for knobs row r ≡ (names r.page o && not (same_page r.page row.page))) rows
-  each_waits {o} is k d lt = grind (arith, waits_apart, each_at_page)
+  each_waits {o} is k d lt = grind (arith, eq_bytes row.bytes, each_at_page)
 
   -- a look-up of a row's tree and bytes finds its partner, but where it finds the row itself
   pub partner_found : partner knobs rows row ≡ option_and_then (λ page. if same_page page row.page then None else row_at page rows) looked_up
@@ -79,14 +72,11 @@ module _ (knobs : Knobs) (rows : List Row) (w : List WaitingPage) (row : Row) (r
 
 -- ---------------------------------------------------------------- one row, or all
 
-alike_waits : (knobs : Knobs) (t : ℕ) (b : List ℕ) (old new : Row) → IsAlike old new → waits_there knobs t b (Some new) ≡ waits_there knobs t b (Some old)
-alike_waits knobs t b old new alike = grind arith
-
 module _ (knobs : Knobs) (rows : List Row) (w : List WaitingPage) (are : AreWaiting knobs rows w) where
   -- the waiting pages are those of the rows, once the row of a page is gone and the page has stopped waiting
   pub row_dropped : (new : List WaitingPage) (page : GuestPage) (old : Row) → row_at page rows ≡ Some old
       → IsStopped knobs old w new → AreWaiting knobs (without_page page rows) new
-  row_dropped new page old found stopped t b q = grind (arith, at_without page q rows, are t b page)
+  row_dropped new page old found stopped t b q = grind (arith, at_chosen (λ p. not (same_page p page)) q rows, are t b page)
 
   -- the waiting pages are those of the rows, once a row waits no more and its page has stopped
   pub row_stopped : (new : List WaitingPage) (row old : Row) → row_at row.page rows ≡ Some old → waiting_state row.state ≡ false → IsStopped knobs old w new
@@ -108,7 +98,7 @@ module _ (knobs : Knobs) (rows : List Row) (w : List WaitingPage) (are : AreWait
   -- a row that changes into one that waits alike changes no waiting page
   pub row_kept : (row old : Row) → row_at row.page rows ≡ Some old → IsAlike old row → AreWaiting knobs (change_row row.page (λ _. row) rows) w
   row_kept row old found alike t b q =
-      grind (arith, nat_tests, at_changed row rows found q, are t b row.page, alike_waits knobs t b old row alike)
+      grind (arith, nat_tests, at_changed row rows found q, are t b row.page)
 
   -- where each row changes into one that waits alike, no waiting page changes
   pub rows_mapped : (f : Row → Row) → All (λ r. IsAlike r (f r)) rows → AreWaiting knobs (map f rows) w

@@ -148,7 +148,6 @@ impl<S: Bits, const MOST: usize> Words<S, MOST> {
     }
 
     // The least number in the words behind one.
-    #[tactic(auto, using(crate::proofs::NumberBits::within_named))]
     #[inline(always)]
     fn first_behind(&self, at: u32) -> Option<u32>
         requires { at < length self.now }
@@ -177,7 +176,6 @@ impl<S: Bits, const MOST: usize> Bits for Words<S, MOST> {
         }
     }
 
-    #[tactic(auto, using(crate::proofs::NumberBits::marks_less, crate::proofs::NumberBits::put_there))]
     #[inline(always)]
     fn remove(&mut self, number: u32) {
         let at = self.word_of(number);

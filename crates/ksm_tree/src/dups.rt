@@ -105,8 +105,7 @@ impl Dups {
         ensures lawful { AreDups self.now }
     {
         let group = self.index.groups.number(NO_NUMBER, tree, bytes)?;
-        let best = self.best_of(group, limit)?;
-        Some(best.number)
+        self.best_of(group, limit).map(|best| best.number)
     }
 
     /// The number of the group of a tree and bytes, which it gets if it has none: then groups in which nothing stands
