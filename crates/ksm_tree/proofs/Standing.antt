@@ -8,8 +8,6 @@ use Rattle.ksm_tree.proofs.Numbering.{same_content}
 use Rattle.ksm_tree.specs.Reserve.{KeepsReserve}
 use Rattle.std.specs.Prelude.{◌⊎◌}
 
--- ---------------------------------------------------------------- what stands under the number of each content
-
 -- whether two contents are one
 pub is_one : (t u : ℕ) (b c : List ℕ) → (t == u && bytes_eq b c) ≡ true → content_of t b ≡ content_of u c
 is_one t u b c same = grind (arith, (bytes_eq-Decides b c).0)
@@ -20,8 +18,6 @@ are_one t u b c same = grind (arith, (bytes_eq-Decides b c).1)
 -- the places of the group of a tree and bytes
 abbrev chain_by : Numbers → Slab Group → ℕ → List ℕ → List ℕ
 chain_by numbers groups t b = under [] (λ n. places_in (get groups n)) (number_of t b numbers)
-
--- ---------------------------------------------------------------- the list of the pages that wait
 
 -- two lists whose elements give the same under two maps give the same lists
 pub given_same : {X Y : Type 0} (f g : Option X → Option Y) → f None ≡ None → g None ≡ None → (xs ys : List (Option X))
@@ -76,8 +72,6 @@ not_unused g n {group} stands unused = unused _ _ ((g.lawful.numbered group.cont
 pub none_waiting : (pass : ℕ) (groups : Slab Group) → ((n : ℕ) → ForSome (get groups n) (λ g. g.pass ≢ pass)) → filter_map (waits_in pass) groups.slots ≡ []
 none_waiting pass groups apart = given_same _ (waits_in pass) refl refl groups.slots [] (λ n. grind (arith, apart n))
 
--- ---------------------------------------------------------------- one group is written
-
 -- under a number, where a group stood, one of the same content is written
 module _ (g : Groups) (number : ℕ) (was now : Group) (stood : Some was ≡ get g.groups number) (content : now.content ≡ was.content) where
   abbrev new : Slab Group
@@ -122,8 +116,6 @@ module _ (g : Groups) (number : ℕ) (was now : Group) (stood : Some was ≡ get
   -- where a group written anew has what waited in it, all that waits is as it was
   pub same_waiting : waits_in g.pass (Some now) ≡ waits_in g.pass (Some was) → filter_map (waits_in g.pass) new.slots ≡ waiting_in g
   same_waiting is = given_same _ _ refl refl new.slots g.groups.slots (written_same (waits_in g.pass) is)
-
--- ---------------------------------------------------------------- a group comes, and one goes
 
 -- a group in which nothing stands has come, or one has gone: the groups are right, and the chains and all that waits are as they were
 pub record Keeps (g : Groups) (later : Slab Group) (numbers : BTreeMap Content ℕ) : Type 0 where

@@ -7,8 +7,6 @@ use Rattle.ksm_base.specs.Visit.{waits_for}
 use Rattle.ksm_tree.proofs.Alike.{find_alike}
 use Rattle.ksm_tree.proofs.Rows.{eq_bytes}
 
--- ---------------------------------------------------------------- the row of a page after a change
-
 at_written : (row : Row) (q : GuestPage) (rows : List Row) → row_at q (change_row row.page (λ _. row) rows) ≡ (if same_page row.page q then option_map (λ _. row) (row_at q rows) else row_at q rows)
 at_written row q [] = grind arith
 at_written row q (r ∷ rs) = grind (arith, at_written row q rs)
@@ -37,8 +35,6 @@ pub at_mapped : (f : Row → Row) (q : GuestPage) (rows : List Row) → All (λ 
 at_mapped f q [] keeps = refl
 at_mapped f q (r ∷ rs) keeps =
     grind (arith, keeps 0 r (omega arith), at_mapped f q rs (λ k d lt. keeps (suc k) d (omega arith)))
-
--- ---------------------------------------------------------------- what a look-up tells
 
 -- a page that a look-up of a tree and bytes finds has a row that waits there
 pub look_up_found : (knobs : Knobs) (rows : List Row) (w : List WaitingPage) (t : ℕ) (b : List ℕ) (page : GuestPage) → AreWaiting knobs rows w
@@ -69,8 +65,6 @@ module _ (knobs : Knobs) (rows : List Row) (w : List WaitingPage) (row : Row) (r
             | inl own ↦ rw own (find_nothing _ _ (λ k d lt. each_waits is k d lt ∙ grind arith))
             | inr other ↦ rw other (find_alike _ _ _ (λ k d lt. each_waits is k d lt ∙ grind (arith, nat_tests)))
           ]
-
--- ---------------------------------------------------------------- one row, or all
 
 module _ (knobs : Knobs) (rows : List Row) (w : List WaitingPage) (are : AreWaiting knobs rows w) where
   -- the waiting pages are those of the rows, once the row of a page is gone and the page has stopped waiting
