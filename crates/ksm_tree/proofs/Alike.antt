@@ -1,20 +1,17 @@
 -- A list that is made of another, element by element: what is searched, kept and counted in it.
 use Rattle.ksm_tree.proofs.Names.{All, All-head, All-map, All-tail, AllPairs, AllPairs-cons, arith, Bool, count_by, count_more, false, filter, filter-append, find, get_or, if◌then◌else◌, List, map}
 use Rattle.ksm_tree.proofs.Names.{map-append, option_map, pairs_head, pairs_tail, refl, suc, [], ◌++◌, ◌∙◌, ◌∷◌, ◌≡◌}
-use Rattle.std.proofs.Common.{ap₂}
 use Rattle.std.proofs.lemmas.List.{map-id}
 
 -- two changes that agree at each element of a list make one list of it
 pub map_alike : {X Y : Type 0} (f g : X → Y) (xs : List X) → All (λ x. f x ≡ g x) xs → map f xs ≡ map g xs
 map_alike f g [] same = refl
-map_alike f g (x ∷ xs) same =
-    grind (arith, All-head (λ z. f z ≡ g z) x xs same, map_alike f g xs (All-tail (λ z. f z ≡ g z) x xs same))
+map_alike f g (x ∷ xs) same = grind (arith, same 0 x, map_alike f g xs (λ k d lt. same (suc k) d (omega arith)))
 
 -- where h is f after g at each element, a map by g and then by f makes the list that h makes
 pub map_mapped : {X Y Z : Type 0} (f : Y → Z) (g : X → Y) (h : X → Z) (xs : List X) → All (λ x. f (g x) ≡ h x) xs → map f (map g xs) ≡ map h xs
 map_mapped f g h [] same = refl
-map_mapped f g h (x ∷ xs) same = ap₂ (λ y ys. y ∷ ys) (All-head (λ z. f (g z) ≡ h z) x xs same)
-    (map_mapped f g h xs (All-tail (λ z. f (g z) ≡ h z) x xs same))
+map_mapped f g h (x ∷ xs) same = grind (arith, same 0 x, map_mapped f g h xs (λ k d lt. same (suc k) d (omega arith)))
 
 module _ {X Y : Type 0} (g : X → Y) (p : Y → Bool) (q : X → Bool) where
   -- where two tests agree across a map, a search in the mapped list finds the image of what is found before

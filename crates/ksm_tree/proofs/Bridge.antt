@@ -11,9 +11,6 @@ all_alike test by (d ∷ dups) same =
     grind (arith, same 0 d (omega arith), all_alike test by dups (λ k e lt. same (suc k) e (omega arith)))
 
 module _ (rows : List Row) where
-  abbrev IsCounted : Dup → Type 0
-  IsCounted d = length d.items ≡ item_count rows d.row
-
   -- the first stale dup is the first row that no row of a page is merged into
   pub stale_alike : (dups : List Dup) → AreCounted rows dups → option_map (λ d. d.row) (find is_stale dups) ≡ find (is_stale_row rows) (rows_of dups)
   stale_alike dups counted = grind (arith, find_mapped)
@@ -27,7 +24,7 @@ module _ (rows : List Row) where
   live_placed place dups counted = grind (arith, find_mapped)
 
   module _ (knobs : Knobs) (row : Row) where
-    best_alike : (dups : List Dup) → AreCounted rows dups → (d : Dup) → IsCounted d → is_best (tree_of knobs row) row.bytes knobs.max_page_sharing dups d ≡ is_best_row knobs rows (rows_of dups) row d.row
+    best_alike : (dups : List Dup) → AreCounted rows dups → (d : Dup) → length d.items ≡ item_count rows d.row → is_best (tree_of knobs row) row.bytes knobs.max_page_sharing dups d ≡ is_best_row knobs rows (rows_of dups) row d.row
     best_alike dups counted d n = grind (arith, all_alike)
 
     -- the dup that a page joins best is, by its row, the best dup row by the rules of the book

@@ -7,8 +7,6 @@ use Rattle.ksm_tree.proofs.Alike.{count_alike}
 use Rattle.ksm_tree.proofs.Rows.{own_group, self_group}
 use Rattle.ksm_base.proofs.Orders.{dups_parted as rows_parted, Lower}
 
--- ---------------------------------------------------------------- one row more
-
 -- rows count as others do with one row more
 pub record IsMore (r : DupRow) (less more : List DupRow) : Type 0 where
   pub counts : (p : DupRow → Bool) → count_by p more ≡ (if p r then 1 else 0) + count_by p less
@@ -16,10 +14,8 @@ pub record IsMore (r : DupRow) (less more : List DupRow) : Type 0 where
 
 -- a new row is one row more than those at other places
 pub more_with : {r : DupRow} (rows : List DupRow) → InPlaceOrder rows → IsMore r (filter (λ e. not (e.place == r.place)) rows) (with_dup r rows)
-more_with {r} rows rise = rw (rows_parted r.place rows rise) (record {
-  counts = λ p. grind (arith, count-append, count_more p r);
-  all = λ p. grind (arith, list_all-append p);
-})
+more_with {r} rows rise =
+    rw (rows_parted r.place rows rise) (grind (arith, count-append, count_more, list_all-append))
 
 -- the row at a place is one row more than those at other places
 pub more_there : (p : ℕ) (rows : List DupRow) (e : DupRow) → InPlaceOrder rows → find (λ r. r.place == p) rows ≡ Some e → IsMore e (filter (λ r. not (r.place == p)) rows) rows
@@ -39,10 +35,7 @@ count_split : (s p q : DupRow → Bool) (b : Bool) (rows : List DupRow) → All 
     → count_by p rows ≡ (if b then count_by s rows else 0) + count_by q rows
 count_split s p q b [] each = grind arith
 count_split s p q b (r ∷ rows) each =
-    let rest = count_split s p q b rows (λ k e lt. each (suc k) e (omega arith)) in
-    grind (arith, each 0 r (omega arith), count_more p r rows, count_more q r rows, count_more s r rows)
-
--- ---------------------------------------------------------------- one group
+    grind (arith, count_more, each 0 r, count_split s p q b rows (λ k e lt. each (suc k) e (omega arith)))
 
 -- a dup that is the first of a chain
 abbrev leads : List DupRow → DupRow → Bool
@@ -56,12 +49,9 @@ module _ (t : ℕ) (b : List ℕ) where
   abbrev of_it : DupRow → Bool
   of_it d = in_group t b d
 
-  -- a dup of the group has just the group's dups beside it, and another none of them
+  -- a dup of the group has just the group's dups beside it
   group_own : (d e : DupRow) → of_it d ≡ true → same_group d e ≡ of_it e
   group_own d e inside = grind (arith, bytes_eq-Decides)
-
-  group_apart : (d e : DupRow) → of_it d ≡ false → of_it e ≡ true → same_group d e ≡ false
-  group_apart d e outside inside = grind (arith, (bytes_eq-Decides e.bytes b).0)
 
   -- how many dups the group has
   abbrev pub size : List DupRow → ℕ
@@ -118,32 +108,22 @@ module _ (t : ℕ) (b : List ℕ) where
   -- one row more in the group
   module _ {r : DupRow} {less more : List DupRow} (h : IsMore r less more) (inside : of_it r ≡ true) (rise : InPlaceOrder less) (more_rise : InPlaceOrder more) where
     same_size : (d : DupRow) → of_it d ≡ false → group_size more d ≡ group_size less d
-    same_size d outside = grind (arith, group_apart d r outside inside)
+    same_size d outside = grind (arith, (bytes_eq-Decides r.bytes b).0)
 
     -- one row more in the group changes nothing of how many dups of other groups are in chains or lead them
     apart_kept : (apart (in_chain more) more ≡ apart (in_chain less) less) × (apart (leads more) more ≡ apart (leads less) less)
-    apart_kept =
-        let dups = count_alike (λ d. not (of_it d) && in_chain more d) (λ d. not (of_it d) && in_chain less d) less
-        (λ k e lt. grind (arith, same_size (get_or less k e))) in
-        let chains = count_alike (λ d. not (of_it d) && leads more d) (λ d. not (of_it d) && leads less d) less
-        (λ k e lt. let d = get_or less k e in
-        grind (arith, same_size d)) in
-        (grind (arith, dups), grind (arith, chains))
+    apart_kept = (grind (arith, count_alike, same_size), grind (arith, count_alike, same_size))
 
     -- the totals of rows change as the group does that has one row more
     pub regrouped : IsRegrouped (length (group_places t b less)) (length (group_places t b more)) (totals_of less) (totals_of more)
-    regrouped = rw (places_size less, places_size more) (record {
-      chains = omega (arith, apart_kept.1, chains_parted less rise, chains_parted more more_rise);
-      dups = omega (arith, apart_kept.0, dups_parted less, dups_parted more);
-    })
+    regrouped = rw (places_size less, places_size more)
+        (omega (arith, apart_kept, chains_parted less rise, chains_parted more more_rise, dups_parted less, dups_parted more))
 
     pub totals_more : {u v : Totals} → IsRegrouped (length (group_places t b less)) (length (group_places t b more)) u v → AreTotals less u → AreTotals more v
     totals_more change are = omega (arith, regrouped)
 
     pub totals_less : {u v : Totals} → IsRegrouped (length (group_places t b more)) (length (group_places t b less)) u v → AreTotals more u → AreTotals less v
     totals_less change are = omega (arith, regrouped)
-
--- ---------------------------------------------------------------- the totals
 
 -- a row's place is no less than how many rows stand before it
 place_most : (rows : List DupRow) → InPlaceOrder rows → (k : ℕ) (d : DupRow) → k < length rows → k ≤ (get_or rows k d).place
@@ -164,13 +144,7 @@ totals_few p {rows} few below rise are =
 -- the totals have room for each group as it is
 pub totals_tell : (t : ℕ) (b : List ℕ) (p : ℕ) {rows : List DupRow} {totals : Totals} → p ≤ MOST_FRAMES → All (λ r. r.place < p) rows → InPlaceOrder rows → AreTotals rows totals → Tells (length (group_places t b rows)) totals
 totals_tell t b p {rows} {totals} few below rise are =
-    let small = totals_few p few below rise are in
-    rw (places_size t b rows) (record {
-      chains = omega (arith, chains_parted t b _ rise);
-      dups = omega (arith, dups_parted t b rows);
-      few = omega (arith, small.0);
-      small = omega (arith, small.1);
-    })
+    rw (places_size t b rows) (omega (arith, chains_parted t b _ rise, dups_parted t b rows, totals_few p few below rise are))
 
 -- the totals tell of a group of any size that they told of, once a group has as many dups as before or one more
 grown_tells : {m n k : ℕ} {t u : Totals} → IsRegrouped m n t u → (m ≤ n) × (n ≤ m + 1) → (t.chains ≤ MOST_FRAMES) × (t.dups ≤ MOST_FRAMES) → Tells k t → Tells k u

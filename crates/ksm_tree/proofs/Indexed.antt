@@ -2,7 +2,7 @@
 use Rattle.ksm_tree.proofs.Names.{All, All-filter, ap, AreIndexed, AreTotals, arith, Bool, change_at, change_items, content_of, Dup, dup_at, dup_of, DupRow, dups_seen, DupsState, eqb-true, false}
 use Rattle.ksm_tree.proofs.Names.{filter, find, find_nothing, find_passes, get, Group, group_places, GuestPage, has_number, if◌then◌else◌, in_group, Index, InPlaceOrder, is_some, IsCountedAnew}
 use Rattle.ksm_tree.proofs.Names.{items_in, length, List, MOST_FRAMES, None, not, number_of, Option, option_map, pairs_head, pairs_tail, place_of, places_of, refl, row_place, rows_of, rules}
-use Rattle.ksm_tree.proofs.Names.{SlotsState, Some, stands_at, Tells, true, without, without_place, ℕ, [], ◌&&◌, ◌<◌, ◌==◌, ◌∷◌, ◌≡◌, ◌≤◌}
+use Rattle.ksm_tree.proofs.Names.{SlotsState, sym, ◌∙◌, Some, stands_at, Tells, true, without, without_place, ℕ, [], ◌&&◌, ◌<◌, ◌==◌, ◌∷◌, ◌≡◌, ◌≤◌}
 use Rattle.ksm_tree.specs.Groups.{IsMoved}
 use Rattle.ksm_tree.proofs.Alike.{chosen, find_alike, map_alike}
 use Rattle.ksm_tree.proofs.Grouped.{more_there, totals_less, totals_tell}
@@ -28,12 +28,9 @@ found_stands dups found = search (eqb-true, find_passes)
 
 -- where a dup of another group stands, the places of a group stay without that place
 pub not_in_group : (p t : ℕ) (b : List ℕ) (dups : List Dup) {d : Dup} → InPlaceOrder (rows_of dups) → dup_at p dups ≡ Some d → in_group t b d.row ≡ false → without p (group_places t b (rows_of dups)) ≡ group_places t b (rows_of dups)
-not_in_group p t b dups rise found outside = group_unlike p t b _
-    (λ k e lt. grind (
-      arith,
-      found_stands dups found,
-      alone (λ r. r.place == p) _ _ rise (row_at_place p _ found) k e lt,
-    ))
+not_in_group p t b dups rise found outside =
+    let one = alone (λ r. r.place == p) _ _ rise (row_at_place p _ found) in
+    group_unlike p t b _ (λ k e lt. grind (arith, found_stands dups found, one k e lt))
 
 -- slots with other dups
 abbrev pub with_dups : SlotsState → List Dup → Bool → SlotsState
@@ -80,12 +77,8 @@ module _ {s : SlotsState} {next : ℕ} {index : Index} (h : AreIndexed s next in
       let at_p = row_at_place p s.dups found in
       let rise = ordered_filter test rows law.in_place_order in
       let grouped : (t : ℕ) (b : List ℕ) → places_of t b new ≡ group_places t b (filter test rows) = λ t b.
-      grind (
-        arith,
-        not_in_group p t b s.dups law.in_place_order found,
-        own_group t b d.row,
-        chosen (λ (r : DupRow). r.place) (in_group t b) (λ q. not (q == p)) rows,
-      ) in
+      let kept = chosen (λ (r : DupRow). r.place) (in_group t b) (λ q. not (q == p)) rows in
+      grind (arith, kept, not_in_group p t b s.dups law.in_place_order found, own_group t b d.row) in
       let more = more_there p rows d.row law.in_place_order at_p in
       by_rows (filter test rows) (rows_without p s.dups) h.few rise
       (All-filter test (λ r. r.place < s.places) rows law.places_below)
@@ -109,7 +102,10 @@ module _ (q : ℕ) {p : ℕ} {s : SlotsState} {next : ℕ} {index : Index} {seen
 
   -- a change of the items at that place is seen as a change of the number's items
   pub told_changed : (f : List GuestPage → List GuestPage) (ready : Bool) → dups_seen (with_dups s (change_at p f s.dups) ready) next index ≡ record seen { dups = change_items q f seen.dups }
-  told_changed f ready = grind (arith, one_dup, row_placed, map_alike)
+  told_changed f ready =
+      let one = one_dup q s.dups h.lawful.in_place_order (row_placed q s.dups ∙ sym is_inside) in
+      rw (← view) (ap (λ dups. dups_seen (with_dups s dups ready) next index)
+      (map_alike _ _ s.dups (λ k d lt. grind (arith, one k d lt))))
 
 -- the group under the number of a tree and bytes is of these, and has the places of their dups
 module _ {s : SlotsState} {next : ℕ} {index : Index} (h : AreIndexed s next index) (tree : ℕ) (bytes : List ℕ) where
@@ -129,12 +125,9 @@ module _ {s : SlotsState} {next : ℕ} {index : Index} (h : AreIndexed s next in
 -- the dup found at a place is the one that has its number
 pub stands_numbered : (p q : ℕ) (dups : List Dup) (d : Dup) → InPlaceOrder (rows_of dups) → dup_at p dups ≡ Some d → d.row.number ≡ q → Some p ≡ option_map (λ d. d.row.place) (dup_of q dups)
 stands_numbered p q dups d rise found is =
+    let only = alone (λ r. r.place == p) _ _ rise (row_at_place p _ found) in
     let one = all_rows (λ r. (r.place == p) ≡ (r.number == q)) dups
-    (λ k e lt. grind (
-      arith,
-      found_stands dups found,
-      alone (λ r. r.place == p) _ _ rise (row_at_place p _ found) k e lt,
-    )) in
+    (λ k e lt. grind (arith, found_stands dups found, only k e lt)) in
     grind (arith, found_stands dups found, find_alike (stands_at p) (has_number q) dups one)
 
 -- the dup found at a place, if it passes a test
@@ -146,9 +139,9 @@ passing test (Some d) = if test d then Some d else None
 pub found_passing : (p : ℕ) (test : Dup → Bool) (dups : List Dup) → InPlaceOrder (rows_of dups) → find (λ d. stands_at p d && test d) dups ≡ passing test (dup_at p dups)
 found_passing p test [] rise = refl
 found_passing p test (d ∷ dups) rise =
-    grind (
-      arith,
-      find_nothing (λ e. stands_at p e && test e) dups,
-      all_rows (λ r. d.row.place < r.place) dups (λ k e lt. (pairs_head Lower d.row (rows_of dups) rise k e lt).0),
-      found_passing p test dups (pairs_tail Lower d.row (rows_of dups) rise),
-    )
+    let behind = all_rows (Lower d.row) dups (pairs_head Lower d.row (rows_of dups) rise) in
+    let rest = found_passing p test dups (pairs_tail Lower d.row (rows_of dups) rise) in
+    grind (arith, find_nothing (λ e. stands_at p e && test e) dups, behind)
+
+-- how the index stays beside a dup that is found by its number
+pub ruleset steps = (room_indexed, stays_indexed, told_items, told_there)

@@ -69,18 +69,16 @@ module _ {s : SlotsState} {next : ℕ} {index : Index} (new : Index) (dup : Dup)
     joined_in t b inside = grind (arith, own_group, group_joined)
 
     first : IsRegrouped (length (group_places dup.row.tree dup.row.bytes rows)) (length (group_places dup.row.tree dup.row.bytes all)) index.groups.totals mid.groups.totals
-    first = grind (arith, joined_in, self_group)
+    first = rw (← h.grouped dup.row.tree dup.row.bytes, ← joined_in dup.row.tree dup.row.bytes (self_group dup.row))
+        entered.totals
 
     -- once the new dup is entered beside the old one at its place, the totals are right for the group of the old one
     pub told_between : IsCounted old.row.tree old.row.bytes mid.groups
     told_between =
-        let r = dup.row in
-        let t = old.row.tree in
-        let b = old.row.bytes in
         let more = there in
         let also = here in
-        let size : length (places_of t b mid) ≡ length (places_of t b index) =
-        grind (arith, places_size t b, self_group old.row, joined_in t b, own_group t b r) in
+        let size : length (places_of old.row.tree old.row.bytes mid) ≡ length (places_of old.row.tree old.row.bytes index) =
+        grind (arith, places_size, self_group old.row, joined_in, own_group) in
         rw size (totals_between there here rise less_rise new_rise first
         (totals_few s.places h.few h.lawful.places_below rise h.counted) (told h _ _))
 
@@ -97,22 +95,13 @@ module _ {s : SlotsState} {next : ℕ} {index : Index} (new : Index) (dup : Dup)
         let older : old.row.number < dup.row.number = find_all (λ r. r.place == p) (λ r. r.number < dup.row.number) rows
         old.row row_found fresh in
         let grouped : (t : ℕ) (b : List ℕ) → places_of t b new ≡ group_places t b all = λ t b.
-        grind (
-          arith,
-          not_in_group p t b s.dups rise (sym found),
-          own_group t b dup.row,
-          own_group t b old.row,
-          group_joined t b dup.row rows,
-          group_passed t b dup.row rows rise,
-        ) in
+        let joined = group_joined t b dup.row rows in
+        let passed = group_passed t b dup.row rows rise in
+        grind (arith, joined, passed, not_in_group p t b s.dups rise (sym found), own_group) in
         made ready (totals_swapped there here rise less_rise new_rise first (grind (arith, own_group)) h.counted)
-        (λ q. grind (
-          arith,
-          nat_tests,
-          place_gone p q rows rise row_found,
-          place_new dup.row rows fresh,
-          place_kept q dup.row rows rise,
-        )) grouped
+        (λ q.
+        let kept = place_kept q dup.row rows rise in
+        grind (arith, kept, nat_tests, place_gone p q rows rise row_found, place_new dup.row rows fresh)) grouped
 
 -- once a dup is made, callers see that dup among the others, and the next number one higher
 pub seen_made : (s : SlotsState) (next : ℕ) (index new : Index) (dup : ℕ → Dup) (ready : Bool) {old : DupsState} → dups_seen s next index ≡ old → SameWaits index.groups new.groups

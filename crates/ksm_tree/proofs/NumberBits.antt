@@ -1,7 +1,7 @@
 -- What the words of a set, and their summary, say of its numbers.
-use Rattle.ksm_tree.proofs.Names.{AreSummed, arith, bit_and, bit_at, bit_at_clear_other, bit_at_clear_same, bit_at_set_other, bit_at_set_same, bit_or, Bool, false, get_or, get_or-replicate}
-use Rattle.ksm_tree.proofs.Names.{get_or-set_other, get_or-set_same, get_or_past, has, HasNoBit, HasNone, IsLeast, IsLowestBit, IsSummed, length, length-set, List, Marks, MatchOption, not, Option}
-use Rattle.ksm_tree.proofs.Names.{replicate, set, shr-shr, true, w64, ℕ, ◌%◌, ◌*◌, ◌+◌, ◌-◌, ◌/◌, ◌<◌, ◌==◌, ◌^◌, ◌≡◌, ◌≢◌, ◌≤◌}
+use Rattle.ksm_tree.proofs.Names.{get_or_default, bit_at_ones, nat_tests, AreSummed, arith, bit_and, bit_at, bit_at_clear_other, bit_at_clear_same, bit_at_set_other, bit_at_set_same, bit_or, Bool}
+use Rattle.ksm_tree.proofs.Names.{false, get_or, get_or-replicate, get_or-set_other, get_or-set_same, get_or_past, has, HasNoBit, HasNone, IsLeast, IsLowestBit, IsSummed, length, length-set, List}
+use Rattle.ksm_tree.proofs.Names.{Marks, MatchOption, not, Option, replicate, set, shr-shr, true, w64, ℕ, ◌%◌, ◌*◌, ◌+◌, ◌-◌, ◌/◌, ◌<◌, ◌==◌, ◌^◌, ◌≡◌, ◌≢◌, ◌≤◌}
 use Rattle.std.proofs.lemmas.List.{length-replicate}
 
 module _ (words : List ℕ) where
@@ -35,6 +35,10 @@ module _ (words : List ℕ) where
 pub stay_less : {most : ℕ} {words upper : List ℕ} → AreSummed most words upper → {w : ℕ} (word : ℕ) {upper' : List ℕ} → w < length words → word ≡ 0 → 1 < most → Marks upper upper' w false → AreSummed most (set words w word) upper'
 stay_less h word within zero many marks = grind (arith, length-set, summed_put)
 
+-- words of which each bit is set have each number below their end
+pub all_there : (k n : ℕ) → n < 64 * k → has (replicate k 18446744073709551615) n ≡ true
+all_there k n below = grind (arith, get_or-replicate, bit_at_ones 64)
+
 -- words that are 0 have no number
 pub none_there : (k n : ℕ) → has (replicate k 0) n ≡ false
 none_there k n = grind (arith, get_or-replicate, get_or_past, length-replicate)
@@ -58,3 +62,9 @@ bit_of_rest word from i = grind (arith, shr-shr)
 
 pub bit_behind : (word from i : ℕ) → from ≤ i → bit_at word i ≡ bit_at (word / 2 ^ from) (i - from)
 bit_behind word from i behind = grind (arith, bit_of_rest)
+
+-- one word is put, and the others stay
+pub ruleset put_there = (nat_tests, get_or_default, get_or-set_same, get_or-set_other, length-set, bit_at_set_same)
+
+-- words that are all alike
+pub ruleset replicated = (all_there, length-replicate, none_there)

@@ -1,10 +1,10 @@
 -- What a change of one slot does to the dups and to the places whose slots pass a test.
-use Rattle.ksm_tree.proofs.Names.{absent_kept, All, ap, ArePlaced, AreSlots, arith, Bool, change_at, change_items_of, change_slot, comes_before, count_by-le-length, count_in, CountedSet, Dup, dup_at}
-use Rattle.ksm_tree.proofs.Names.{empty_from, empty_place, eqb-true, false, filter, filter_all, filter_none, find, find_nothing, find_passes, get_or, get_or-le-sum_by, get_or-set_other}
-use Rattle.ksm_tree.proofs.Names.{get_or-set_same, get_or_past, GuestPage, has_item, HasNone, if◌then◌else◌, is_empty_slot, is_some, is_stale, is_stale_slot, IsLeast, IsMarked, IsSetOf, items_in}
-use Rattle.ksm_tree.proofs.Names.{length, length-append, length-map, length-set, List, map, map-set, MatchOption, MayBeMarked, MOST_FRAMES, None, none_found, Option, option_map, pages_ordered}
-use Rattle.ksm_tree.proofs.Names.{present, refl, rows_of, set, set-get_or, ShelfState, slots_seen, SlotsState, Some, stands_at, suc, sum_by-set, true, with_item, with_new, without_item, without_place}
-use Rattle.ksm_tree.proofs.Names.{zero, ℕ, [], ◌+◌, ◌<◌, ◌==◌, ◌∙◌, ◌∷◌, ◌≡◌, ◌≤◌}
+use Rattle.ksm_tree.proofs.Names.{absent_kept, All, ap, ArePlaced, AreSlots, arith, Bool, change_at, change_items_of, change_slot, count_by-le-length, count_in, CountedSet, Dup, dup_at, empty_from}
+use Rattle.ksm_tree.proofs.Names.{empty_place, eqb-true, false, filter_all, filter_none, find, find_nothing, find_passes, get_or, get_or-le-sum_by, get_or-set_other, get_or-set_same, get_or_past}
+use Rattle.ksm_tree.proofs.Names.{GuestPage, has_item, HasNone, if◌then◌else◌, is_empty_slot, is_some, is_stale, is_stale_slot, IsLeast, IsMarked, IsSetOf, items_in, length, length-append, length-map}
+use Rattle.ksm_tree.proofs.Names.{length-set, List, map, map-set, MatchOption, MayBeMarked, MOST_FRAMES, None, none_found, Option, option_map, pages_ordered, present, refl, rows_of, set, set-get_or}
+use Rattle.ksm_tree.proofs.Names.{ShelfState, slots_seen, SlotsState, Some, stands_at, suc, sum_by-set, true, with_item, with_new, without_item, without_place, zero, ℕ, [], ◌+◌, ◌<◌, ◌==◌, ◌∙◌, ◌∷◌}
+use Rattle.ksm_tree.proofs.Names.{◌≡◌, ◌≤◌}
 use Rattle.ksm_tree.proofs.Alike.{change_none}
 
 module _ (test : Option Dup → Bool) (slots : List (Option Dup)) (p : ℕ) (s : Option Dup) (within : p < length slots) where
@@ -40,8 +40,7 @@ behind k (Some d) slots placed = placed.1
 pub slot_found : (k p i : ℕ) (slots : Slots) → p ≡ k + i → ArePlaced k slots
     → dup_at p (present slots) ≡ get_or slots i None
 slot_found k p i [] is placed = refl
-slot_found k p zero (s ∷ slots) is placed =
-    let rest = behind k s slots placed in grind (arith, placed_above, find_nothing)
+slot_found k p zero (s ∷ slots) is placed = grind (arith, behind k s slots placed, placed_above, find_nothing)
 slot_found k p (suc i) (s ∷ slots) is placed =
     grind (arith, slot_found (suc k) p i slots (omega arith) (behind k s slots placed))
 
@@ -58,8 +57,7 @@ slot_put k p (suc i) (s ∷ slots) dup is at within placed =
 pub slot_emptied : (k p i : ℕ) (slots : Slots) → p ≡ k + i → ArePlaced k slots
     → present (set slots i None) ≡ without_place p (present slots)
 slot_emptied k p i [] is placed = refl
-slot_emptied k p zero (s ∷ slots) is placed =
-    let rest = behind k s slots placed in grind (arith, placed_above, filter_all)
+slot_emptied k p zero (s ∷ slots) is placed = grind (arith, behind k s slots placed, placed_above, filter_all)
 slot_emptied k p (suc i) (s ∷ slots) is placed =
     grind (arith, slot_emptied (suc k) p i slots (omega arith) (behind k s slots placed))
 
@@ -91,8 +89,7 @@ stale_first k i [] placed before within here = refl
 stale_first k zero (s ∷ slots) placed before within here = grind arith
 stale_first k (suc i) (s ∷ slots) placed before within here =
     let rest = stale_first (suc k) i slots (behind k s slots placed) (λ j less. before (suc j) (omega arith))
-    (omega arith)
-    (λ less. here (omega arith)) in
+    (omega arith) (λ less. here (omega arith)) in
     grind (arith, before 0 (omega arith))
 
 -- where the dups stand behind place j, it is the least that no dup has
@@ -128,36 +125,20 @@ module _ {slots : Slots} {counts : List ℕ} {empty stale : CountedSet} (h : Are
   -- the least place in the set of the empty ones is the least that no dup has
   pub first_empty : (found : Option ℕ) → FoundLeast empty slots found → found ≡ empty_place (length slots) (rows_of (present slots))
   first_empty None none =
-      grind (
-        arith,
-        get_or_past,
-        empty_first 0 (length slots) slots h.placed (before h.empties (omega arith) none)
-            (omega arith),
-      )
+      let first = empty_first 0 (length slots) slots h.placed (before h.empties (omega arith) none) (omega arith) in
+      grind (arith, get_or_past, first)
   first_empty (Some p) least =
-      grind (
-        arith,
-        least.there,
-        empty_first 0 p slots h.placed
-            (before h.empties (omega (arith, least.high_is)) least.least) (omega (arith, least.high_is)),
-      )
+      let none = before h.empties (omega (arith, least.high_is)) least.least in
+      grind (arith, least.there, empty_first 0 p slots h.placed none (omega (arith, least.high_is)))
 
   -- the least place in the set of the stale ones is that of the first stale dup
   pub first_stale : (found : Option ℕ) → FoundLeast stale slots found → found ≡ option_map (λ d. d.row.place) (find is_stale (present slots))
   first_stale None none =
-      grind (
-        arith,
-        get_or_past,
-        stale_first 0 (length slots) slots h.placed (before h.stales (omega arith) none)
-            (omega arith) (λ less. absurd (omega arith)),
-      )
+      let first = stale_first 0 (length slots) slots h.placed (before h.stales (omega arith) none) (omega arith) in
+      grind (arith, get_or_past, first (λ less. absurd (omega arith)))
   first_stale (Some p) least =
-      grind (
-        arith,
-        least.there,
-        stale_first 0 p slots h.placed
-            (before h.stales (omega (arith, least.high_is)) least.least) (omega (arith, least.high_is)),
-      )
+      let none = before h.stales (omega (arith, least.high_is)) least.least in
+      grind (arith, least.there, stale_first 0 p slots h.placed none (omega (arith, least.high_is)))
 
   -- the slots are right once one changes, its count with it, and the sets follow
   pub slots_set : (p : ℕ) {n : ℕ} (s : Option Dup) {empty' stale' : CountedSet} → p < length slots → n ≡ count_in s → ArePlaced p (s ∷ [])
@@ -190,11 +171,7 @@ count_within p slots counted within = omega (arith, ap length counted ∙ length
 -- items with one more are not none, and were not where they are not one
 pub grown : (page : GuestPage) (pages : List GuestPage) {n : ℕ} → n ≡ length (with_item page pages) → ((n == 0) ≡ false) × ((n ≡ 1 → ⊥) → (length pages == 0) ≡ false)
 grown page [] is = grind arith
-grown page (q ∷ qs) is =
-    let pages = q ∷ qs in
-    let many = length-append (filter (λ p. comes_before p page) pages)
-    (page ∷ filter (λ p. comes_before page p) pages) in
-    grind arith
+grown page (q ∷ qs) is = grind (arith, length-append)
 
 module _ (p : ℕ) (shelf : ShelfState) {s : SlotsState} (view : slots_seen shelf ≡ s) (placed : ArePlaced 0 shelf.slots) where
   -- the dup seen at a place is what its slot holds
@@ -221,11 +198,11 @@ had_item page (p ∷ pages) found = grind arith
 -- taking a page out of items of which it is none changes no slot
 same_items : (page : GuestPage) (s : Option Dup) → has_item page (items_in s) ≡ false → option_map (change_items_of (without_item page)) s ≡ s
 same_items page None absent = refl
-same_items page (Some d) absent = grind (
-  arith,
-  absent_kept pages_ordered (λ q. q) page d.items
-      (none_found _ d.items absent),
-)
+same_items page (Some d) absent =
+    grind (arith, absent_kept pages_ordered (λ q. q) page d.items (none_found _ d.items absent))
 
 pub slots_same : (p : ℕ) (page : GuestPage) (slots : Slots) → has_item page (items_in (get_or slots p None)) ≡ false → change_slot p (without_item page) slots ≡ slots
 slots_same p page slots absent = grind (arith, same_items, set-get_or)
+
+-- what the slots say of the dups that are seen
+pub ruleset steps = (count_within, first_empty, first_stale, length-set, may_be_marked, seen_slot, seen_within, slot_emptied, slot_filled, slot_put, view_changed)

@@ -58,3 +58,9 @@ three_kinds [] = refl
 three_kinds (None ∷ slots) = grind (arith, count_more is_empty_slot None slots, three_kinds slots)
 three_kinds (Some d ∷ slots) =
     grind (arith, count_more is_stale_slot (Some d) slots, count_more is_live d (present slots), three_kinds slots)
+
+-- what the slots say of how many dups there are of each kind
+pub ruleset counts = (open_seen, stale_slots, three_kinds)
+
+-- where no place is open
+pub ruleset none = (none_kept, none_open)

@@ -17,9 +17,6 @@ own_group t b row = grind (arith, eq_bytes row.bytes b)
 pub self_group : (row : DupRow) → in_group row.tree row.bytes row ≡ true
 self_group row = grind (arith, bytes_eq-Decides row.bytes)
 
-abbrev numbered : ℕ → DupRow → Bool
-numbered q r = r.number == q
-
 -- where no row of a group stands at the place, the places of the group stay without that place
 pub group_unlike : (p : ℕ) (t : ℕ) (b : List ℕ) (rows : List DupRow) → All (λ r. (r.place == p && in_group t b r) ≡ false) rows → without p (group_places t b rows) ≡ group_places t b rows
 group_unlike p t b [] none = refl
@@ -47,8 +44,8 @@ pub place_new : (row : DupRow) (rows : List DupRow) → All (λ r. r.number < ro
 place_new row rows fresh =
     let lower = filter (below row.place) rows in
     let less = All-filter (below row.place) (λ r. r.number < row.number) rows fresh in
-    let none = find_nothing (numbered row.number) lower (λ k d lt. grind (arith, less k d lt)) in
-    grind (arith, find-append (numbered row.number) lower (row ∷ filter (above row.place) rows))
+    let none = find_nothing (λ r. r.number == row.number) lower (λ k d lt. grind (arith, less k d lt)) in
+    grind (arith, find-append (λ r. r.number == row.number) lower (row ∷ filter (above row.place) rows))
 
 -- a new dup changes the place of no other number that stays
 pub place_kept : (q : ℕ) (row : DupRow) (rows : List DupRow) → InPlaceOrder rows → (q == row.number) ≡ false → row_place q (with_dup row rows) ≡ row_place q (filter (elsewhere row.place) rows)

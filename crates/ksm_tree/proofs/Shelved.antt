@@ -36,8 +36,7 @@ module _ (p : ℕ) (keys : List ℕ) (dups : Slab Kept) {s : ShelfState} (view :
 
   -- what a place holds is read by its key
   pub seen_by : {key : ℕ} → p < length keys → key ≡ get_or keys p 0 → kept_at p (get dups key) ≡ get_or s.slots p None
-  seen_by within read =
-      grind (arith, read_by 0 p p keys dups (omega arith) within)
+  seen_by within read = grind (arith, read_by 0 p p keys dups (omega arith) within)
 
   pub seen_past : length keys ≤ p → None ≡ get_or s.slots p None
   seen_past past = grind (arith, many, get_or_past)
@@ -89,5 +88,7 @@ same_slots keys old view is =
 pub filled : (p key : ℕ) (keys : List ℕ) (old new : Slab Kept) (s : ShelfState) (view : record { slots = slots_by 0 keys old; ready = has_room old } ≡ s) (kept : Kept)
     → kept.dup.row.place ≡ p → p < length keys → get old key ≡ None → Fills old new key (Some kept) → slots_by 0 (set keys p key) new ≡ set s.slots p (Some kept.dup)
 filled p key keys old new s view kept is within vacant fills =
-    let moved = moved_by 0 p p keys (omega arith) within fills (λ q apart. grind arith) in
-    grind (arith, moved)
+    grind (arith, moved_by 0 p p keys (omega arith) within fills (λ q apart. grind arith))
+
+-- what the keys say of the slots
+pub ruleset steps = (emptied, filled_key, many, none_by, same_slots, seen_by, seen_past)

@@ -1,14 +1,12 @@
 -- What a change of one group makes of the chains and of the pages that wait, and which contents are in use.
-use Rattle.ksm_tree.proofs.Names.{ap, AreGroups, AreNumbered, arith, BTreeMap, bytes_eq, bytes_eq-Decides, cases_Bool, chain_in, Content, content_in, content_of, content_order, false, filter_map}
-use Rattle.ksm_tree.proofs.Names.{ForSome, get, get_or, Group, Groups, GuestPage, if◌then◌else◌, inl, inr, is_at, is_occupied, is_some, is_used_in, IsAsWas, IsIdle, IsSwept, IsUnused, length, List}
-use Rattle.ksm_tree.proofs.Names.{None, number_of, Numbers, Option, option_map, places_in, refl, Slab, Some, suc, sym, true, under, Updates, Updates-with_value, waiting_in, waiting_page, waits_in}
-use Rattle.ksm_tree.proofs.Names.{with_value, zero, ℕ, [], ◌&&◌, ◌+◌, ◌==◌, ◌∙◌, ◌∷◌, ◌≡◌, ◌≢◌, ◌≤◌}
+use Rattle.ksm_tree.proofs.Names.{is_at, ap, AreGroups, AreNumbered, arith, BTreeMap, bytes_eq, bytes_eq-Decides, cases_Bool, chain_in, Content, content_in, content_of, content_order, false}
+use Rattle.ksm_tree.proofs.Names.{filter_map, ForSome, get, get_or, Group, Groups, GuestPage, if◌then◌else◌, inl, inr, is_occupied, is_some, is_used_in, IsAsWas, IsIdle, IsSwept, IsUnused, length}
+use Rattle.ksm_tree.proofs.Names.{List, None, number_of, Numbers, Option, option_map, places_in, refl, Slab, Some, suc, sym, true, under, Updates, Updates-with_value, waiting_in, waiting_page}
+use Rattle.ksm_tree.proofs.Names.{waits_in, with_value, zero, ℕ, [], ◌&&◌, ◌+◌, ◌==◌, ◌∷◌, ◌≡◌, ◌≢◌, ◌≤◌}
 use Rattle.slab.specs.Slab.{Updates as Fills}
-use Rattle.ksm_tree.proofs.Numbering.{its_number, same_content}
+use Rattle.ksm_tree.proofs.Numbering.{same_content}
 use Rattle.ksm_tree.specs.Reserve.{KeepsReserve}
 use Rattle.std.specs.Prelude.{◌⊎◌}
-
--- ---------------------------------------------------------------- what stands under the number of each content
 
 -- whether two contents are one
 pub is_one : (t u : ℕ) (b c : List ℕ) → (t == u && bytes_eq b c) ≡ true → content_of t b ≡ content_of u c
@@ -21,18 +19,13 @@ are_one t u b c same = grind (arith, (bytes_eq-Decides b c).1)
 abbrev chain_by : Numbers → Slab Group → ℕ → List ℕ → List ℕ
 chain_by numbers groups t b = under [] (λ n. places_in (get groups n)) (number_of t b numbers)
 
--- ---------------------------------------------------------------- the list of the pages that wait
-
 -- two lists whose elements give the same under two maps give the same lists
 pub given_same : {X Y : Type 0} (f g : Option X → Option Y) → f None ≡ None → g None ≡ None → (xs ys : List (Option X))
     → ((n : ℕ) → f (get_or xs n None) ≡ g (get_or ys n None)) → filter_map f xs ≡ filter_map g ys
-given_same f g f_none g_none [] [] same = refl
-given_same f g f_none g_none [] (y ∷ ys) same =
-    rw (sym (same 0) ∙ f_none) (given_same f g f_none g_none [] ys (λ n. same (suc n)))
-given_same f g f_none g_none (x ∷ xs) [] same =
-    rw (same 0 ∙ g_none) (given_same f g f_none g_none xs [] (λ n. same (suc n)))
-given_same f g f_none g_none (x ∷ xs) (y ∷ ys) same =
-    rw (same 0, given_same f g f_none g_none xs ys (λ n. same (suc n))) refl
+given_same f g p q [] [] same = refl
+given_same f g p q [] (y ∷ ys) same = grind (arith, same 0, given_same f g p q [] ys (λ n. same (suc n)))
+given_same f g p q (x ∷ xs) [] same = grind (arith, same 0, given_same f g p q xs [] (λ n. same (suc n)))
+given_same f g p q (x ∷ xs) (y ∷ ys) same = grind (arith, same 0, given_same f g p q xs ys (λ n. same (suc n)))
 
 abbrev pub page_in : ℕ → Option Group → Option GuestPage
 page_in pass slot = option_map (λ w. w.page) (waits_in pass slot)
@@ -77,10 +70,7 @@ not_unused g n {group} stands unused = unused _ _ ((g.lawful.numbered group.cont
 
 -- where no group's pass is the present one, no page waits
 pub none_waiting : (pass : ℕ) (groups : Slab Group) → ((n : ℕ) → ForSome (get groups n) (λ g. g.pass ≢ pass)) → filter_map (waits_in pass) groups.slots ≡ []
-none_waiting pass groups apart =
-    given_same _ (waits_in pass) refl refl groups.slots [] (λ n. grind (arith, apart n))
-
--- ---------------------------------------------------------------- one group is written
+none_waiting pass groups apart = given_same _ (waits_in pass) refl refl groups.slots [] (λ n. grind (arith, apart n))
 
 -- under a number, where a group stood, one of the same content is written
 module _ (g : Groups) (number : ℕ) (was now : Group) (stood : Some was ≡ get g.groups number) (content : now.content ≡ was.content) where
@@ -105,14 +95,11 @@ module _ (g : Groups) (number : ℕ) (was now : Group) (stood : Some was ≡ get
   moved : {X : Type 0} (none : X) (at : Option Group → X) (change : X → X) → at (Some now) ≡ change (at (Some was)) → (tree : ℕ) (bytes : List ℕ) → number_of tree bytes g.numbers.entries ≡ Some number → (t : ℕ) (b : List ℕ)
       → under none (λ n. at (get new n)) (number_of t b g.numbers.entries) ≡ (if t == tree && bytes_eq b bytes then change (under none (λ n. at (get g.groups n)) (number_of t b g.numbers.entries)) else under none (λ n. at (get g.groups n)) (number_of t b g.numbers.entries))
   moved none at change is tree bytes named t b =
-      grind (
-        arith,
-        fills,
-        is_one t tree b bytes,
-        are_one t tree b bytes,
-        g.lawful.numbered (content_of t b),
-        (g.lawful.numbered (content_of tree bytes) number).0 named,
-      )
+      let here = (g.lawful.numbered (content_of tree bytes) number).0 named in
+      elim (cases_Bool (t == tree && bytes_eq b bytes)) [
+        | inl same ↦ let one = is_one t tree b bytes same in grind (arith, fills.changed)
+        | inr other ↦ grind (arith, fills, are_one t tree b bytes, g.lawful.numbered (content_of t b))
+      ]
 
   -- a group written anew with changed places changes the chain of its content, and no other
   pub rechained : (change : List ℕ → List ℕ) → now.places.list.items ≡ change was.places.list.items → (tree : ℕ) (bytes : List ℕ) → number_of tree bytes g.numbers.entries ≡ Some number
@@ -130,8 +117,6 @@ module _ (g : Groups) (number : ℕ) (was now : Group) (stood : Some was ≡ get
   pub same_waiting : waits_in g.pass (Some now) ≡ waits_in g.pass (Some was) → filter_map (waits_in g.pass) new.slots ≡ waiting_in g
   same_waiting is = given_same _ _ refl refl new.slots g.groups.slots (written_same (waits_in g.pass) is)
 
--- ---------------------------------------------------------------- a group comes, and one goes
-
 -- a group in which nothing stands has come, or one has gone: the groups are right, and the chains and all that waits are as they were
 pub record Keeps (g : Groups) (later : Slab Group) (numbers : BTreeMap Content ℕ) : Type 0 where
   pub lawful : AreGroups numbers.entries later g.pass
@@ -142,7 +127,7 @@ module _ (g : Groups) {later : Slab Group} (numbers : BTreeMap Content ℕ) (k :
     (updates : Updates content_order g.numbers numbers k named) (fills : Fills g.groups later number slot)
     (was : IsIdle g.pass (get g.groups number)) (now : IsIdle g.pass slot) where
   keeps : ForSome slot (λ h. h.pass ≤ g.pass) → AreNumbered numbers.entries (λ n. content_in (get later n))
-      → under [] (λ n. places_in (get later n)) named ≡ under [] (λ n. places_in (get g.groups n)) (its_number k g.numbers.entries) → Keeps g later numbers
+      → under [] (λ n. places_in (get later n)) named ≡ under [] (λ n. places_in (get g.groups n)) (number_of k.tree k.bytes g.numbers.entries) → Keeps g later numbers
   keeps within numbered here = record {
     lawful = record {
       numbered = numbered;
@@ -157,7 +142,7 @@ module _ (g : Groups) {later : Slab Group} (numbers : BTreeMap Content ℕ) (k :
   }
 
   -- a group in which nothing stands came with a content that had no number
-  pub came : its_number k g.numbers.entries ≡ None → get g.groups number ≡ None → named ≡ Some number → content_in slot ≡ Some k → ForSome slot (λ h. h.pass ≤ g.pass) → Keeps g later numbers
+  pub came : number_of k.tree k.bytes g.numbers.entries ≡ None → get g.groups number ≡ None → named ≡ Some number → content_in slot ≡ Some k → ForSome slot (λ h. h.pass ≤ g.pass) → Keeps g later numbers
   came none vacant name content within =
       keeps within (λ q n. grind (arith, same_content {p = k} {q = q}, updates.0 q, g.lawful.numbered q n, fills))
       (grind (arith, fills.changed))
@@ -184,13 +169,13 @@ pub one_more : (old new : BTreeMap Content ℕ) (tree : ℕ) (bytes : List ℕ) 
     × ((t : ℕ) (b : List ℕ) → is_some (number_of t b new.entries) ≡ true → (t == tree && bytes_eq b bytes) ≡ false → is_some (number_of t b old.entries) ≡ true)
 one_more old new tree bytes key none was long updates = (
   grind arith,
-  λ t b has apart. elim (cases_Bool (is_at (content_order (content_of tree bytes)) (content_of t b))) [
-    | inl here ↦ grind (arith, are_one t _ b _ (sym (same_content here)))
-    | inr other ↦ grind arith
-  ],
+  λ t b has apart. grind (arith, are_one, same_content {p = content_of tree bytes} {q = content_of t b}),
 )
 
 -- where the others lost their numbers, or nothing happened, and no content got one, the reserve is kept
 pub reserve_left : (old : Groups) {g : Groups} {tree : ℕ} {bytes : List ℕ} → (IsSwept g ⊎ IsAsWas old g)
     → KeepsReserve (is_used_in g) tree bytes old.numbers.entries g.numbers.entries old.most g.most
 reserve_left old is = grind (arith)
+
+-- what a number and a content say of the groups
+pub ruleset steps = (is_one, none_here, not_unused, reserve_left, stands_under)

@@ -23,16 +23,12 @@ module _ (page : GuestPage) where
     where
       go : (o : Option Row) → row_at page rows ≡ o → change_row page (λ _. new) rows ≡ filter ahead rows ++ new ∷ filter behind rows
       go None none = grind arith
-      go (Some r) found = grind (
-        arith,
-        map-append,
-        found_parts pages_ordered page_of page rows r rise,
-        find_passes (λ s. same_page s.page page) rows,
-        change_none (λ s. same_page s.page page) (λ _. new) (filter ahead rows)
-            (none_same_low pages_ordered page_of _ _ (filter_passes ahead rows)),
-        change_none (λ s. same_page s.page page) (λ _. new) (filter behind rows)
-            (none_same pages_ordered page_of page _ (filter_passes behind rows)),
-      )
+      go (Some r) found =
+          let kept = change_none (λ s. same_page s.page page) (λ _. new) in
+          let low = kept (filter ahead rows) (none_same_low pages_ordered page_of _ _ (filter_passes ahead rows)) in
+          let high = kept (filter behind rows) (none_same pages_ordered page_of page _ (filter_passes behind rows)) in
+          let parts = found_parts pages_ordered page_of page rows r rise found in
+          grind (arith, map-append, find_passes (λ s. same_page s.page page) rows)
 
   -- in the order of pages, the rows of pages other than one are those ahead of that page, then those behind
   pub without_splits : (rows : List Row) → InPageOrder rows → without_page page rows ≡ filter ahead rows ++ filter behind rows

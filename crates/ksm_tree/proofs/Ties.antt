@@ -1,8 +1,8 @@
 -- The items of each dup stay the pages of the rows merged into it: the dups after a change of one row, and after a change of all.
 use Rattle.ksm_tree.proofs.Names.{absent_kept, All, All-append, All-cons, All-filter, All-map, ap, AreTied, arith, change_items, change_row, Dup, dup_of, DupRow, each_at_page, eqb-true, false}
-use Rattle.ksm_tree.proofs.Names.{filter_all, filter_none, find_all, find_none, find_passes, GuestPage, has_item, if◌then◌else◌, InPageOrder, is_some, item_count, items_in, items_of, length, let_out}
-use Rattle.ksm_tree.proofs.Names.{List, map, Merged, merged_into, merged_state, None, none_found, not, Option, ordered_map, pages_ordered, PageState, Private, refl, Row, row_at, rows_of, same_page}
-use Rattle.ksm_tree.proofs.Names.{Some, suc, sym, true, Waiting, with_item, with_new, with_row, without_item, without_page, without_place, Zero, ℕ, [], ◌<◌, ◌==◌, ◌∷◌, ◌≡◌}
+use Rattle.ksm_tree.proofs.Names.{filter_all, filter_none, find_all, find_none, find_passes, GuestPage, has_item, InPageOrder, is_some, item_count, items_in, items_of, length, let_out, List, map}
+use Rattle.ksm_tree.proofs.Names.{Merged, merged_into, merged_state, None, none_found, not, Option, ordered_map, pages_ordered, PageState, Private, refl, Row, row_at, rows_of, same_page, Some, suc}
+use Rattle.ksm_tree.proofs.Names.{sym, true, Waiting, with_item, with_new, with_row, without_item, without_page, without_place, Zero, ℕ, [], ◌<◌, ◌==◌, ◌∷◌, ◌≡◌}
 use Rattle.ksm_tree.specs.Dups.{items_of as items_numbered}
 use Rattle.ksm_tree.proofs.Alike.{kept_append}
 use Rattle.ksm_tree.proofs.Changes.{all_rows}
@@ -86,33 +86,26 @@ module _ (rows : List Row) (first second : Row) (row : DupRow) (rise : InPageOrd
   abbrev whole : List Row
   whole = change_row second.page (λ _. second_in) half
 
-  keeps_page : (r : Row) → (if same_page r.page first.page then first_in else r).page ≡ r.page
-  keeps_page r = grind arith
-
   half_rises : InPageOrder half
-  half_rises = ordered_map _ _ keeps_page rise
+  half_rises = ordered_map _ _ (λ r. grind arith) rise
 
   there : is_some (row_at second.page half) ≡ true
   there = grind (arith, row_stays)
 
   -- the items of another dup
   others : (d : DupRow) → (row.number == d.number) ≡ false → items_of whole d ≡ items_of rows d
-  others d fails = grind (
-    arith,
-    items_left rows d rise first.page first_in,
-    items_left half d half_rises second.page second_in there,
-    unlike rows first.page first rise found d,
-    unlike rows second.page second rise also d,
-  )
+  others d fails =
+      let left = items_left half d half_rises second.page second_in there in
+      let one = unlike rows first.page first rise found d in
+      let two = unlike rows second.page second rise also d in
+      grind (arith, left, one, two, items_left rows d rise first.page first_in)
 
   -- the items of the new dup are the two pages
   both_in : items_of whole row ≡ with_item second.page (first.page ∷ [])
-  both_in = grind (
-    arith,
-    filter_none (λ r. merged_into row.number r.state) rows none,
-    items_joined half row half_rises second.page second_in refl there,
-    items_joined rows row rise first.page first_in refl,
-  )
+  both_in =
+      let joined = items_joined half row half_rises second.page second_in refl there in
+      let none_in = filter_none (λ r. merged_into row.number r.state) rows none in
+      grind (arith, joined, none_in, items_joined rows row rise first.page first_in refl)
 
   -- rows and dups stay tied where two pages make a dup whose number is above all others
   pub tied_made : (dups : List Dup) → All (λ r. r.number < row.number) (rows_of dups) → AreTied rows dups → AreTied whole (with_new (record { row = row; items = with_item second.page (first.page ∷ []) }) dups)

@@ -7,8 +7,6 @@ use Rattle.ksm_base.specs.Visit.{waits_for}
 use Rattle.ksm_tree.proofs.Alike.{find_alike}
 use Rattle.ksm_tree.proofs.Rows.{eq_bytes}
 
--- ---------------------------------------------------------------- the row of a page after a change
-
 at_written : (row : Row) (q : GuestPage) (rows : List Row) → row_at q (change_row row.page (λ _. row) rows) ≡ (if same_page row.page q then option_map (λ _. row) (row_at q rows) else row_at q rows)
 at_written row q [] = grind arith
 at_written row q (r ∷ rs) = grind (arith, at_written row q rs)
@@ -25,9 +23,6 @@ at_chosen : (by : GuestPage → Bool) (q : GuestPage) (rows : List Row) → row_
 at_chosen by q [] = grind arith
 at_chosen by q (r ∷ rs) = grind (arith, at_chosen by q rs)
 
-at_without : (page q : GuestPage) (rows : List Row) → row_at q (without_page page rows) ≡ (if same_page page q then None else row_at q rows)
-at_without page q rows = at_chosen _ q rows ∙ grind arith
-
 -- a row inserted is found at its page, and other pages as before
 pub at_inserted : (row : Row) (rows : List Row) (q : GuestPage)
     → row_at q (with_row row rows) ≡ (if same_page row.page q then Some row else row_at q rows)
@@ -41,8 +36,6 @@ at_mapped f q [] keeps = refl
 at_mapped f q (r ∷ rs) keeps =
     grind (arith, keeps 0 r (omega arith), at_mapped f q rs (λ k d lt. keeps (suc k) d (omega arith)))
 
--- ---------------------------------------------------------------- what a look-up tells
-
 -- a page that a look-up of a tree and bytes finds has a row that waits there
 pub look_up_found : (knobs : Knobs) (rows : List Row) (w : List WaitingPage) (t : ℕ) (b : List ℕ) (page : GuestPage) → AreWaiting knobs rows w
     → waiting_page t b w ≡ Some page → waits_there knobs t b (row_at page rows) ≡ true
@@ -53,17 +46,13 @@ pub own_found : (knobs : Knobs) (rows : List Row) (w : List WaitingPage) (row : 
     → names row.page (waiting_page (tree_of knobs row) row.bytes w) ≡ waiting_state row.state
 own_found knobs rows w row found are = grind (arith, bytes_eq-Decides)
 
--- another row waits for a row where it is a waiting row of its tree and bytes
-waits_apart : (knobs : Knobs) (row r : Row) → waits_for knobs row r ≡ (waits_there knobs (tree_of knobs row) row.bytes (Some r) && not (same_page r.page row.page))
-waits_apart knobs row r = grind (arith, eq_bytes r.bytes row.bytes)
-
 module _ (knobs : Knobs) (rows : List Row) (w : List WaitingPage) (row : Row) (rise : InPageOrder rows) (are : AreWaiting knobs rows w) where
   abbrev looked_up : Option GuestPage
   looked_up = waiting_page (tree_of knobs row) row.bytes w
 
   -- each row waits for the row where it is named, and another
   each_waits : {o : Option GuestPage} → looked_up ≡ o → All (λ r. waits_for knobs row r ≡ (names r.page o && not (same_page r.page row.page))) rows
-  each_waits {o} is k d lt = grind (arith, waits_apart, each_at_page)
+  each_waits {o} is k d lt = grind (arith, eq_bytes row.bytes, each_at_page)
 
   -- a look-up of a row's tree and bytes finds its partner, but where it finds the row itself
   pub partner_found : partner knobs rows row ≡ option_and_then (λ page. if same_page page row.page then None else row_at page rows) looked_up
@@ -77,17 +66,11 @@ module _ (knobs : Knobs) (rows : List Row) (w : List WaitingPage) (row : Row) (r
             | inr other ↦ rw other (find_alike _ _ _ (λ k d lt. each_waits is k d lt ∙ grind (arith, nat_tests)))
           ]
 
--- ---------------------------------------------------------------- one row, or all
-
-alike_waits : (knobs : Knobs) (t : ℕ) (b : List ℕ) (old new : Row) → IsAlike old new → waits_there knobs t b (Some new) ≡ waits_there knobs t b (Some old)
-alike_waits knobs t b old new alike = grind arith
-
 module _ (knobs : Knobs) (rows : List Row) (w : List WaitingPage) (are : AreWaiting knobs rows w) where
   -- the waiting pages are those of the rows, once the row of a page is gone and the page has stopped waiting
   pub row_dropped : (new : List WaitingPage) (page : GuestPage) (old : Row) → row_at page rows ≡ Some old
       → IsStopped knobs old w new → AreWaiting knobs (without_page page rows) new
-  row_dropped new page old found stopped t b q =
-      grind (arith, at_without page q rows, are t b page)
+  row_dropped new page old found stopped t b q = grind (arith, at_chosen (λ p. not (same_page p page)) q rows, are t b page)
 
   -- the waiting pages are those of the rows, once a row waits no more and its page has stopped
   pub row_stopped : (new : List WaitingPage) (row old : Row) → row_at row.page rows ≡ Some old → waiting_state row.state ≡ false → IsStopped knobs old w new
@@ -99,9 +82,8 @@ module _ (knobs : Knobs) (rows : List Row) (w : List WaitingPage) (are : AreWait
   pub row_begun : (new : List WaitingPage) (row old : Row) → row_at row.page rows ≡ Some old → waiting_state old.state ≡ false → row.state ≡ Waiting
       → waiting_page (tree_of knobs row) row.bytes w ≡ None → IsAdded (tree_of knobs row) row.bytes row.page w new → AreWaiting knobs (change_row row.page (λ _. row) rows) new
   row_begun new row old found still waits none added t b q =
-      let bytes = (bytes_eq-Decides b row.bytes).0 in
       let changed = at_changed row rows found q in
-      grind (arith, nat_tests, same_page_refl row.page, are t b q, are t b row.page)
+      grind (arith, nat_tests, same_page_refl row.page, are t b q, are t b row.page, (bytes_eq-Decides b row.bytes).0)
 
   -- a new row that does not wait changes no waiting page
   pub row_inserted : (row : Row) → row_at row.page rows ≡ None → waiting_state row.state ≡ false → AreWaiting knobs (with_row row rows) w
@@ -110,21 +92,17 @@ module _ (knobs : Knobs) (rows : List Row) (w : List WaitingPage) (are : AreWait
   -- a row that changes into one that waits alike changes no waiting page
   pub row_kept : (row old : Row) → row_at row.page rows ≡ Some old → IsAlike old row → AreWaiting knobs (change_row row.page (λ _. row) rows) w
   row_kept row old found alike t b q =
-      let same = alike_waits knobs t b old row alike in
-      grind (arith, nat_tests, at_changed row rows found q, are t b row.page, same)
+      grind (arith, nat_tests, at_changed row rows found q, are t b row.page)
 
   -- where each row changes into one that waits alike, no waiting page changes
   pub rows_mapped : (f : Row → Row) → All (λ r. IsAlike r (f r)) rows → AreWaiting knobs (map f rows) w
   rows_mapped f alike t b q =
-      let each = λ (r : Row) (found : row_at q rows ≡ Some r). find_all (λ s. same_page s.page q)
-      (λ s. IsAlike s (f s)) _ r found alike in
+      let each = find_all (λ s. same_page s.page q) (λ s. IsAlike s (f s)) rows in
       grind (arith, are t b q, at_mapped f q rows (λ k d lt. (alike k d lt).0))
 
   -- where some rows change, each into one that waits alike, no waiting page changes
   pub rows_changed : (test : Row → Bool) (f : Row → Row) → All (λ r. test r ≡ true → IsAlike r (f r)) rows → AreWaiting knobs (change_rows test f rows) w
-  rows_changed test f alike =
-      rows_mapped _
-      (λ k d lt. grind (arith, alike k d lt))
+  rows_changed test f alike = rows_mapped _ (λ k d lt. grind (arith, alike k d lt))
 
   -- knobs with the same merge_across_nodes leave the waiting pages those of the rows
   pub knobs_tuned : (tuned : Knobs) → tuned.merge_across_nodes ≡ knobs.merge_across_nodes → AreWaiting tuned rows w
@@ -133,6 +111,4 @@ module _ (knobs : Knobs) (rows : List Row) (w : List WaitingPage) (are : AreWait
 -- where no row waits, no page does
 pub none_waiting : (knobs : Knobs) (rows : List Row) → All (λ r. waiting_state r.state ≡ false) rows → AreWaiting knobs rows []
 none_waiting knobs rows none t b q =
-    let each = λ (r : Row) (found : row_at q rows ≡ Some r). find_all (λ s. same_page s.page q)
-    (λ s. waiting_state s.state ≡ false) _ r found none in
-    grind (arith, each)
+    grind (arith, find_all (λ s. same_page s.page q) (λ s. waiting_state s.state ≡ false) rows)

@@ -1,6 +1,7 @@
 -- The places at which a test is passed: what a change at one place does to them.
-use Rattle.ksm_tree.proofs.Names.{add-one, All, arith, Bool, false, filter_all, filter_none, get_or, if◌then◌else◌, length, List, nat_lt, nat_tests, not, places_where, refl, set, suc, take}
-use Rattle.ksm_tree.proofs.Names.{with_place, without, zero, ℕ, [], ◌+◌, ◌<◌, ◌==◌, ◌∷◌, ◌≡◌, ◌≤◌}
+use Rattle.std.proofs.lemmas.List.{length-take}
+use Rattle.ksm_tree.proofs.Names.{nat_lt, get_or_default, length-set, add-one, All, arith, Bool, false, filter_all, filter_none, get_or, if◌then◌else◌, length, List, nat_tests, places_where, refl}
+use Rattle.ksm_tree.proofs.Names.{set, suc, take, with_place, without, zero, ℕ, [], ◌+◌, ◌<◌, ◌∷◌, ◌≡◌, ◌≤◌}
 
 module _ {X : Type 0} (test : X → Bool) where
   where_above : (k : ℕ) (xs : List X) → All (λ p. k ≤ p) (places_where test k xs)
@@ -13,13 +14,10 @@ module _ {X : Type 0} (test : X → Bool) where
   where_set k p i [] x is within = absurd (omega arith)
   where_set k p zero (y ∷ xs) x is within =
       let above = where_above (suc k) xs in
-      let rest = places_where test (suc k) xs in
-      let none = filter_none (λ q. nat_lt q p) rest (λ i d lt. grind (arith, above i d lt)) in
-      let each = filter_all (λ q. nat_lt p q) rest (λ i d lt. grind (arith, above i d lt)) in
-      let also = filter_all (λ q. not (q == p)) rest (λ i d lt. grind (arith, above i d lt)) in
-      grind (arith, none)
-  where_set k p (suc i) (y ∷ xs) x is within =
-      grind (arith, where_set (suc k) p i xs x (omega arith) (omega arith))
+      let none = filter_none (λ q. nat_lt q p) (places_where test (suc k) xs) (λ i d lt. grind (arith, above i d lt)) in
+      let each = filter_all (λ q. nat_lt p q) (places_where test (suc k) xs) (λ i d lt. grind (arith, above i d lt)) in
+      grind (arith, none, filter_all)
+  where_set k p (suc i) (y ∷ xs) x is within = grind (arith, where_set (suc k) p i xs x (omega arith) (omega arith))
 
   -- the places of elements that pass stay where an element passes as it did
   pub where_same : (d : X) (k i : ℕ) (xs : List X) (x : X) → test x ≡ test (get_or xs i d) → places_where test k (set xs i x) ≡ places_where test k xs
@@ -44,3 +42,6 @@ module _ {X : Type 0} (test : X → Bool) where
   where_next d k p zero (y ∷ xs) is within = grind arith
   where_next d k p (suc i) (y ∷ xs) is within =
       grind (arith, nat_tests, add-one i, add-one (suc i), where_next d (suc k) p i xs (omega arith) (omega arith))
+
+-- the places that pass, as one element changes, and among the first elements
+pub ruleset steps = (get_or_default, length-set, length-take, where_room, where_same, where_set, where_short)

@@ -1,7 +1,6 @@
 //! Sets of numbers of any height: words of bits, and above them the set of those words that are not 0. So the least
 //! number is found in a step for each height, wherever it is, and so is that there is none.
-ghost use Rattle.std.specs.Prelude.{◌≡◌, ◌≢◌, ℕ, ◌+◌, ◌*◌, ◌/◌, ◌^◌, ◌<◌, ◌≤◌, [], ◌∷◌, List, true, false, length};
-ghost use Rattle.std.specs.Prelude.{IfErr, IfOk, MatchOption};
+ghost use Rattle.std.specs.Prelude.{◌≡◌, ◌≢◌, ℕ, ◌+◌, ◌*◌, ◌/◌, ◌^◌, ◌<◌, ◌≤◌, [], ◌∷◌, List, true, false, length, IfErr, IfOk, MatchOption};
 ghost use Rattle.ksm_tree.specs.NumberSets.{has, HasNoBit, HasNone, IsLeast, IsLowestBit, Marks};
 
 use ksm_base::Fault;
@@ -138,6 +137,7 @@ impl<S: Bits, const MOST: usize> Words<S, MOST> {
     }
 
     // Which of the words has a number's bit. Where there is one at most that is known before the program runs.
+    #[tactic(auto, using(crate::proofs::NumberBits::within_named))]
     #[inline(always)]
     fn word_of(&self, number: u32) -> u32
         requires { number < 64 * length self.now }
@@ -166,6 +166,7 @@ impl<S: Bits, const MOST: usize> Words<S, MOST> {
 impl<S: Bits, const MOST: usize> Bits for Words<S, MOST> {
     ghost words = { λ w. w };
 
+    #[tactic(auto, using(crate::proofs::NumberBits::put_there))]
     #[inline(always)]
     fn add(&mut self, number: u32) {
         let at = self.word_of(number);

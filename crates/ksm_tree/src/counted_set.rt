@@ -1,5 +1,4 @@
 //! A set of numbers, with how many of the places that there are it has.
-ghost use Rattle.std.specs.Prelude.{true, false};
 ghost use Rattle.ksm_tree.specs.CountedSets.{IsMarked, MayBeMarked};
 
 use crate::number_set::NumberSet;
@@ -12,26 +11,19 @@ pub struct CountedSet {
 }
 
 impl CountedSet {
-    /// Puts a place into the set, if it is not there.
+    /// Puts a place into the set if `marked`, and else takes it out.
     #[inline(always)]
-    pub fn add(&mut self, place: u32)
+    pub fn mark(&mut self, place: u32, marked: bool)
         requires { MayBeMarked self.old place }
-        ensures { IsMarked self.old self.new place true }
+        ensures { IsMarked self.old self.new place marked }
     {
-        if !self.set.contains(place) {
-            self.set.add(place);
-            self.count += 1;
+        if self.set.contains(place) == marked {
+            return;
         }
-    }
-
-    /// Takes a place out of the set, if it is there.
-    #[inline(always)]
-    pub fn remove(&mut self, place: u32)
-        requires { MayBeMarked self.old place }
-        ensures { IsMarked self.old self.new place false }
-    {
-        if self.set.contains(place) {
-            self.set.remove(place);
+        self.set.mark(place, marked);
+        if marked {
+            self.count += 1;
+        } else {
             self.count -= 1;
         }
     }

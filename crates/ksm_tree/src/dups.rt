@@ -9,18 +9,15 @@
 //! A page that looks for a dup to join walks along its chain, which mostly has one dup. Of a long chain most dups are
 //! full. So while there is a long one in a small table, the open places of all contents are kept, and such a page walks
 //! along these if they are fewer.
-ghost use Rattle.std.specs.Prelude.{◌≡◌, ℕ, List, ◌+◌, ◌^◌, ◌<◌, ◌≤◌, [], ◌∷◌, ◌&&◌, not, true, false};
-ghost use Rattle.std.specs.Prelude.{None, Some, count_by, filter, find, length, is_some, option_copied};
-ghost use Rattle.std.specs.Prelude.{option_map, slice_get, if◌then◌else◌, IfErr, IfOk, IsTrue, OnErr, OnOk};
+ghost use Rattle.std.specs.Prelude.{◌≡◌, ℕ, List, ◌+◌, ◌^◌, ◌<◌, ◌≤◌, [], ◌∷◌, ◌&&◌, not, true, false, None, Some, count_by, filter, find, length, is_some, option_copied, option_map, slice_get};
+ghost use Rattle.std.specs.Prelude.{if◌then◌else◌, IfErr, IfOk, IsTrue, OnErr, OnOk};
 ghost use Rattle.std.specs.Option.{unwrap_or};
 ghost use Rattle.ksm_base.specs.Counting.{in_chain, leads_group};
 ghost use Rattle.ksm_base.specs.Rows.{same_page};
 ghost use Rattle.ksm_base.specs.declared.limits.TheConstants.{MOST_FRAMES, MOST_REFERENCES};
 ghost use Rattle.ksm_rmap.specs.Items.{has_item, with_item, without_item};
-ghost use Rattle.ksm_tree.specs.Choosing.{ArePlacesToJoin, best_of, found_at, of_group};
-ghost use Rattle.ksm_tree.specs.Choosing.{choice_of, is_behind, unless_behind};
-ghost use Rattle.ksm_tree.specs.Dups.{AreDups, MayBecomeDup, change_items, dup_at, dup_of, is_live, is_stale};
-ghost use Rattle.ksm_tree.specs.Dups.{items_in, items_of, rows_of, stands_at, with_new, without_place};
+ghost use Rattle.ksm_tree.specs.Choosing.{ArePlacesToJoin, best_of, found_at, of_group, choice_of, unless_behind};
+ghost use Rattle.ksm_tree.specs.Dups.{AreDups, MayBecomeDup, change_items, dup_at, dup_of, is_live, is_stale, items_in, items_of, rows_of, stands_at, with_new, without_place};
 ghost use Rattle.ksm_tree.specs.Index.{group_places, is_in_use};
 ghost use Rattle.ksm_tree.specs.Numbered.{IsUnused, number_of};
 ghost use Rattle.ksm_tree.specs.Reserve.{KeepsReserve};
@@ -108,8 +105,7 @@ impl Dups {
         ensures lawful { AreDups self.now }
     {
         let group = self.index.groups.number(NO_NUMBER, tree, bytes)?;
-        let best = self.best_of(group, limit)?;
-        Some(best.number)
+        self.best_of(group, limit).map(|best| best.number)
     }
 
     /// The number of the group of a tree and bytes, which it gets if it has none: then groups in which nothing stands
@@ -128,6 +124,7 @@ impl Dups {
 
     /// The dup that a page of the group with a number joins: that which `best` tells for its tree and bytes. None where
     /// no group has the number.
+    #[tactic(auto, using(crate::proofs::Standing::stands_under))]
     #[inline(always)]
     pub fn best_of(&self, group: u32, limit: u32) -> Option<Best>
         ensures best { (tree : ℕ) (bytes : List ℕ) → number_of tree bytes self.now.numbers ≡ Some group
@@ -166,13 +163,10 @@ impl Dups {
                 }
             }
         }
-        match best {
-            Some(dup) => Some(Best {
-                number: dup.row.number,
-                place: dup.row.place,
-            }),
-            None => None,
-        }
+        best.map(|dup| Best {
+            number: dup.row.number,
+            place: dup.row.place,
+        })
     }
 
     /// Whether the group with a number is that of a tree and bytes, no page waits there, and none of its dups may be
@@ -199,13 +193,11 @@ impl Dups {
         ensures { IsTrue result → (t : ℕ) (b : List ℕ) → number_of t b self.now.numbers ≡ Some group
             → best_of t b limit self.now.dups ≡ None }
     {
-        match self.index.groups.at(group) {
-            Some(found) => {
-                let chain = found.places.list.as_slice();
-                chain.len() <= SHORT_CHAIN && none_open(limit, self.slots.counts(), chain)
-            }
-            None => false,
-        }
+        let Some(found) = self.index.groups.at(group) else {
+            return false;
+        };
+        let chain = found.places.list.as_slice();
+        chain.len() <= SHORT_CHAIN && none_open(limit, self.slots.counts(), chain)
     }
 
     /// The page that waits in the group with a number from now on: the one that did, or else this one. Where no group
@@ -227,6 +219,7 @@ impl Dups {
 
     /// The page that waits in a tree with these bytes, if there is one. Of the dup at the place, if there is one, the
     /// group is tried first.
+    #[tactic(auto, using(crate::proofs::Standing::none_here))]
     pub fn waiting_of(&self, place: u32, tree: u32, bytes: &PageBytes) -> Option<GuestPage>
         ensures { result ≡ waiting_page tree bytes.now self.now.waiting }
     {
@@ -336,9 +329,8 @@ impl Dups {
         let left = self.slots.group_at(place);
         let old = self.slots.at(place);
         self.index.add(group, &dup.row)?;
-        match old {
-            Some(old) => self.index.replace(left, &old.row, &dup.row),
-            None => {}
+        if let Some(old) = old {
+            self.index.replace(left, &old.row, &dup.row);
         }
         self.slots.put(dup, group);
         self.next += 1;
@@ -375,13 +367,11 @@ impl Dups {
         ensures kept { OnErr result (self.new ≡ self.old) }
         ensures memory { IfErr result (λ fault. fault ≡ Fault.Memory) }
     {
-        match self.place_by(guess, dup) {
-            Some(place) => {
-                self.slots.add_item(place, page)?;
-                Ok(place)
-            }
-            None => unreachable!(),
-        }
+        let Some(place) = self.place_by(guess, dup) else {
+            unreachable!()
+        };
+        self.slots.add_item(place, page)?;
+        Ok(place)
     }
 
     /// A page is no item of a dup any more. Where there is no such dup or item, nothing changes. Gives the place of the
@@ -416,10 +406,8 @@ impl Dups {
     pub fn live_at(&self, place: u32) -> Option<DupRow>
         ensures { result ≡ option_map (λ d. d.row) (find (λ d. stands_at place d && is_live d) self.now.dups) }
     {
-        match self.slots.at(place) {
-            Some(dup) => (dup.items.len() > 0).then_some(dup.row),
-            None => None,
-        }
+        let dup = self.slots.at(place)?;
+        (dup.items.len() > 0).then_some(dup.row)
     }
 
     /// The row of a dup.
@@ -438,6 +426,7 @@ impl Dups {
     }
 
     // The same, where the place is guessed: the dup that stands there is looked at first.
+    #[tactic(auto, using(crate::proofs::Indexed::stands_numbered))]
     #[inline(always)]
     fn place_by(&self, guess: u32, dup: u64) -> Option<u32>
         ensures { result ≡ option_map (λ d. d.row.place) (dup_of dup self.now.dups) }
@@ -452,10 +441,7 @@ impl Dups {
     pub fn items_at(&self, place: u32) -> &[GuestPage]
         ensures { result.now ≡ items_in (dup_at place self.now.dups) }
     {
-        match self.slots.at(place) {
-            Some(dup) => dup.items.as_slice(),
-            None => &[],
-        }
+        self.slots.at(place).map_or(&[], |dup| dup.items.as_slice())
     }
 
     /// How many items a dup has: 0 where there is no such dup.
@@ -572,23 +558,17 @@ impl Dups {
             ≡ unless_behind (option_copied rival.entry) (if is_chain then dup else of_group tree bytes.now dup) }
     {
         let dup = self.slots.at(place)?;
-        if stands_behind(dup, rival) {
+        if rival.is_some_and(|rival| rival.row.number <= dup.row.number) {
             return None;
         }
-        if is_chain || (dup.row.tree == tree && dup.row.bytes == *bytes) {
-            Some(dup)
-        } else {
-            None
-        }
+        (is_chain || (dup.row.tree == tree && dup.row.bytes == *bytes)).then_some(dup)
     }
 
+    #[tactic(auto, using(crate::proofs::Indexed::placed_found))]
     fn find(&self, number: u64) -> Option<&Dup>
         ensures { option_copied result ≡ dup_of number self.now.dups }
     {
-        match self.place(number) {
-            Some(place) => self.slots.at(place),
-            None => None,
-        }
+        self.slots.at(self.place(number)?)
     }
 }
 
@@ -610,14 +590,4 @@ fn rival_of<'a>(best: Option<&'a Dup>, is_tie: bool) -> Option<&'a Dup>
     ensures { option_copied result ≡ (if is_tie then option_copied best.entry else None) }
 {
     if is_tie { best } else { None }
-}
-
-/// Whether there is a rival, and its number is no greater.
-fn stands_behind(dup: &Dup, rival: Option<&Dup>) -> bool
-    ensures { result ≡ is_behind dup.now (option_copied rival.entry) }
-{
-    match rival {
-        Some(rival) => rival.row.number <= dup.row.number,
-        None => false,
-    }
 }

@@ -8,8 +8,9 @@
 //! the last sweep, in a large table four for each place: then all such groups go, so a sweep costs each new group a few
 //! steps. A page waits as long as the pass goes on whose number stands beside it, so
 //! when a pass begins none waits. How many groups are chains is kept beside them, so the counters of chains are read.
-ghost use Rattle.std.specs.Prelude.{◌≡◌, ◌≢◌, ◌⊎◌, ℕ, ◌+◌, ◌<◌, ◌≤◌, ◌==◌, ◌&&◌, List, [], Some, None, IfErr, IfOk};
-ghost use Rattle.std.specs.Prelude.{IsTrue, OnOk, OnErr, bytes_eq, false, is_some, length, true, option_copied};
+#![tactic(auto, using(crate::proofs::Standing::steps))]
+
+ghost use Rattle.std.specs.Prelude.{◌≡◌, ◌≢◌, ◌⊎◌, ℕ, ◌+◌, ◌<◌, ◌≤◌, ◌==◌, ◌&&◌, List, [], Some, None, IfErr, IfOk, IsTrue, OnOk, OnErr, bytes_eq, false, is_some, length, true, option_copied};
 ghost use Rattle.std.specs.Option.{ForSome, unwrap_or};
 ghost use Rattle.slab.specs.Slab.{get};
 ghost use Rattle.ksm_tree.specs.Grouping.{AreGroups, IsIdle, is_occupied};
@@ -67,8 +68,7 @@ pub struct Groups {
 }
 
 impl Groups {
-    ghost use Rattle.ksm_tree.specs.Groups.{IsCounted, IsCountedAnew, IsMoved};
-    ghost use Rattle.ksm_tree.specs.Groups.{IsAsWas, IsSwept, SameChains, SameWaits, chain_in, is_used_in, waiting_in};
+    ghost use Rattle.ksm_tree.specs.Groups.{IsCounted, IsCountedAnew, IsMoved, IsAsWas, IsSwept, SameChains, SameWaits, chain_in, is_used_in, waiting_in};
 
     /// No groups, in a table with so many places.
     pub fn new(alloc: Global, places: u32) -> Groups
@@ -342,17 +342,15 @@ impl Groups {
         ensures numbers { self.new.numbers.entries ≡ self.old.numbers.entries }
         ensures most { self.new.most ≡ self.old.most }
     {
-        match self.groups.get_mut(number as usize) {
-            Some(group) => {
-                if group.pass == self.pass {
-                    return group.page;
-                }
-                group.pass = self.pass;
-                group.page = page;
-                page
-            }
-            None => page,
+        let Some(group) = self.groups.get_mut(number as usize) else {
+            return page;
+        };
+        if group.pass == self.pass {
+            return group.page;
         }
+        group.pass = self.pass;
+        group.page = page;
+        page
     }
 
     /// The page that waits in a tree with these bytes waits no more, if there is one. The guess is tried first.

@@ -34,10 +34,7 @@ impl Guesses {
     pub fn at(&self, slot: usize) -> u32
         ensures { result ≡ guess_at self.now.numbers.items slot }
     {
-        match self.numbers.get(slot) {
-            Some(number) => *number,
-            None => NO_NUMBER,
-        }
+        self.numbers.get(slot).copied().unwrap_or(NO_NUMBER)
     }
 
     /// Puts a number into a slot.

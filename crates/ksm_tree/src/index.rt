@@ -1,6 +1,5 @@
 //! The index that finds dups by number and by content. It keeps places and no dups, so each dup lies in one slot only.
-ghost use Rattle.std.specs.Prelude.{◌≡◌, ℕ, ◌≤◌, List, [], ◌&&◌, ◌==◌, not, None, IfErr};
-ghost use Rattle.std.specs.Prelude.{OnErr, OnOk, bytes_eq, is_some, true, if◌then◌else◌};
+ghost use Rattle.std.specs.Prelude.{◌≡◌, ℕ, ◌≤◌, List, [], ◌&&◌, ◌==◌, not, None, IfErr, OnErr, OnOk, bytes_eq, is_some, true, if◌then◌else◌};
 ghost use Rattle.ksm_tree.specs.Groups.{IsCounted, IsCountedAnew, IsMoved, SameWaits, waiting_in};
 ghost use Rattle.ksm_tree.specs.Numbered.{number_of};
 ghost use Rattle.ksm_tree.specs.Places.{without};

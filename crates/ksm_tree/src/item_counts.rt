@@ -4,8 +4,9 @@
 //! The counts stand by themselves, four bytes each, so a walk along a chain reads no dup but one that may be joined.
 //! The open places are kept only while they are asked for: a store to a merged page may open or close one, and where
 //! all chains are short that costs more than it saves.
-ghost use Rattle.std.specs.Prelude.{◌≡◌, ℕ, ◌<◌, ◌≤◌, All, IfErr, IfOk, IfSome, length, not, replicate, slice_index};
-ghost use Rattle.std.specs.Prelude.{slice_set};
+#![tactic(auto, using(crate::proofs::Where::steps, crate::proofs::Opened::none))]
+
+ghost use Rattle.std.specs.Prelude.{◌≡◌, ℕ, ◌<◌, ◌≤◌, All, IfErr, IfOk, IfSome, length, not, replicate, slice_index, slice_set};
 ghost use Rattle.std.specs.List.{list_all};
 ghost use Rattle.ksm_base.specs.declared.limits.TheConstants.{MOST_FRAMES};
 ghost use Rattle.ksm_tree.specs.Counts.{is_open as is_open_count, places_where};
@@ -63,10 +64,7 @@ impl Counts {
     pub fn open_places(&self, limit: u32) -> Option<&[u32]>
         ensures { IfSome result (λ found. found.now ≡ places_where (is_open_count limit) 0 self.now) }
     {
-        if limit != self.limit {
-            return None;
-        }
-        Some(self.open_at.list.as_slice())
+        (limit == self.limit).then_some(self.open_at.list.as_slice())
     }
 
     /// The open places are kept from now on by this limit, if there is room for all. By the limit 0 no place is open,

@@ -1,4 +1,6 @@
 //! Sets of the numbers of frames, or of places, as words of bits with as many heights above them as their limit wants.
+#![tactic(auto, using(crate::proofs::NumberBits::replicated))]
+
 ghost use Rattle.std.specs.Prelude.{◌≡◌, ◌*◌, ◌<◌, ◌≤◌, ℕ, true, false, length, IfErr, IfOk, MatchOption};
 ghost use Rattle.ksm_base.specs.declared.limits.TheConstants.{MOST_FRAMES as most_frames};
 ghost use Rattle.ksm_tree.specs.declared.number_set.TheConstants.{WORDS as most_words};

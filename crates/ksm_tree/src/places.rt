@@ -1,7 +1,6 @@
 //! Sorted lists of places: of a group, and of the open dups. Most groups have few dups, so four places lie in the list
 //! itself.
-ghost use Rattle.std.specs.Prelude.{◌≡◌, ℕ, ◌+◌, ◌<◌, ◌≤◌, List, [], true, ◌==◌, not, length, filter, IfErr};
-ghost use Rattle.std.specs.Prelude.{IfOk, IsTrue, OnOk, OnErr, AllPairs, nat_lt, slice_index_or};
+ghost use Rattle.std.specs.Prelude.{◌≡◌, ℕ, ◌+◌, ◌<◌, ◌≤◌, List, [], true, ◌==◌, not, length, filter, IfErr, IfOk, IsTrue, OnOk, OnErr, AllPairs, nat_lt, slice_index_or};
 ghost use Rattle.std.specs.List.{list_any};
 ghost use Rattle.smallvec.specs.SmallVec.{HasRoomFor};
 ghost use Rattle.ksm_tree.specs.Places.{with_place, without};

@@ -3,8 +3,9 @@
 //!
 //! A key is compared before it is believed: a dup is at a place if it stands there by its row. So nothing has to be
 //! written where no dup is, and a key that leads to a dup of another place leads nowhere.
-ghost use Rattle.std.specs.Prelude.{◌≡◌, ◌<◌, true, false, None, Some, length, option_copied, option_map, replicate};
-ghost use Rattle.std.specs.Prelude.{if◌then◌else◌, is_some, slice_index_or, slice_set, IfErr, IfOk, OnErr, OnOk};
+#![tactic(auto, using(crate::proofs::Shelved::steps))]
+
+ghost use Rattle.std.specs.Prelude.{◌≡◌, ◌<◌, true, false, None, Some, length, option_copied, option_map, replicate, if◌then◌else◌, is_some, slice_index_or, slice_set, IfErr, IfOk, OnErr, OnOk};
 ghost use Rattle.ksm_base.specs.declared.limits.TheConstants.{MOST_REFERENCES};
 ghost use Rattle.ksm_rmap.specs.Items.{has_item, with_item, without_item};
 ghost use Rattle.ksm_tree.specs.Dups.{items_in};
@@ -74,22 +75,14 @@ impl Shelf {
     {
         let key = *self.keys.get(place as usize)?;
         let kept = self.dups.get(key as usize)?;
-        if kept.dup.row.place == place {
-            Some(&kept.dup)
-        } else {
-            None
-        }
+        (kept.dup.row.place == place).then_some(&kept.dup)
     }
 
     /// A guess of the number of the group of the dup at a place. Nothing is promised of it.
     pub fn group_at(&self, place: u32) -> u32 {
-        match self.keys.get(place as usize) {
-            Some(key) => match self.dups.get(*key as usize) {
-                Some(kept) => kept.group,
-                None => NO_NUMBER,
-            },
-            None => NO_NUMBER,
-        }
+        let key = self.keys.get(place as usize);
+        let kept = key.and_then(|key| self.dups.get(*key as usize));
+        kept.map_or(NO_NUMBER, |kept| kept.group)
     }
 
     /// Takes room for one more dup. The one fault is `Memory`, and then nothing changes.
@@ -142,13 +135,11 @@ impl Shelf {
         ensures memory { IfErr result (λ fault. fault ≡ Fault.Memory) }
     {
         let key = self.keys[place as usize];
-        match self.dups.get_mut(key as usize) {
-            Some(kept) => {
-                kept.dup.items.add(page)?;
-                Ok(kept.dup.items.len() as u32)
-            }
-            None => unreachable!(),
-        }
+        let Some(kept) = self.dups.get_mut(key as usize) else {
+            unreachable!()
+        };
+        kept.dup.items.add(page)?;
+        Ok(kept.dup.items.len() as u32)
     }
 
     /// A page is no item of the dup at a place any more. Gives how many items are left, if it was one.
@@ -160,14 +151,10 @@ impl Shelf {
             result ≡ (if has_item page items then Some (length (without_item page items)) else None) }
     {
         let key = self.keys[place as usize];
-        match self.dups.get_mut(key as usize) {
-            Some(kept) => {
-                if !kept.dup.items.remove(page) {
-                    return None;
-                }
-                Some(kept.dup.items.len() as u32)
-            }
-            None => unreachable!(),
-        }
+        let Some(kept) = self.dups.get_mut(key as usize) else {
+            unreachable!()
+        };
+        let was_one = kept.dup.items.remove(page);
+        was_one.then_some(kept.dup.items.len() as u32)
     }
 }

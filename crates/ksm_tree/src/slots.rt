@@ -1,12 +1,11 @@
 //! The dups by their places, a slot for each: a place leads to its dup in two steps, and an empty one takes few bytes.
-ghost use Rattle.std.specs.Prelude.{◌≡◌, ℕ, ◌<◌, ◌≤◌, [], true, false, None, Some};
-ghost use Rattle.std.specs.Prelude.{count_by, find, length, option_copied, option_map};
-ghost use Rattle.std.specs.Prelude.{is_some, slice_index_or, IfErr, IfOk, IfSome, OnErr, OnOk};
+#![tactic(auto, using(crate::proofs::OneSlot::steps, crate::proofs::Opened::counts))]
+
+ghost use Rattle.std.specs.Prelude.{◌≡◌, ℕ, ◌<◌, ◌≤◌, [], true, false, None, Some, count_by, find, length, option_copied, option_map, is_some, slice_index_or, IfErr, IfOk, IfSome, OnErr, OnOk};
 ghost use Rattle.ksm_base.specs.declared.limits.TheConstants.{MOST_FRAMES, MOST_REFERENCES};
 ghost use Rattle.ksm_tree.specs.Choosing.{empty_place};
 ghost use Rattle.ksm_rmap.specs.Items.{has_item, with_item, without_item};
-ghost use Rattle.ksm_tree.specs.Dups.{dup_at, items_in, is_live, is_stale};
-ghost use Rattle.ksm_tree.specs.Dups.{places_open, rows_of, with_new, without_place};
+ghost use Rattle.ksm_tree.specs.Dups.{dup_at, items_in, is_live, is_stale, places_open, rows_of, with_new, without_place};
 ghost use Rattle.ksm_tree.specs.Slots.{change_at};
 
 use crate::counted_set::CountedSet;
@@ -141,8 +140,8 @@ impl Slots {
         let place = dup.row.place;
         self.counts.set(place, dup.items.len() as u32);
         self.dups.put(dup, group);
-        self.empty.remove(place);
-        self.stale.remove(place);
+        self.empty.mark(place, false);
+        self.stale.mark(place, false);
     }
 
     /// The dup at a place goes.
@@ -152,8 +151,8 @@ impl Slots {
     {
         self.counts.set(place, 0);
         self.dups.clear(place);
-        self.stale.remove(place);
-        self.empty.add(place);
+        self.stale.mark(place, false);
+        self.empty.mark(place, true);
     }
 
     /// A page becomes an item of the dup at a place. The one fault is `Memory`, and then nothing changes.
@@ -171,7 +170,7 @@ impl Slots {
         let count = self.dups.add_item(place, page)?;
         self.counts.set(place, count);
         if count == 1 {
-            self.stale.remove(place);
+            self.stale.mark(place, false);
         }
         Ok(())
     }
@@ -185,14 +184,11 @@ impl Slots {
           ready = self.new.ready;
         } }
     {
-        match self.dups.remove_item(place, page) {
-            Some(left) => {
-                self.counts.set(place, left);
-                if left == 0 {
-                    self.stale.add(place);
-                }
+        if let Some(left) = self.dups.remove_item(place, page) {
+            self.counts.set(place, left);
+            if left == 0 {
+                self.stale.mark(place, true);
             }
-            None => {}
         }
     }
 }

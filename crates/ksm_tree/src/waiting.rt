@@ -40,6 +40,7 @@ impl Waiting {
     }
 
     /// The page that waits in a tree with these bytes.
+    #[tactic(auto, using(crate::proofs::Standing::none_here))]
     pub fn find(&self, tree: u32, bytes: &PageBytes) -> Option<GuestPage>
         ensures { result ≡ waiting_page tree bytes.now self.now }
     {

@@ -6,9 +6,6 @@ pub returns-then-rest-eq0 : goal.returns-then-rest-eq0
 returns-then-rest-eq0 c = grind (arith, bit_behind c.args.word c.args.from)
 
 pub returns-else-rest-eq0 : goal.returns-else-rest-eq0
-returns-else-rest-eq0 c = grind (
-  arith,
-  bit_of_rest c.args.word c.args.from c.lowest.result,
-  bit_at_above c.args.word 64,
-  bit_behind c.args.word c.args.from,
-)
+returns-else-rest-eq0 c =
+    let rest = bit_of_rest c.args.word c.args.from c.lowest.result in
+    grind (arith, rest, bit_at_above c.args.word 64, bit_behind c.args.word c.args.from)

@@ -1,9 +1,6 @@
 use Rattle.ksm_tree.proofs.Names.{arith, get_or, list_all_more, ◌∙◌}
 use Rattle.ksm_tree.proofs.item_counts.none_open.Goals as goal
 
-pub bounds-counts-place : goal.bounds-counts-place
-bounds-counts-place c = grind arith
-
 pub loop-place-preserved : goal.loop-place-preserved
 loop-place-preserved c =
     let place = get_or c.args.places.now c.loop-place.place-index 0 in

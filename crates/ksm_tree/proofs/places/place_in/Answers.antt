@@ -15,11 +15,8 @@ returns-then-last-place-clause-count c =
     let last = c.in-Some.last.now in
     let is = sym c.last.ensures.value ∙ ap option_copied c.in-Some.is in
     let within = slice_get_within places (length places - 1) last is in
-    sym (all_counted places_ordered _ _ _ last c.requires (omega arith) (grind (
-      arith,
-      nat_tests,
-      get_or_from_slice_get places (length places - 1) last last is,
-    )))
+    let at = get_or_from_slice_get places (length places - 1) last last is in
+    sym (all_counted places_ordered _ _ _ last c.requires (omega arith) (grind (arith, nat_tests, at)))
 
 pub returns-then-last-place-2-clause-count : goal.returns-then-last-place-2-clause-count
 returns-then-last-place-2-clause-count c =

@@ -9,10 +9,5 @@ returns-then-at-places-clause-found c =
 
 pub returns-else-at-places-clause-found : goal.returns-else-at-places-clause-found
 returns-else-at-places-clause-found c =
-    grind (
-      arith,
-      absent_past places_ordered (λ p. p) c.args.place c.args.places.now
-          c.requires.order refl refl c.requires.index c.if-at-places.false,
-      le-ltb _ _ c.if-at-places.false,
-      any_found,
-    )
+    let past = absent_past places_ordered (λ p. p) c.args.place _ c.requires.order refl refl c.requires.index in
+    grind (arith, past c.if-at-places.false, le-ltb _ _ c.if-at-places.false, any_found)

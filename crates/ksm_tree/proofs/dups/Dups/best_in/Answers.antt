@@ -1,4 +1,4 @@
-use Rattle.ksm_tree.proofs.Names.{All, ap, arith, best_of, drop_of_length-le, dup_at, get_or, InPlaceOrder, items_in, length, option_copied, rows_of, unless_behind, ◌<◌, ◌∙◌, ◌≡◌}
+use Rattle.ksm_tree.proofs.Names.{All, ap, arith, best_of, drop_of_length-le, dup_at, get_or, InPlaceOrder, items_in, length, option_copied, rows_of, ◌<◌, ◌∙◌, ◌≡◌}
 use Rattle.ksm_tree.proofs.Joining.{candidate_is, candidates_within, in_room, stepped, walk_best}
 use Rattle.ksm_tree.proofs.dups.Dups.best_in.Goals as goal
 use Rattle.ksm_tree.proofs.dups.Dups.best_in.Goals.{After-loop-place, else-items-least, then-items-least+in-Some, then-items-least+in_default}
@@ -32,11 +32,9 @@ loop-place-preserved c =
     let next = stepped tree bytes limit dups best places at c.loop-place-test.true count was.1 was.0 in
     elim c.if-items-least.branch [
       | then-items-least+in-Some w ↦
-          let here = w.in-Some.ensures ∙ ap (unless_behind (option_copied w.rival_of-rival.result)) is in
-          rw (w.least-is, w.room-is, w.best-is) (grind (arith, here))
+          rw (w.least-is, w.room-is, w.best-is) (grind (arith, w.in-Some.ensures, is))
       | then-items-least+in_default w ↦
-          let here = w.in_default.ensures ∙ ap (unless_behind (option_copied w.rival_of-rival.result)) is in
-          rw (w.least-is, w.room-is, w.best-is) (grind (arith, here))
+          rw (w.least-is, w.room-is, w.best-is) (grind (arith, w.in_default.ensures, is))
       | else-items-least w ↦ rw (w.least-is, w.room-is, w.best-is) (grind (arith, w.if-items-least.false))
     ]
 
@@ -48,8 +46,5 @@ ended c =
     let best = walk_best _ _ _ _ _ _ (rw c.requires at c.places_to_join-is_chain.ensures) rise in
     grind (arith, over)
 
-pub returns-in-Some-best : goal.returns-in-Some-best
-returns-in-Some-best c = grind (arith, ended (goal.at.returns-in-Some-best c).After-loop-place)
-
-pub returns-in-None : goal.returns-in-None
-returns-in-None c = grind (arith, ended (goal.at.returns-in-None c).After-loop-place)
+pub returns : goal.returns
+returns c = grind (arith, ended (goal.at.returns c).After-loop-place)

@@ -1,16 +1,13 @@
-use Rattle.ksm_tree.proofs.Names.{ap, arith, content_in, found_at, length, List, option_map, refl, rules, sym, true, ℕ, [], ◌==◌, ◌∙◌, ◌∷◌, ◌≡◌}
+use Rattle.ksm_tree.proofs.Names.{ap, arith, content_in, found_at, length, List, option_map, refl, sym, true, ℕ, [], ◌==◌, ◌∙◌, ◌∷◌, ◌≡◌}
 use Rattle.ksm_tree.proofs.Indexed.{content_here, group_here}
 use Rattle.ksm_tree.proofs.Joining.{none_best}
-use Rattle.ksm_tree.proofs.Standing.{not_unused, stands_under}
+use Rattle.ksm_tree.proofs.Standing.{not_unused}
 use Rattle.ksm_tree.proofs.dups.Dups.best_of.Goals as goal
 
 -- a list of length 0
 none_of : (xs : List ℕ) → true ≡ (length xs == 0) → [] ≡ xs
 none_of [] none = refl
 none_of (x ∷ xs) none = grind arith
-
-pub returns-in_err-found-clause-best : goal.returns-in_err-found-clause-best
-returns-in_err-found-clause-best c tree bytes is = search (rules, stands_under)
 
 pub returns-then-is_empty-clause-best : goal.returns-then-is_empty-clause-best
 returns-then-is_empty-clause-best c = rw (← c.self.view_is) (λ tree bytes is.

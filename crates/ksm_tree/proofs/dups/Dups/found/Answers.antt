@@ -2,7 +2,7 @@ use Rattle.ksm_tree.proofs.Names.{ap, AreIndexed, arith, Dup, dups_seen, find_no
 use Rattle.ksm_tree.proofs.Indexed.{room_indexed, told}
 use Rattle.ksm_tree.proofs.Made.{fresh_indexed, seen_made, taken_indexed, told_between}
 use Rattle.ksm_tree.proofs.dups.Dups.found.Goals as goal
-use Rattle.ksm_tree.proofs.dups.Dups.found.Goals.{After-reserve, in-None, in-Some}
+use Rattle.ksm_tree.proofs.dups.Dups.found.Goals.{After-reserve, in_default, in-Some}
 
 -- the dups are found and counted by the index as before, with room for one more
 roomy : (c : After-reserve) → AreIndexed c.reserve.new.self c.self.inside.next c.self.inside.index
@@ -39,7 +39,7 @@ invariant_of-self-2 c =
       | in-Some w ↦ rw (c.put.ensures, w.self-inside-is)
           (taken_indexed _ _ (roomy here) refl (within here) _ w.in-Some.ensures c.in_ok-add.ensures.entered _
           w.replace.ensures.numbers w.replace.ensures.groups w.replace.ensures.totals)
-      | in-None w ↦ rw (c.put.ensures, w.self-inside-is) (fresh_indexed _ _ (roomy here) refl (within here) _ w.in-None.ensures c.in_ok-add.ensures.entered)
+      | in_default w ↦ rw (c.put.ensures, w.self-inside-is) (fresh_indexed _ _ (roomy here) refl (within here) _ w.in_default.ensures c.in_ok-add.ensures.entered)
     ]
 
 pub returns-clause-made : goal.returns-clause-made
@@ -50,7 +50,7 @@ returns-clause-made c =
       | in-Some w ↦ rw (c.put.ensures, w.self-inside-is, c.in_ok-items.ensures.both)
           (seen_made c.reserve.new.self c.self.inside.next c.self.inside.index w.replace.new.self dup
           c.put.new.self.ready view (grind arith))
-      | in-None w ↦ rw (c.put.ensures, w.self-inside-is, c.in_ok-items.ensures.both)
+      | in_default w ↦ rw (c.put.ensures, w.self-inside-is, c.in_ok-items.ensures.both)
           (seen_made c.reserve.new.self c.self.inside.next c.self.inside.index c.add.new.self dup
           c.put.new.self.ready view c.add.ensures.waits)
     ]

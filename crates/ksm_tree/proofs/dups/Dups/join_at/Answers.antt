@@ -8,13 +8,13 @@ add_item-requires c =
     grind (arith, same, told_there c.args.dup c.self.invariant c.self.view_is c.in-Some.ensures)
 
 pub invariant_of-self : goal.invariant_of-self
-invariant_of-self c = room_indexed c.self.invariant c.in_err-add_item-in-Some.ensures.kept
+invariant_of-self c = room_indexed c.self.invariant c.in_err-add_item.ensures.kept
 
-pub invariant_of-self-in-Some : goal.invariant_of-self-in-Some
-invariant_of-self-in-Some c = rw c.in_ok-add_item-in-Some.ensures.added (stays_indexed c.self.invariant c.in-Some.place _ _)
+pub invariant_of-self-2 : goal.invariant_of-self-2
+invariant_of-self-2 c = rw c.in_ok-add_item.ensures.added (stays_indexed c.self.invariant c.in-Some.place _ _)
 
 pub returns-clause-joined : goal.returns-clause-joined
 returns-clause-joined c =
-    rw c.in_ok-add_item-in-Some.ensures.added
+    rw c.in_ok-add_item.ensures.added
     (told_changed c.args.dup c.self.invariant c.self.view_is c.in-Some.ensures (with_item c.args.page)
     c.add_item.new.self.ready)

@@ -17,9 +17,5 @@ returns-clause-left c =
 pub returns-in_err-place-clause-left : goal.returns-in_err-place-clause-left
 returns-in_err-place-clause-left c =
     let change = λ (d : Dup). record d { items = without_item c.args.page d.items } in
-    grind (
-      arith,
-      change_none (has_number c.args.dup) change c.args.self.now.dups,
-      find_none (has_number c.args.dup)
-          c.args.self.now.dups,
-    )
+    let none = find_none (has_number c.args.dup) c.args.self.now.dups in
+    grind (arith, none, change_none (has_number c.args.dup) change c.args.self.now.dups)

@@ -1,27 +1,18 @@
-use Rattle.ksm_tree.proofs.Names.{ap, refl, rules, sym, with_place, ◌∙◌}
-use Rattle.ksm_tree.proofs.Standing.{rechained, rewritten, same_waiting, stands_under}
+use Rattle.ksm_tree.proofs.Names.{ap, arith, refl, sym, with_place, ◌∙◌}
+use Rattle.ksm_tree.proofs.Standing.{rechained, rewritten, same_waiting}
 use Rattle.ksm_tree.proofs.groups.Groups.add.Goals as goal
-
-pub unreachable-requires-in_default-get_mut : goal.unreachable-requires-in_default-get_mut
-unreachable-requires-in_default-get_mut c = search (rules, stands_under)
 
 pub invariant_of-self : goal.invariant_of-self
 invariant_of-self c =
-    record {
-      lawful = rewritten c.args.self.now _ _ _ c.in-Some-get_mut.ensures.value refl (λ same. same);
-      bounded = c.args.self.now.bounded;
-    }
+    record { lawful = rewritten c.args.self.now _ _ _ c.in-Some-get_mut.ensures.value refl (omega arith); bounded = c.args.self.now.bounded }
 
 pub returns-in_err-reserve-clause-waits : goal.returns-in_err-reserve-clause-waits
 returns-in_err-reserve-clause-waits c =
     record { waiting = same_waiting c.args.self.now _ _ _ c.in-Some-get_mut.ensures.value refl refl; numbers = refl; most = refl }
 
-pub invariant_of-self-2 : goal.invariant_of-self-2
-invariant_of-self-2 c =
-    record {
-      lawful = rewritten c.args.self.now _ _ _ c.in-Some-get_mut.ensures.value refl (λ same. same);
-      bounded = c.args.self.now.bounded;
-    }
+pub invariant_of-self-2-clause-lawful : goal.invariant_of-self-2-clause-lawful
+invariant_of-self-2-clause-lawful c =
+    rewritten c.args.self.now _ _ _ c.in-Some-get_mut.ensures.value refl (λ same. same)
 
 pub returns-clause-added : goal.returns-clause-added
 returns-clause-added c =

@@ -9,11 +9,8 @@ gone c =
     (c.if-not-is_idle.ensures.idle refl) (refl, refl)
     (ap content_in (sym c.in-Some.ensures.value)) refl refl
 
-pub invariant_of-self : goal.invariant_of-self
-invariant_of-self c = record {
-  lawful = (gone (goal.at.invariant_of-self c).After-remove).lawful;
-  bounded = c.args.self.now.bounded;
-}
+pub invariant_of-self-clause-lawful : goal.invariant_of-self-clause-lawful
+invariant_of-self-clause-lawful c = (gone (goal.at.invariant_of-self-clause-lawful c).After-remove).lawful
 
 pub returns-in-Some-clause-chains : goal.returns-in-Some-clause-chains
 returns-in-Some-clause-chains c = record

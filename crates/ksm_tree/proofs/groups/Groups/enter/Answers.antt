@@ -1,18 +1,8 @@
 use Rattle.ksm_tree.proofs.Names.{ap, arith, content_of, get, Group, refl, rules, Some, subst, sym, ℕ, ◌∙◌, ◌≡◌}
 use Rattle.slab.specs.Slab.{Updates as Fills}
-use Rattle.ksm_tree.proofs.Numbers.{on_err}
-use Rattle.ksm_tree.proofs.Standing.{came, Keeps, none_here, one_more}
+use Rattle.ksm_tree.proofs.Standing.{came, Keeps, one_more}
 use Rattle.ksm_tree.proofs.groups.Groups.enter.Goals as goal
 use Rattle.ksm_tree.proofs.groups.Groups.enter.Goals.{After-insert_reserved}
-
-pub returns-in_err-reserve_one-clause-absent : goal.returns-in_err-reserve_one-clause-absent
-returns-in_err-reserve_one-clause-absent c = search (rules, on_err, none_here)
-
-pub returns-in_default-clause-absent : goal.returns-in_default-clause-absent
-returns-in_default-clause-absent c = search (rules, none_here)
-
-pub returns-in_err-insert-clause-absent : goal.returns-in_err-insert-clause-absent
-returns-in_err-insert-clause-absent c = search (rules, on_err, none_here)
 
 entered : (c : After-insert_reserved) → Keeps c.args.self.now c.insert_reserved.new.self c.insert.new.self
 entered c =

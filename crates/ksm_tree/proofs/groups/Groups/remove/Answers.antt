@@ -2,12 +2,8 @@ use Rattle.ksm_tree.proofs.Names.{refl, sym, without}
 use Rattle.ksm_tree.proofs.Standing.{rechained, rewritten, same_waiting}
 use Rattle.ksm_tree.proofs.groups.Groups.remove.Goals as goal
 
-pub invariant_of-self : goal.invariant_of-self
-invariant_of-self c =
-    record {
-      lawful = rewritten c.args.self.now _ _ _ c.in-Some-get_mut.ensures.value refl (λ same. same);
-      bounded = c.args.self.now.bounded;
-    }
+pub invariant_of-self-clause-lawful : goal.invariant_of-self-clause-lawful
+invariant_of-self-clause-lawful c = rewritten c.args.self.now _ _ _ c.in-Some-get_mut.ensures.value refl (λ same. same)
 
 pub returns-in-Some-get_mut-clause-removed : goal.returns-in-Some-get_mut-clause-removed
 returns-in-Some-get_mut-clause-removed c =

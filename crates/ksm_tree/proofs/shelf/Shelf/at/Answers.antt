@@ -1,10 +1,7 @@
-use Rattle.ksm_tree.proofs.Names.{ap, arith, get, get_or, kept_at, length, None, rules, ◌<◌, ◌∙◌, ◌≡◌}
-use Rattle.ksm_tree.proofs.Shelved.{seen_by, seen_past}
+use Rattle.ksm_tree.proofs.Names.{ap, arith, get, get_or, kept_at, length, None, ◌<◌, ◌∙◌, ◌≡◌}
+use Rattle.ksm_tree.proofs.Shelved.{seen_by}
 use Rattle.ksm_tree.proofs.shelf.Shelf.at.Goals as goal
 use Rattle.ksm_tree.proofs.shelf.Shelf.at.Goals.{In_ok-key}
-
-pub returns-in_err-key : goal.returns-in_err-key
-returns-in_err-key c = search (rules, seen_past)
 
 -- what is at the place lies under its key
 seen : (c : In_ok-key) → kept_at c.args.place (get c.self.inside.dups c.in_ok-key.field-0.now) ≡ get_or c.args.self.now.slots c.args.place None
@@ -18,10 +15,5 @@ pub returns-in_err-kept : goal.returns-in_err-kept
 returns-in_err-kept c =
     grind (arith, c.from_residual-in_err-kept.ensures, seen (goal.at.returns-in_err-kept c).In_ok-key)
 
-pub returns-then-kept-place : goal.returns-then-kept-place
-returns-then-kept-place c =
-    grind (arith, c.in_ok-kept.ensures, seen (goal.at.returns-then-kept-place c).In_ok-key)
-
-pub returns-else-kept-place : goal.returns-else-kept-place
-returns-else-kept-place c =
-    grind (arith, c.in_ok-kept.ensures, seen (goal.at.returns-else-kept-place c).In_ok-key)
+pub returns : goal.returns
+returns c = grind (arith, c.in_ok-kept.ensures, seen (goal.at.returns c).In_ok-key)

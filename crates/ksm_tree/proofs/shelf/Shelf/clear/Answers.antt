@@ -1,5 +1,5 @@
-use Rattle.ksm_tree.proofs.Names.{arith, get_or, is_some, None, rules, true, ◌≡◌}
-use Rattle.ksm_tree.proofs.Shelved.{emptied, filled_key}
+use Rattle.ksm_tree.proofs.Names.{arith, get_or, is_some, None, true, ◌≡◌}
+use Rattle.ksm_tree.proofs.Shelved.{filled_key}
 use Rattle.ksm_tree.proofs.shelf.Shelf.clear.Goals as goal
 use Rattle.ksm_tree.proofs.shelf.Shelf.clear.Goals.{Then-is_some}
 
@@ -10,6 +10,3 @@ there c = grind (arith, c.at.ensures)
 pub index-key-requires : goal.index-key-requires
 index-key-requires c =
     omega (arith, filled_key _ _ _ c.self.view_is (there (goal.at.index-key-requires c).Then-is_some), c.self.inside.keys.ok.0)
-
-pub returns-then-is_some-clause-slots : goal.returns-then-is_some-clause-slots
-returns-then-is_some-clause-slots c = search (rules, emptied, there)

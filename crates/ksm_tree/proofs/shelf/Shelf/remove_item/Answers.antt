@@ -1,36 +1,23 @@
-use Rattle.ksm_tree.proofs.Names.{ap, change_slot, get_or, items_in, length, None, refl, rules, slots_by, Updates-with_value, with_value, without_item, ◌∙◌, ◌≡◌}
-use Rattle.ksm_tree.proofs.Shelved.{changed, filled_key, items_there, not_none}
+use Rattle.ksm_tree.proofs.Names.{ap, arith, get_or, items_in, length, None, rules, Updates-with_value, without_item, ◌∙◌, ◌≡◌}
+use Rattle.ksm_tree.proofs.Shelved.{changed, items_there, not_none}
 use Rattle.ksm_tree.proofs.shelf.Shelf.remove_item.Goals as goal
-use Rattle.ksm_tree.proofs.shelf.Shelf.remove_item.Goals.{After-remove}
-
-pub index-key-requires : goal.index-key-requires
-index-key-requires c = search (rules, filled_key)
+use Rattle.ksm_tree.proofs.shelf.Shelf.remove_item.Goals.{After-remove-was_one}
 
 pub unreachable-requires : goal.unreachable-requires
-unreachable-requires c = not_none _ _ _ c.self.view_is c.index-key.ensures c.requires c.in-None.ensures.value
+unreachable-requires c = not_none _ _ _ c.self.view_is c.index-key.ensures c.requires c.in_default.ensures.value
 
 -- the items at the place are those of the dup
-items : (c : After-remove) → items_in (get_or c.args.self.now.slots c.args.place None) ≡ c.in-Some.kept.now.dup.items
+items : (c : After-remove-was_one) → items_in (get_or c.args.self.now.slots c.args.place None) ≡ c.in-Some.kept.now.dup.items
 items c = items_there _ _ _ c.self.view_is c.index-key.ensures c.requires c.in-Some.ensures.value
 
--- the page is taken out of the items at the place
-removed : (c : After-remove) → slots_by 0 c.self.inside.keys.items (with_value c.self.inside.dups c.index-key.result.now (record c.in-Some.kept.now { dup = record c.in-Some.kept.now.dup { items = c.remove.new.self } })) ≡ change_slot c.args.place (without_item c.args.page) c.args.self.now.slots
-removed c =
-    changed _ _ _ c.self.view_is c.index-key.ensures c.requires (without_item c.args.page) c.in-Some.ensures.value
-    (λ i. record { row = c.in-Some.kept.now.dup.row; items = c.remove.ensures.removed i })
-    (Updates-with_value _ _ _ (search rules))
-
-pub returns-then-not-remove-clause-removed : goal.returns-then-not-remove-clause-removed
-returns-then-not-remove-clause-removed c = removed (goal.at.returns-then-not-remove-clause-removed c).After-remove
-
-pub returns-then-not-remove-clause-count : goal.returns-then-not-remove-clause-count
-returns-then-not-remove-clause-count c =
-    rw (items (goal.at.returns-then-not-remove-clause-count c).After-remove, ← c.if-not-remove.ensures.found) refl
-
 pub returns-clause-removed : goal.returns-clause-removed
-returns-clause-removed c = removed (goal.at.returns-clause-removed c).After-remove
+returns-clause-removed c =
+    changed _ _ _ c.self.view_is c.index-key.ensures c.requires (without_item c.args.page) c.in-Some.ensures.value
+    (λ i. record { row = c.in-Some.kept.now.dup.row; items = c.remove-was_one.ensures.removed i })
+    (Updates-with_value _ _ _ (search rules))
 
 pub returns-clause-count : goal.returns-clause-count
 returns-clause-count c =
-    let count = c.len.ensures.count ∙ ap length c.remove.ensures.removed in
-    rw (items (goal.at.returns-clause-count c).After-remove, ← c.if-not-remove.ensures.found, count) refl
+    let count = c.len.ensures.count ∙ ap length c.remove-was_one.ensures.removed in
+    rw (items (goal.at.returns-clause-count c).After-remove-was_one, ← c.remove-was_one.ensures.found, ← count)
+    (grind (arith, c.then_some.ensures))

@@ -1,30 +1,18 @@
 use Rattle.ksm_tree.proofs.Names.{arith, without_item}
-use Rattle.ksm_tree.proofs.OneSlot.{had_item, slot_filled, slots_changed, slots_kept, slots_same, view_changed}
+use Rattle.ksm_tree.proofs.OneSlot.{had_item, slot_filled, slots_changed, slots_kept, slots_same}
 use Rattle.ksm_tree.proofs.slots.Slots.remove_item.Goals as goal
-
-pub remove_item-requires : goal.remove_item-requires
-remove_item-requires c = grind (arith, slot_filled)
 
 pub invariant_of-self : goal.invariant_of-self
 invariant_of-self c = rw (c.in-Some.ensures.removed, c.set.ensures)
     (slots_changed c.self.invariant c.args.place (without_item c.args.page) (grind (arith, slot_filled))
-    (grind arith) (grind (arith, c.add.ensures)))
+    (grind arith) (grind (arith, c.mark.ensures)))
 
 pub invariant_of-self-else-left-eq0 : goal.invariant_of-self-else-left-eq0
 invariant_of-self-else-left-eq0 c = rw (c.in-Some.ensures.removed, c.set.ensures)
     (slots_kept c.self.invariant c.args.place (without_item c.args.page) (grind (arith, slot_filled)) (grind arith)
     (grind (arith, had_item)))
 
-pub invariant_of-self-in-None : goal.invariant_of-self-in-None
-invariant_of-self-in-None c =
-    rw (c.in-None.ensures.removed) (rw (slots_same c.args.place c.args.page c.self.inside.dups.slots (grind arith))
+pub invariant_of-self-in_default : goal.invariant_of-self-in_default
+invariant_of-self-in_default c =
+    rw (c.in_default.ensures.removed) (rw (slots_same c.args.place c.args.page c.self.inside.dups.slots (grind arith))
     c.self.invariant)
-
-pub returns-then-left-eq0 : goal.returns-then-left-eq0
-returns-then-left-eq0 c = grind (arith, view_changed)
-
-pub returns-else-left-eq0 : goal.returns-else-left-eq0
-returns-else-left-eq0 c = grind (arith, view_changed)
-
-pub returns-in-None : goal.returns-in-None
-returns-in-None c = grind (arith, view_changed)
