@@ -30,6 +30,7 @@ use ksm_base::{Fault, GuestPage, MOST_FRAMES, PageBytes};
 use slab::Slab;
 use std::alloc::Global;
 use std::collections::BTreeMap;
+use std::collections::btree_map::Entry;
 
 /// Where the caller remembers no number.
 pub const NO_NUMBER: u32 = u32::MAX;
@@ -180,26 +181,21 @@ impl Groups {
         ensures memory { IfErr result (λ fault. fault ≡ Fault.Memory) }
     {
         self.make_room();
-        match self.search(tree, bytes) {
-            Some(number) => Ok(number),
-            None if self.numbers.len() < self.most => self.enter(alloc, tree, bytes),
-            None => Err(Fault::Memory),
-        }
+        self.find_or_enter(alloc, tree, bytes)
     }
 
-    // A group that has no number gets one. The one fault is `Memory`, and then nothing changes.
-    fn enter(&mut self, alloc: Global, tree: u32, bytes: &PageBytes) -> Result<u32, Fault>
-        requires { number_of tree bytes.now self.old.numbers.entries ≡ None }
+    // The same, where there may be one group more. One search finds the group, or the place for it.
+    fn find_or_enter(&mut self, alloc: Global, tree: u32, bytes: &PageBytes) -> Result<u32, Fault>
         ensures numbered { IfOk result (λ number. number_of tree bytes.now self.new.numbers.entries ≡ Some number) }
         ensures chains { SameChains self.old self.new }
         ensures waiting { waiting_in self.new ≡ waiting_in self.old }
         ensures absent { OnErr result (waiting_page tree bytes.now (waiting_in self.old) ≡ None) }
-        ensures entered { IfOk result (λ _.
-            (length self.new.numbers.entries ≡ length self.old.numbers.entries + 1)
+        ensures entered { (self.new.numbers.entries ≡ self.old.numbers.entries)
+            ⊎ ((length self.old.numbers.entries < self.old.most)
+            × (length self.new.numbers.entries ≡ length self.old.numbers.entries + 1)
             × ((t : ℕ) (b : List ℕ) → is_some (number_of t b self.new.numbers.entries) ≡ true
             → (t == tree && bytes_eq b bytes.now) ≡ false
             → is_some (number_of t b self.old.numbers.entries) ≡ true)) }
-        ensures kept { OnErr result (self.new.numbers.entries ≡ self.old.numbers.entries) }
         ensures most { self.new.most ≡ self.old.most }
         ensures memory { IfErr result (λ fault. fault ≡ Fault.Memory) }
     {
@@ -207,18 +203,27 @@ impl Groups {
             tree,
             bytes: *bytes,
         };
-        reserve_one(&mut self.groups)?;
-        let Ok(number) = u32::try_from(self.groups.vacant_key()) else {
-            return Err(Fault::Memory);
-        };
-        self.numbers.insert(content, number)?;
-        let _ = self.groups.insert_reserved(Group {
-            content,
-            page: GuestPage { guest: 0, page: 0 },
-            pass: 0,
-            places: Places::new(alloc),
-        });
-        Ok(number)
+        let full = self.numbers.len() >= self.most;
+        match self.numbers.entry(content)? {
+            Entry::Occupied(entry) => Ok(*entry.get()),
+            Entry::Vacant(entry) => {
+                if full {
+                    return Err(Fault::Memory);
+                }
+                reserve_one(&mut self.groups)?;
+                let Ok(number) = u32::try_from(self.groups.vacant_key()) else {
+                    return Err(Fault::Memory);
+                };
+                let number = *entry.insert(number);
+                let _ = self.groups.insert_reserved(Group {
+                    content,
+                    page: GuestPage { guest: 0, page: 0 },
+                    pass: 0,
+                    places: Places::new(alloc),
+                });
+                Ok(number)
+            }
+        }
     }
 
     // Where there are as many groups as may be, those go in which nothing stands.
