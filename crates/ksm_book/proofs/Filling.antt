@@ -15,11 +15,11 @@ as_it_was k g = grind (arith, set-get_or k.frames g blank)
 module _ (k : Ledger) (g : ℕ) (lt : g < length k.frames) where
   -- the frame has the note that it got
   pub at_again : (a : Note) → frame_at (with_frame k g a) g ≡ a
-  at_again a = get_or-set_same k.frames g a blank lt
+  at_again a = grind (arith, get_or-set_same)
 
   -- two changes of a frame's note, one after the other, are one change by both
   pub again : (a : Note) (F : Note → Note) → with_frame (with_frame k g a) g (F (frame_at (with_frame k g a) g)) ≡ with_frame k g (F a)
-  again a F = rw (at_again a) (grind (arith, set-set k.frames g a (F a)))
+  again a F = grind (arith, at_again, set-set)
 
   -- a change of the frame's note that follows another is one change by both
   pub follow : {l m : Ledger} (a : Note) (F : Note → Note) → m ≡ with_frame l g (F (frame_at l g)) → l ≡ with_frame k g a → m ≡ with_frame k g (F a)
@@ -41,7 +41,7 @@ module _ (v w : KeeperView) (node g : ℕ) (less : node < v.table.shape.nodes) (
 
   -- the frame found is one that the keeper knows
   pub found_within : g < length w.ledger.frames
-  found_within = omega (arith, found_placed.frames_long, found_inside)
+  found_within = grind (arith, found_placed, found_inside)
 
   -- once the frame found is raised it is ready to be filled
   pub raised_ready : (r : KeeperView) (n : ℕ) → r ≡ did w (Raise g) n

@@ -100,7 +100,7 @@ reaps_spend : (fs : List ℕ) (v w : KeeperView) → MakesSteps v w (map Reap fs
 reaps_spend [] v w m = grind (arith, m, none_made m)
 reaps_spend (f ∷ fs) v w m =
     let first = first_made m in
-    omega (arith, reap_spends v f first.0, reaps_spend fs (did v (Reap f) first.0) w first.1)
+    grind (arith, reap_spends, reaps_spend fs (did v (Reap f) first.0) w first.1)
 
 -- the frames of a node end at the end of the table or before it
 pub node_end : (node nodes size : ℕ) → node < nodes → node * size + size ≤ nodes * size

@@ -179,10 +179,9 @@ module _ {sh : Shape} {across : ℕ} {k : Ledger} {rows : List Row} {frame : Fra
         let again : change_row page d bare ≡ change_row page c rows =
         change_twice _ _ d c _ (λ r. refl) (grind (arith, row_of_page)) in
         let there : lies_on page (Some g) off ≡ frame = lies_again page None (Some g) frame ∙ lies_still _ _ _ lies in
-        let here : off page ≡ None = on_page page None frame page (same_page_refl page) in
         let s = swapped (Some g) {page = page} d _ (ordered_change _ _ _ (λ r. refl) rise)
         (at_changed page bared rows row (λ r. refl) found) (λ r. refl) q (grind arith) in
-        grind arith
+        grind (arith, on_page, same_page_refl)
 
     -- rows and dups lie lawfully where a row that is not shared gets new bytes, and its frame holds them
     pub written_in : (c : Row → Row) → ((r : Row) → (c r).page ≡ r.page) → (fr : Note) → fr.kind ≡ Private → fr.base ≡ (frame_at k g).base → fr.generation ≡ (frame_at k g).generation → length fr.content ≡ PAGE_WORDS

@@ -1,8 +1,8 @@
 -- A dup with items, and where its pages lie before and after it moves.
-use Rattle.ksm_book.proofs.Names.{All, All-contains_itself, ap, arith, Bool, Contains, count_in, did, dup_frame, dup_numbered, DupFits, DupRow, each_has_number, Err, find_all, find_passes, Finds}
-use Rattle.ksm_book.proofs.Names.{FindsHeld, FindsNone, frame_at, frames_of, Freeze, get_or-set_other, GuestPage, has_items, HasRemounted, instead, InUse, is_frame, IsInLife, IsLaid, IsLowestFree}
-use Rattle.ksm_book.proofs.Names.{item_count, items_on, KeeperView, length-set, List, list_any, list_any_at, lying, MakesSteps, MayMount, MayMove, merged_into, mounting, Moves, NoFrame, None, Note}
-use Rattle.ksm_book.proofs.Names.{Ok, once_mounted, PagesView, place_frame, Placed, Publish, refl, Row, row_at, Shape, Some, spent, Stable, true, with_frame, ℕ, ◌&&◌, ◌<◌, ◌==◌, ◌∙◌, ◌≡◌, ◌≢◌, ◌≤◌}
+use Rattle.ksm_book.proofs.Names.{All, All-contains_itself, ap, arith, Bool, Contains, count_in, did, dup_numbered, DupFits, DupRow, each_has_number, Err, find_all, find_passes, Finds, FindsNone}
+use Rattle.ksm_book.proofs.Names.{frame_at, frames_of, Freeze, get_or-set_other, GuestPage, has_items, HasRemounted, instead, InUse, is_frame, IsInLife, IsLaid, IsLowestFree, item_count, items_on}
+use Rattle.ksm_book.proofs.Names.{KeeperView, length-set, List, list_any, list_any_at, MakesSteps, MayMount, MayMove, merged_into, mounting, NoFrame, None, Note, Ok, once_mounted, PagesView}
+use Rattle.ksm_book.proofs.Names.{place_frame, Placed, Publish, refl, Row, row_at, Shape, Some, spent, Stable, true, with_frame, ℕ, ◌&&◌, ◌<◌, ◌==◌, ◌∙◌, ◌≡◌, ◌≢◌, ◌≤◌}
 use Rattle.ksm_book.proofs.ByPage.{found_page, same_frames}
 use Rattle.ksm_book.proofs.Filling.{at_again}
 use Rattle.ksm_book.proofs.Keeping.{searched_placed, searched_spends, spent_kept}
@@ -71,10 +71,6 @@ module _ {v : PagesView} {k : KeeperView} {dup : DupRow} {node g : ℕ} (may : M
         (among (λ d. d.place ≡ dup.place → All (λ r. merged_into d.number r.state ≡ true → v.frame r.page ≡ Some g) v.rows) lie refl)
         live.merged
 
-    -- the frame of the dup is its first item's
-    dup_frame_is : dup_frame v.frame v.rows dup.number ≡ g
-    dup_frame_is = grind (arith, item_lies)
-
     on_frame : g ≡ place_frame w.ledger dup.place
     on_frame = grind (arith, item_lies, live)
 
@@ -121,15 +117,9 @@ module _ {v : PagesView} {k : KeeperView} {dup : DupRow} {node g : ℕ} (may : M
         still : u.ledger ≡ w.ledger
         still = grind arith
 
-        found_held : FindsHeld (lying v k) (lying v u) v.rows dup node
-        found_held = grind (arith, dup_frame_is, still, known)
-
-        laid_lost : IsLaid v u
-        laid_lost = grind (arith, more_spent, still, p)
-
         -- where the exchange found another count than the keeper's references, the dup stays
         pub stays : {X : Type 0} → HasRemounted {X = X} v v k u dup node (Err InUse)
-        stays = grind (arith, laid_lost, found_held)
+        stays = grind (arith, more_spent, still, p, known, item_lies)
 
       -- it is made where the keeper's references are all
       module _ (all : count_in found ≡ n.base) where
@@ -165,10 +155,6 @@ module _ {v : PagesView} {k : KeeperView} {dup : DupRow} {node g : ℕ} (may : M
           goes_there : q.frame ≡ instead g f v.frame
           goes_there = rw goes (items_go f)
 
-          moves : (before : KeeperView) × (x ≡ did before (Publish dup.place f) 0)
-              → Moves (lying v k) (lying q x) v.rows dup node
-          moves named = grind (arith, dup_frame_is, known, may_mount, base, at_g, goes_there)
-
           ledger_is : x.ledger ≡ next p dup among g f on_frame
           ledger_is = grind (arith, frozen, at_other f apart, at_g)
 
@@ -184,7 +170,7 @@ module _ {v : PagesView} {k : KeeperView} {dup : DupRow} {node g : ℕ} (may : M
           -- once the new frame is mounted and the items lie there, the dup has moved to a frame of the node
           pub has_remounted : {X : Type 0} {done : X} → (before : KeeperView) × (x ≡ did before (Publish dup.place f) 0)
               → HasRemounted {X = X} v q k x dup node (Ok done)
-          has_remounted shows = grind (arith, laid_moved_dup, moves)
+          has_remounted shows = grind (arith, laid_moved_dup, item_lies, known, may_mount, base, at_g, goes_there)
 
 -- where a dup is to move from a place, a dup stands at that place
 pub taken_place : {v : PagesView} {k : KeeperView} {dup : DupRow} {node : ℕ} → MayMove v k dup node
