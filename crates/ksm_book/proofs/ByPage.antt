@@ -15,10 +15,6 @@ one_at f o = cond (is_frame f o) 1 0
 
 -- ---------------------------------------------------------------- a page
 
--- a page that comes to lie on a frame, or on none, lies there
-pub on_page : (page : GuestPage) (o : Option ℕ) (frame : Frames) (p : GuestPage) → same_page p page ≡ true → lies_on page o frame p ≡ o
-on_page page o frame p same = rw same
-
 -- the row that is found at a page is of that page
 pub found_page : (page : GuestPage) (rows : List Row) (row : Row) → row_at page rows ≡ Some row → row.page ≡ page
 found_page page rows row found = same_page_eq _ _ (grind (arith, find_passes))
@@ -72,10 +68,9 @@ module _ (f : ℕ) (page : GuestPage) (o : Option ℕ) (frame : Frames) where
   pub uses_changed : (c : Row → Row) (rows : List Row) (row : Row) → InPageOrder rows → row_at page rows ≡ Some row → ((r : Row) → (c r).page ≡ r.page)
       → uses f (lies_on page o frame) (change_row page c rows) + one_at f (frame page) ≡ uses f frame rows + one_at f o
   uses_changed c rows row rise found keeps =
-      let same = uses_mapped f (lies_on page o frame) (λ r. if same_page r.page page then c r else r) rows
-      (λ r. grind (arith, keeps r)) in
+      let same = uses_mapped f (lies_on page o frame) (λ r. if same_page r.page page then c r else r) rows (λ r. grind (arith, keeps r)) in
       let on_new = count_without_page new_test page rows row rise found in
-      grind (arith, found_page page rows row found, uses_gone rows row rise found, on_page, same_page_refl)
+      grind (arith, found_page page rows row found, uses_gone rows row rise found, same_page_refl)
 
 -- where a row comes at a page that had none, one row more lies on the frame if it comes there, else as many
 pub uses_come : (f : ℕ) (o : Option ℕ) (frame : Frames) (row : Row) (rows : List Row) → row_at row.page rows ≡ None

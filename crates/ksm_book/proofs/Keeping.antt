@@ -77,9 +77,6 @@ module _ (v : KeeperView) (g found : ℕ) where
   still_left : (h : ℕ) → IsLeft v.table.shape v.ledger h → IsLeft v.table.shape reaped_view.ledger h
   still_left h left = grind (arith, set_holds (λ x. x.base ≡ 0) v.ledger.frames g h new refl left.1)
 
-  reap_spends : spent v.ledger ≤ spent reaped_view.ledger
-  reap_spends = grind (arith, spent_kept)
-
   reap_placed : {hand : Option ℕ} → IsLeft v.table.shape v.ledger g → Keeps v reaped_view hand hand
   reap_placed {hand} left across rows frame dups p =
       let reaps : Placed v.table.shape across (with_frame v.ledger g new) rows frame dups hand =
@@ -100,7 +97,7 @@ reaps_spend : (fs : List ℕ) (v w : KeeperView) → MakesSteps v w (map Reap fs
 reaps_spend [] v w m = grind (arith, m, none_made m)
 reaps_spend (f ∷ fs) v w m =
     let first = first_made m in
-    grind (arith, reap_spends, reaps_spend fs (did v (Reap f) first.0) w first.1)
+    grind (arith, spent_kept, reaps_spend fs (did v (Reap f) first.0) w first.1)
 
 -- the frames of a node end at the end of the table or before it
 pub node_end : (node nodes size : ℕ) → node < nodes → node * size + size ≤ nodes * size

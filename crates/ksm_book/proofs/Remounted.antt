@@ -67,14 +67,10 @@ module _ {sh : Shape} {across : ℕ} {k : Ledger} {rows : List Row} {frame : Fra
         → (e.place ≢ q → e.number ≢ moving.number) → Agrees k r left e → Agrees next r g e
     moved_agrees r e all m others a = grind (arith, at_g, named_off, notes, get_or-set_same)
 
-    still_agrees : (r : Row) (f : ℕ) (e : DupRow) → f ≢ g → f ≢ left → DupFits sh across k e → Agrees k r f e
-        → Agrees next r f e
-    still_agrees r f e ng nl m a = grind (arith, named_off, at_other, notes, get_or-set_same)
-
     serves : (r : Row) (f : ℕ) → f ≢ g → Serves sh k dups r f
         → IsServed sh next dups r (cond (is_frame left (Some f)) (Some g) (Some f))
     serves r f far h =
-        dite (ℕ_discrete f left) (λ e. grind (arith, eq-eqb, at_g, moved_agrees)) (λ ne. grind (arith, ne_eqb, at_other, still_agrees))
+        dite (ℕ_discrete f left) (λ e. grind (arith, eq-eqb, at_g, moved_agrees)) (λ ne. grind (arith, ne_eqb, named_off, notes, get_or-set_same))
 
     dup_fits : (e : DupRow) → DupFits sh across k e → DupFits sh across next e
     dup_fits e m = grind (arith, notes, named_off, get_or-set_same)

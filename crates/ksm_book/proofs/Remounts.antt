@@ -114,12 +114,9 @@ module _ {v : PagesView} {k : KeeperView} {dup : DupRow} {node g : ℕ} (may : M
     module _ {u : KeeperView} (found : ℕ) (freezes : u ≡ did w (Freeze g) found) where
       -- it fails where a reader holds the frame
       module _ (other : count_in found ≢ n.base) where
-        still : u.ledger ≡ w.ledger
-        still = grind arith
-
         -- where the exchange found another count than the keeper's references, the dup stays
         pub stays : {X : Type 0} → HasRemounted {X = X} v v k u dup node (Err InUse)
-        stays = grind (arith, more_spent, still, p, known, item_lies)
+        stays = grind (arith, more_spent, p, known, item_lies)
 
       -- it is made where the keeper's references are all
       module _ (all : count_in found ≡ n.base) where

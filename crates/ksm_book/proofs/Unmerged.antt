@@ -138,9 +138,6 @@ module _ {p q : PagesView} {k l : KeeperView} {guest : Option ℕ} {count : ℕ}
     met_before : filter (is_shared_of guest) cut.before ≡ met
     met_before = cut.met (λ x. shared_state x.state)
 
-    all_met : filter (is_shared_of guest) p.rows ≡ met ++ filter (is_shared_of guest) (r ∷ cut.rest)
-    all_met = grind (arith, cut.whole, filter-append, met_before)
-
     -- the next page is at home on a node that is there
     pub unsharing_home : {held : Held} → IsHeld q page held → All (λ x. x.home < p.shape.nodes) p.rows → held.home < q.shape.nodes
     unsharing_home h homes =
@@ -158,9 +155,9 @@ module _ {p q : PagesView} {k l : KeeperView} {guest : Option ℕ} {count : ℕ}
     unsharing_stop {v} {w} {fault} h = record {
       at = Some r;
       fault = grind (arith, cut.there);
-      stands = grind (arith, all_met, seam, cut.there);
+      stands = grind (arith, cut.whole, filter-append, met_before, seam, cut.there);
       pages = grind (arith, cut.stop);
-      unmerges = grind (arith, all_met, cut.there, take-append_seam);
+      unmerges = grind (arith, cut.whole, filter-append, met_before, cut.there, take-append_seam);
       laid = h.turned.laid;
     }
 
