@@ -85,11 +85,7 @@ module _ {asked : Row → Bool} (f : Row → Row) (keeps : (r : Row) → (f r).p
 
   -- where no row asked for comes after the cursor, each row asked for is changed, and those left are not asked for
   pub along_end : find (next_of last) now ≡ None → (now ≡ change_rows asked f rows) × All (λ r. asked r ≡ false) left
-  along_end ended =
-      let all = find_none _ _ (sym among ∙ ended) in (
-        grind (arith, change_none, map-append changed done left),
-        λ k d lt. sym (agree k d lt) ∙ all k d lt,
-      )
+  along_end ended = grind (arith, find_none, among, change_none, map-append, agree)
 
   module _ (rise : InPageOrder rows) (r : Row) (found : find (next_of last) now ≡ Some r) where
     cut : (passed : List Row) × (rest : List Row) × (left ≡ passed ++ r ∷ rest) × (asked r ≡ true) × All (λ x. asked x ≡ false) passed

@@ -1,7 +1,7 @@
 -- Rows that change at one page: what becomes of what holds of each row, and of how many lie on a frame.
-use Rattle.ksm_book.proofs.Names.{All, All-map, ap, arith, Bool, change_row, cond, count_alike, count_mapped, count_with_row, count_without_page, counts_one, eq-eqb, false, filter_passes, find_all}
-use Rattle.ksm_book.proofs.Names.{find_changed, find_none, find_passes, Frames, get_or, GuestPage, if◌then◌else◌, InPageOrder, is_frame, lies_on, List, map, map_mapped, None, not, not-true}
-use Rattle.ksm_book.proofs.Names.{one_of_each_page, Option, refl, Row, row_at, same_page, same_page_eq, same_page_refl, Some, true, uses, with_row, without_page, ℕ, ◌+◌, ◌∙◌, ◌≡◌, ◌≢◌, ◌≤◌, ◌⊎◌}
+use Rattle.ksm_book.proofs.Names.{All, All-map, arith, Bool, change_row, cond, count_alike, count_mapped, count_with_row, count_without_page, counts_one, eq-eqb, false, filter_passes, find_all}
+use Rattle.ksm_book.proofs.Names.{find_changed, find_none, find_passes, Frames, GuestPage, if◌then◌else◌, InPageOrder, is_frame, lies_on, List, map, map_mapped, None, not, not-true, one_of_each_page}
+use Rattle.ksm_book.proofs.Names.{Option, Row, row_at, same_page, same_page_eq, same_page_refl, Some, true, uses, with_row, without_page, ℕ, ◌+◌, ◌≡◌, ◌≤◌}
 
 -- frames that are equal at each page are equal
 pub same_frames : (f g : Frames) → ((page : GuestPage) → f page ≡ g page) → f ≡ g
@@ -13,26 +13,7 @@ same_frames f g each = λ i page. each page i
 abbrev pub one_at : ℕ → Option ℕ → ℕ
 one_at f o = cond (is_frame f o) 1 0
 
--- a page on the frame counts once for it
-pub one_same : (f : ℕ) {o : Option ℕ} → o ≡ Some f → one_at f o ≡ 1
-one_same f e = grind arith
-
-is_it : (f : ℕ) {o : Option ℕ} → o ≡ Some f → is_frame f o ≡ true
-is_it f e = ap (is_frame f) e ∙ eq-eqb f f refl
-
--- another frame, or none, fails the test for frame f
-pub not_on : (f : ℕ) (o : Option ℕ) → o ≢ Some f → is_frame f o ≡ false
-not_on f o ne = grind arith
-
--- a page is on the frame, or it is not
-pub frame_cases : (f : ℕ) (o : Option ℕ) → (o ≡ Some f) ⊎ (o ≢ Some f)
-frame_cases f o = grind arith
-
 -- ---------------------------------------------------------------- a page
-
--- a page that comes to lie on a frame, or on none, lies there
-pub on_page : (page : GuestPage) (o : Option ℕ) (frame : Frames) (p : GuestPage) → same_page p page ≡ true → lies_on page o frame p ≡ o
-on_page page o frame p same = rw same
 
 -- the row that is found at a page is of that page
 pub found_page : (page : GuestPage) (rows : List Row) (row : Row) → row_at page rows ≡ Some row → row.page ≡ page
@@ -40,11 +21,11 @@ found_page page rows row found = same_page_eq _ _ (grind (arith, find_passes))
 
 -- a page that comes to lie on a frame twice lies on the second
 pub lies_again : (page : GuestPage) (o n : Option ℕ) (frame : Frames) → lies_on page n (lies_on page o frame) ≡ lies_on page n frame
-lies_again page o n frame = same_frames _ _ (λ p. grind arith)
+lies_again page o n frame = grind (arith, same_frames)
 
 -- a page that lies where it lay changes nothing
 pub lies_still : (page : GuestPage) (o : Option ℕ) (frame : Frames) → frame page ≡ o → lies_on page o frame ≡ frame
-lies_still page o frame there = same_frames _ _ (λ p. grind arith)
+lies_still page o frame there = grind (arith, same_frames)
 
 -- ---------------------------------------------------------------- the rows
 
@@ -64,8 +45,7 @@ all_changed_row P Q page c rows row rise found all others here =
 
 -- as many rows lie on a frame once they are changed, each on its page
 pub uses_mapped : (f : ℕ) (frame : Frames) (c : Row → Row) (rows : List Row) → ((r : Row) → (c r).page ≡ r.page) → uses f frame (map c rows) ≡ uses f frame rows
-uses_mapped f frame c rows keeps = count_mapped c (λ r. is_frame f (frame r.page)) (λ r. is_frame f (frame r.page)) rows
-    (λ i d lt. rw (keeps (get_or rows i d)))
+uses_mapped f frame c rows keeps = grind (arith, count_mapped)
 
 module _ (f : ℕ) (page : GuestPage) (o : Option ℕ) (frame : Frames) where
   abbrev old_test : Row → Bool
@@ -88,11 +68,9 @@ module _ (f : ℕ) (page : GuestPage) (o : Option ℕ) (frame : Frames) where
   pub uses_changed : (c : Row → Row) (rows : List Row) (row : Row) → InPageOrder rows → row_at page rows ≡ Some row → ((r : Row) → (c r).page ≡ r.page)
       → uses f (lies_on page o frame) (change_row page c rows) + one_at f (frame page) ≡ uses f frame rows + one_at f o
   uses_changed c rows row rise found keeps =
-      let same = uses_mapped f (lies_on page o frame) (λ r. if same_page r.page page then c r else r) rows
-      (λ r. grind (arith, keeps r)) in
+      let same = uses_mapped f (lies_on page o frame) (λ r. if same_page r.page page then c r else r) rows (λ r. grind (arith, keeps r)) in
       let on_new = count_without_page new_test page rows row rise found in
-      let there = on_page page o frame page (same_page_refl page) in
-      grind (arith, found_page page rows row found, uses_gone rows row rise found)
+      grind (arith, found_page page rows row found, uses_gone rows row rise found, same_page_refl)
 
 -- where a row comes at a page that had none, one row more lies on the frame if it comes there, else as many
 pub uses_come : (f : ℕ) (o : Option ℕ) (frame : Frames) (row : Row) (rows : List Row) → row_at row.page rows ≡ None
@@ -102,7 +80,7 @@ uses_come f o frame row rows absent =
 
 -- a frame on which a row lies is used
 pub uses_some : (f : ℕ) (frame : Frames) (rows : List Row) → All (λ r. frame r.page ≡ Some f → 1 ≤ uses f frame rows) rows
-uses_some f frame rows = λ i d lt e. counts_one _ _ i d lt (is_it f e)
+uses_some f frame rows = grind (arith, counts_one, eq-eqb)
 
 -- a change of a page's row, and then another, are one change where the second makes the same of both
 pub change_twice : (page : GuestPage) (c d e : Row → Row) (rows : List Row) → ((r : Row) → (c r).page ≡ r.page) → All (λ r. same_page r.page page ≡ true → d (c r) ≡ e r) rows

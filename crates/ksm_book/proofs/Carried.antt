@@ -1,31 +1,25 @@
 -- What follows from the steps of a command: the frames that they gave, and what the log shows of the answer.
 use Rattle.ksm_base.specs.declared.command.Command.{Command}
 use Rattle.ksm_base.specs.declared.command.Command.TheVariants.{Drop, MoveDup, MovePage, Prune, Register, Scan, SetAcross, SetLimit, SetRun, Store, Unmerge}
-use Rattle.ksm_base.specs.declared.reply.Reply.{Reply}
 use Rattle.ksm_base.specs.declared.reply.Reply.TheVariants.{Done, Pruned, Scanned, Unmerged}
 use Rattle.ksm_base.specs.declared.fault.Fault.TheVariants.{InUse, NoFrame}
 use Rattle.ksm_base.specs.Answers.{IsAnswerOrMemory}
-use Rattle.ksm_base.specs.Reasons.{HasReason, Replies, replies}
 use Rattle.ksm_base.proofs.Reasons.{has_reason}
-use Rattle.ksm_book.specs.Carried.{MovesTo, StoresTo, TakesSteps}
+use Rattle.ksm_book.specs.Carried.{StoresTo, TakesSteps}
 use Rattle.std.specs.Prelude.{option_and_then}
 use Rattle.ksm_book.specs.Commands.{IsIdle}
-use Rattle.ksm_book.proofs.Names.{AllocatesOn, Answer, arith, BookState, BookView, Bool, CarriedOut, DupRow, Err, false, FindsHeld, Frames, HasLost, HasMoved, HasShown, if◌then◌else◌, IsCarried, List}
-use Rattle.ksm_book.proofs.Names.{listed, live_dup_at, Mapped, mapped, MatchBool, MatchOption, Moves, nodes_got, None, Ok, Option, Performs, pruning, refl, Resettles, rewriting, Row, row_at, scanning}
-use Rattle.ksm_book.proofs.Names.{shared_state, Some, suc, true, visiting_of, zero, ℕ, [], ◌==◌, ◌≡◌}
+use Rattle.ksm_book.proofs.Names.{AllocatesOn, Answer, arith, BookState, BookView, Bool, CarriedOut, Err, false, Frames, HasShown, if◌then◌else◌, IsCarried, List, listed, Mapped, mapped, MatchBool}
+use Rattle.ksm_book.proofs.Names.{MatchOption, nodes_got, None, Ok, Option, Performs, pruning, Resettles, rewriting, Row, scanning, shared_state, Some, suc, true, zero, ℕ, []}
 use Rattle.ksm_book.proofs.DupMoves.{place_is}
 use Rattle.ksm_book.proofs.Made.{made_none}
 use Rattle.ksm_book.proofs.Shown.{each_does, GivesNone, lost, moved, none_left, provides_does, quiet_both, quiet_does, quiet_leaving, quiet_puts, quiet_withdraws, resettles_does, unmerges_does}
 
 -- ---------------------------------------------------------------- visits give no frame
 
-quiet_visiting : (b : BookState) (frame : Frames) (o : Option Row) → GivesNone (visiting_of b frame o).steps
-quiet_visiting b frame o = grind (arith, quiet_leaving)
-
 -- what visits do to the frames gives no frame
 pub quiet_scanning : (n : ℕ) (b : BookState) (frame : Frames) → GivesNone (scanning n b frame).steps
 quiet_scanning zero b frame = tt
-quiet_scanning (suc n) b frame = grind (arith, quiet_both, quiet_scanning n b frame, quiet_visiting)
+quiet_scanning (suc n) b frame = grind (arith, quiet_both, quiet_scanning n b frame, quiet_leaving)
 
 -- ---------------------------------------------------------------- the frames that were given
 
@@ -48,19 +42,6 @@ moved_does : (v w : Mapped) (node : ℕ) (row : Row) (home : Bool) → MatchBool
 moved_does v w node row true h = idle_does h
 moved_does v w node row false h = resettles_does h
 
-move_does : (v w : Mapped) (node : ℕ) (found : Option Row) → MatchOption found ⊥ (MovesTo v w node)
-    → AllocatesOn v.keeper w.keeper (listed (option_and_then (λ r. if r.home == node then None else Some node) found))
-move_does v w node found h = grind (arith, moved_does)
-
--- a dup that moved, at the place where it was found
-dup_moved : (v w : BookView) {place node : ℕ} (found : Option DupRow) → live_dup_at v.state place ≡ found
-    → MatchOption found ⊥ (λ d. Moves (mapped v) (mapped w) v.state.rows d node) → HasMoved v.keeper w.keeper place node
-dup_moved v w {node = node} found is h = grind (arith, place_is, moved)
-
-dup_held : (v w : BookView) (node : ℕ) (found : Option DupRow) → MatchOption found ⊥ (λ d. FindsHeld (mapped v) (mapped w) v.state.rows d node)
-    → HasLost v.keeper w.keeper
-dup_held v w node found h = grind (arith, lost)
-
 prune_does : (v w : BookView) (same : Bool)
     → MatchBool same (IsIdle (mapped v) (mapped w)) (Performs (mapped v) (mapped w) (pruning v.state.rows v.state.dups v.frame)) → AllocatesOn v.keeper w.keeper []
 prune_does v w true h = idle_does h
@@ -73,9 +54,9 @@ frames_given v w (Store page bytes) (Ok Done) h = store_does _ _ _ _ h
 frames_given v w (Scan n) (Ok (Scanned made stop)) h = quiet_does h.made (quiet_scanning made v.state v.frame)
 frames_given v w Prune (Ok (Pruned count)) h = prune_does v w false h
 frames_given v w (Unmerge guest) (Ok (Unmerged k stop)) h = unmerges_does _ _ _ _ h
-frames_given v w (MovePage page node) (Ok Done) h = move_does (mapped v) (mapped w) node (row_at page v.state.rows) h
-frames_given v w (MoveDup place node) (Ok Done) h = let m = dup_moved v w _ refl h in (m.part, m.did)
-frames_given v w (MoveDup place node) (Err InUse) h = let l = dup_held v w _ _ h in (l.part, l.did)
+frames_given v w (MovePage page node) (Ok Done) h = grind (arith, moved_does)
+frames_given v w (MoveDup place node) (Ok Done) h = grind (arith, place_is, moved)
+frames_given v w (MoveDup place node) (Err InUse) h = grind (arith, lost)
 frames_given v w (SetRun run) (Ok (Unmerged k stop)) h = unmerges_does _ _ _ _ h
 frames_given v w (SetAcross across) (Ok Done) h = prune_does v w _ h
 frames_given v w (SetLimit limit) (Ok Done) h = prune_does v w _ h
@@ -83,32 +64,20 @@ frames_given v w _ (Err (NoFrame node)) h = let left = none_left h.searched in (
 frames_given v w _ (Ok Done) h = idle_does h
 frames_given v w _ (Ok (Scanned made stop)) h = idle_does h
 frames_given v w _ (Ok (Pruned count)) h = idle_does h
-frames_given v w _ (Ok (Unmerged k stop)) h = idle_does h
-frames_given v w _ (Err fault) h = idle_does h
+frames_given v w _ _ h = idle_does h
 
 -- ---------------------------------------------------------------- what the log shows of the answer
 
--- a reply that has its reason is one of the command's
-reply_of : (b : BookState) (command : Command) (reply : Reply) → HasReason b command (Ok reply) → Replies b command reply
-reply_of b command reply (replies taken r) = r
-
 shown_so : (v w : BookView) (command : Command) (answer : Answer) → IsAnswerOrMemory v.state command answer → TakesSteps v w command answer
     → HasShown v.state v.keeper w.keeper answer command
-shown_so v w (Unmerge guest) (Ok (Unmerged k (Some (NoFrame node)))) is h =
-    (h.0.keeper, each_does _ _ h.0 h.1, none_left h.2.searched)
-shown_so v w (SetRun run) (Ok (Unmerged k (Some (NoFrame node)))) is h =
-    (h.0.keeper, each_does _ _ h.0 h.1, none_left h.2.searched)
-shown_so v w (MoveDup place node) (Ok Done) is h = dup_moved v w _ refl h
-shown_so v w (MoveDup place node) (Err InUse) is h = dup_held v w _ _ h
-shown_so v w command (Ok (Unmerged k (Some (NoFrame node)))) is h =
-    elim (reply_of v.state command (Unmerged k (Some (NoFrame node))) (has_reason v.state command (Ok (Unmerged k (Some (NoFrame node)))) is)) [ ]
+shown_so v w (Unmerge guest) (Ok (Unmerged k (Some (NoFrame node)))) is h = grind (arith, each_does, none_left)
+shown_so v w (SetRun run) (Ok (Unmerged k (Some (NoFrame node)))) is h = grind (arith, each_does, none_left)
+shown_so v w (MoveDup place node) (Ok Done) is h = grind (arith, place_is, moved)
+shown_so v w (MoveDup place node) (Err InUse) is h = grind (arith, lost)
+shown_so v w command (Ok (Unmerged k (Some (NoFrame node)))) is h = grind (arith, has_reason)
 shown_so v w _ (Err (NoFrame node)) is h = none_left h.searched
-shown_so v w _ (Ok Done) is h = tt
-shown_so v w _ (Ok (Scanned made stop)) is h = tt
-shown_so v w _ (Ok (Pruned count)) is h = tt
-shown_so v w _ (Ok (Unmerged k stop)) is h = tt
-shown_so v w _ (Err fault) is h = tt
+shown_so v w _ _ is h = tt
 
 -- a command that was carried out gave the frames that it needed, and its log shows why it is answered so
 pub carried_out : {v w : BookView} {command : Command} {answer : Answer} → IsCarried v w command answer → CarriedOut v w command answer
-carried_out {v} {w} {answer = answer} h = assumption (frames_given v w _ _ h.steps, shown_so v w _ _ h.answer h.steps)
+carried_out {v} {w} {answer = answer} h = grind (arith, frames_given, shown_so)

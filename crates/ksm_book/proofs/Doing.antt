@@ -8,7 +8,7 @@ then_idle deed = grind (arith, append-nil deed.steps)
 
 -- what visits do to the frames is nothing at a shared row, and the same wherever the cursor stands
 pub doing_beside : IsBeside doing
-doing_beside = grind (arith, then_idle)
+doing_beside = record { shared = λ b deed row is. grind (arith, then_idle); alike = λ b deed row cursor passes. grind arith }
 
 -- what n visits do to the frames is the deed that n visits come to, each with its deed beside it
 pub scanning_is : (n : ℕ) (b : BookState) (frame : Frames) → scanning n b frame ≡ (visits_beside doing n (b, idle frame)).1

@@ -1,7 +1,7 @@
 -- Frames written, read, found and filled, and a dup's place that comes to name another frame.
 use Rattle.ksm_book.proofs.Names.{Add, ap, arith, blank, did, Dying, Finds, frame_at, frames_of, Free, get_or-set_other, get_or-set_same, HasNewFrame, IsLawful, KeeperView, Kind, Ledger, length}
 use Rattle.ksm_book.proofs.Names.{length-set, List, loads, MakesSteps, mounting, None, Note, Open, PAGE_WORDS, Placed, Private, Provides, Publish, puts, Raise, raised, replicate}
-use Rattle.ksm_book.proofs.Names.{replicate-append-replicate, set-get_or, set-set, Shape, spent, spent_on, stepped, with_frame, ℕ, ◌+◌, ◌-◌, ◌<◌, ◌∙◌, ◌≡◌}
+use Rattle.ksm_book.proofs.Names.{replicate-append-replicate, set-get_or, set-set, spent, spent_on, stepped, with_frame, ℕ, ◌+◌, ◌-◌, ◌<◌, ◌∙◌, ◌≡◌}
 use Rattle.ksm_book.proofs.Keeping.{searched_placed, searched_spends, spent_kept}
 use Rattle.ksm_book.proofs.Made.{made_one, made_part, made_then}
 use Rattle.ksm_book.proofs.Noted.{noted}
@@ -15,11 +15,11 @@ as_it_was k g = grind (arith, set-get_or k.frames g blank)
 module _ (k : Ledger) (g : ℕ) (lt : g < length k.frames) where
   -- the frame has the note that it got
   pub at_again : (a : Note) → frame_at (with_frame k g a) g ≡ a
-  at_again a = get_or-set_same k.frames g a blank lt
+  at_again a = grind (arith, get_or-set_same)
 
   -- two changes of a frame's note, one after the other, are one change by both
   pub again : (a : Note) (F : Note → Note) → with_frame (with_frame k g a) g (F (frame_at (with_frame k g a) g)) ≡ with_frame k g (F a)
-  again a F = rw (at_again a) (grind (arith, set-set k.frames g a (F a)))
+  again a F = grind (arith, at_again, set-set)
 
   -- a change of the frame's note that follows another is one change by both
   pub follow : {l m : Ledger} (a : Note) (F : Note → Note) → m ≡ with_frame l g (F (frame_at l g)) → l ≡ with_frame k g a → m ≡ with_frame k g (F a)
@@ -28,20 +28,17 @@ module _ (k : Ledger) (g : ℕ) (lt : g < length k.frames) where
 -- ---------------------------------------------------------------- a frame is found
 
 module _ (v w : KeeperView) (node g : ℕ) (less : node < v.table.shape.nodes) (l : IsLawful v None) (finds : Finds v w node g) where
-  abbrev sh : Shape
-  sh = v.table.shape
-
   -- rows and dups lie lawfully once the frame is found
-  pub found_placed : Placed sh l.0 w.ledger l.1 l.2 l.3 None
+  pub found_placed : Placed v.table.shape l.0 w.ledger l.1 l.2 l.3 None
   found_placed = searched_placed _ less finds.reaped l.0 l.1 l.2 l.3 None l.4
 
   -- the frame found is one of the table
-  pub found_inside : g < frames_of sh
+  pub found_inside : g < frames_of v.table.shape
   found_inside = grind arith
 
   -- the frame found is one that the keeper knows
   pub found_within : g < length w.ledger.frames
-  found_within = omega (arith, found_placed.frames_long, found_inside)
+  found_within = grind (arith, found_placed, found_inside)
 
   -- once the frame found is raised it is ready to be filled
   pub raised_ready : (r : KeeperView) (n : ℕ) → r ≡ did w (Raise g) n

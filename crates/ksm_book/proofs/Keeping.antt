@@ -68,19 +68,13 @@ pub set_holds : (P : Note → Type 0) (xs : List Note) (i h : ℕ) (y : Note) �
 set_holds P xs i h y new old = grind (arith, get_or-set_same, get_or-set_other, set_past, cases_lt, cases_eq)
 
 module _ (v : KeeperView) (g found : ℕ) where
-  abbrev reaped_view : KeeperView
-  reaped_view = did v (Reap g) found
-
   abbrev new : Note
   new = reaped v.table.shape.last_generation (frame_at v.ledger g)
 
-  still_left : (h : ℕ) → IsLeft v.table.shape v.ledger h → IsLeft v.table.shape reaped_view.ledger h
+  still_left : (h : ℕ) → IsLeft v.table.shape v.ledger h → IsLeft v.table.shape (did v (Reap g) found).ledger h
   still_left h left = grind (arith, set_holds (λ x. x.base ≡ 0) v.ledger.frames g h new refl left.1)
 
-  reap_spends : spent v.ledger ≤ spent reaped_view.ledger
-  reap_spends = grind (arith, spent_kept)
-
-  reap_placed : {hand : Option ℕ} → IsLeft v.table.shape v.ledger g → Keeps v reaped_view hand hand
+  reap_placed : {hand : Option ℕ} → IsLeft v.table.shape v.ledger g → Keeps v (did v (Reap g) found) hand hand
   reap_placed {hand} left across rows frame dups p =
       let reaps : Placed v.table.shape across (with_frame v.ledger g new) rows frame dups hand =
       noted p g left.0 new hand (grind arith) (λ f ne. refl) in
@@ -100,7 +94,7 @@ reaps_spend : (fs : List ℕ) (v w : KeeperView) → MakesSteps v w (map Reap fs
 reaps_spend [] v w m = grind (arith, m, none_made m)
 reaps_spend (f ∷ fs) v w m =
     let first = first_made m in
-    omega (arith, reap_spends v f first.0, reaps_spend fs (did v (Reap f) first.0) w first.1)
+    grind (arith, spent_kept, reaps_spend fs (did v (Reap f) first.0) w first.1)
 
 -- the frames of a node end at the end of the table or before it
 pub node_end : (node nodes size : ℕ) → node < nodes → node * size + size ≤ nodes * size

@@ -1,8 +1,8 @@
 -- What becomes of pages that lie lawfully, where the keeper makes its steps.
 use Rattle.ksm_book.proofs.Names.{All, arith, blank, cases_lt, change_row, cond_both, default_knobs, DupRow, false, find_all, first_ledger, frame_at, Frames, get_or, get_or_past, GuestPage}
-use Rattle.ksm_book.proofs.Names.{HasNewFrame, holding, Houses, inl, InPageOrder, IsLaid, IsLawful, IsServed, IsShape, KeeperView, Keeps, kind_for, Knobs, Ledger, length, length-replicate, lies_on}
-use Rattle.ksm_book.proofs.Names.{List, map, None, nowhere, Option, PAGE_WORDS, PageState, PagesView, Placed, Private, refl, Row, row_at, Shape, shared_state, Some, spent, subst}
-use Rattle.ksm_book.proofs.Names.{with_frame, with_row, zero_state, ℕ, [], ◌≡◌, ◌≤◌, ◌⊎◌}
+use Rattle.ksm_book.proofs.Names.{HasNewFrame, holding, Houses, inl, InPageOrder, IsLaid, IsServed, IsShape, KeeperView, Keeps, Knobs, Ledger, length, length-replicate, lies_on, List, map}
+use Rattle.ksm_book.proofs.Names.{None, nowhere, Option, PAGE_WORDS, PageState, PagesView, Placed, refl, Row, row_at, Shape, shared_state, Some, spent, subst, true, with_frame, with_row, zero_state}
+use Rattle.ksm_book.proofs.Names.{ℕ, [], ◌≡◌, ◌≤◌, ◌⊎◌}
 use Rattle.ksm_base.specs.declared.row.PageState.TheVariants.{Private as OwnPage}
 use Rattle.ksm_book.proofs.ByPage.{found_page, row_of_page}
 use Rattle.std.proofs.lemmas.List.{get_or-replicate}
@@ -10,10 +10,6 @@ use Rattle.ksm_book.proofs.Keeping.{spent_kept}
 use Rattle.ksm_book.proofs.Moves.{framed, inserted, remapped, Serves, swapped, written_in}
 
 module _ {sh : Shape} {across : ℕ} (v : KeeperView) {rows : List Row} {frame : Frames} {dups : List DupRow} {hand : Option ℕ} (same : v.table.shape ≡ sh) where
-  -- a placement by the shape of the table is lawful as the keeper sees it
-  pub lawful : Placed sh across v.ledger rows frame dups hand → IsLawful v hand
-  lawful p = (across, rows, frame, dups, rw same p)
-
   -- a placement that is lawful before a call is lawful after it, where the call keeps every lawful placement
   pub kept : (w : KeeperView) (hand' : Option ℕ) → Keeps v w hand hand' → Placed sh across v.ledger rows frame dups hand → Placed sh across w.ledger rows frame dups hand'
   kept w hand' keeps p = rw (← same) (keeps across rows frame dups (rw same p))
@@ -40,10 +36,6 @@ module _ {sh : Shape} {across : ℕ} {v w : KeeperView} {rows : List Row} {frame
   -- where a new row comes on the frame taken, rows and dups lie lawfully
   pub come_there : (r : Row) → row_at r.page rows ≡ None → r.state ≡ OwnPage → r.home ≡ node → r.bytes ≡ bytes → Placed sh across w.ledger (with_row r rows) (lies_on r.page (Some g) frame) dups None
   come_there r absent own home content = inserted _ r absent in_new_hand (serves r own home content)
-
--- the frame of a row that is not shared is Private
-pub own_kind : (s : PageState) → shared_state s ≡ false → kind_for s ≡ Private
-own_kind s e = grind arith
 
 -- a row that is not shared is not Zero
 pub own_framed : (s : PageState) → shared_state s ≡ false → zero_state s ≡ false

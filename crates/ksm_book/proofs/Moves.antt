@@ -2,11 +2,10 @@
 use Rattle.ksm_book.proofs.Names.{Agrees, All, All-filter, All-map, all_with_dup, all_with_row, ap, arith, cases_lt, change_row, Contains, Contains-append_left, Contains-append_right, count_alike}
 use Rattle.ksm_book.proofs.Names.{DupFits, DupRow, false, filter, filter_passes, find_all, find_none, FitsBase, frame_at, Frames, frames_of, GenerationFits, get_or, get_or-set_other, get_or-set_same}
 use Rattle.ksm_book.proofs.Names.{GuestPage, in_hand, inl, InPageOrder, inr, is_frame, IsInLife, IsServed, item_count, kind_for, Ledger, length, length-set, lies_on, List, lt-ltb, map, Merged}
-use Rattle.ksm_book.proofs.Names.{merged_into, named_at, nat_lt, None, not, Note, Option, ordered_change, PAGE_WORDS, place_frame, Placed, Private, refl, Row, row_at, RowFits, same_page}
-use Rattle.ksm_book.proofs.Names.{same_page_refl, set, Shape, shared_state, Some, Stable, suc, sym, true, uses, with_dup, with_frame, with_row, without_page, Zero, zero_state, ℕ, ◌+◌, ◌/◌, ◌<◌, ◌∙◌}
-use Rattle.ksm_book.proofs.Names.{◌∷◌, ◌≡◌, ◌≢◌}
+use Rattle.ksm_book.proofs.Names.{merged_into, nat_lt, None, not, Note, Option, ordered_change, PAGE_WORDS, place_frame, Placed, Private, refl, Row, row_at, RowFits, same_page, same_page_refl, set}
+use Rattle.ksm_book.proofs.Names.{Shape, shared_state, Some, Stable, suc, sym, true, uses, with_dup, with_frame, with_row, without_page, Zero, zero_state, ℕ, ◌+◌, ◌/◌, ◌<◌, ◌∙◌, ◌∷◌, ◌≡◌, ◌≢◌}
 use Rattle.ksm_book.proofs.Noted.{at_it, at_other, noted}
-use Rattle.ksm_book.proofs.ByPage.{all_changed_row, at_changed, change_twice, found_page, lies_again, lies_still, on_page, row_of_page, uses_changed, uses_come, uses_gone, uses_mapped, uses_some}
+use Rattle.ksm_book.proofs.ByPage.{all_changed_row, at_changed, change_twice, found_page, lies_again, lies_still, row_of_page, uses_changed, uses_come, uses_gone, uses_mapped, uses_some}
 use Rattle.ksm_base.proofs.Changes.{contains_filter}
 use Rattle.std.proofs.lemmas.List.Elements.{Contains-get_or}
 
@@ -94,12 +93,6 @@ module _ {sh : Shape} {across : ℕ} {k : Ledger} {rows : List Row} {frame : Fra
     abbrev named : Ledger
     named = record { frames = k.frames; places = set k.places d.place (Some (record { frame = g; generation = life })) }
 
-    named_is : named_at named d.place ≡ Some (record { frame = g; generation = life })
-    named_is = grind (arith, get_or-set_same)
-
-    named_off : (q : ℕ) → q ≢ d.place → named_at named q ≡ named_at k q
-    named_off q ne = grind (arith, get_or-set_other)
-
     module _ (apart : All (λ e. e.place ≢ d.place) dups) where
       named_anew : uses g frame rows ≡ 0 → (frame_at k g).content ≡ d.bytes
           → (across ≡ 0 → g / sh.frames_per_node ≡ d.tree) → All (λ r. merged_into d.number r.state ≡ false) rows
@@ -112,14 +105,14 @@ module _ {sh : Shape} {across : ℕ} {k : Ledger} {rows : List Row} {frame : Fra
         each_row = λ i x lt. let r : Row = get_or rows i x in
             served_as sh k named dups (with_dup d dups) r r (frame r.page) refl (λ f is m. (
               grind arith,
-              all_with_dup (Agrees named r f) d dups (grind (arith, named_is, uses_some g frame rows i x lt))
-                  (λ n y l. grind (arith, named_off)),
+              all_with_dup (Agrees named r f) d dups (grind (arith, get_or-set_same, uses_some g frame rows i x lt))
+                  (λ n y l. grind (arith, get_or-set_other)),
             )) (p.each_row i x lt);
-        each_dup = all_with_dup (DupFits sh across named) d dups (grind (arith, named_is))
-            (λ n x l. grind (arith, named_off));
+        each_dup = all_with_dup (DupFits sh across named) d dups (grind (arith, get_or-set_same))
+            (λ n x l. grind (arith, get_or-set_other));
         bases = p.bases;
         kinds = p.kinds;
-        empty = grind (arith, all_without, named_off);
+        empty = grind (arith, all_without, get_or-set_other);
       }
 
       -- a row on that frame is its first item
@@ -128,8 +121,8 @@ module _ {sh : Shape} {across : ℕ} {k : Ledger} {rows : List Row} {frame : Fra
           → All (λ e. ¬ (e.number ≡ d.number)) dups → IsServed sh named (with_dup d dups) r (Some g)
       first_item r off fits item numbers = (
         grind arith,
-        all_with_dup (Agrees named r g) d dups (grind (arith, named_is))
-            (λ n x l. grind (arith, named_off)),
+        all_with_dup (Agrees named r g) d dups (grind (arith, get_or-set_same))
+            (λ n x l. grind (arith, get_or-set_other)),
       )
 
 -- the row of a page leaves its frame, and comes back changed; items of dups
@@ -179,10 +172,9 @@ module _ {sh : Shape} {across : ℕ} {k : Ledger} {rows : List Row} {frame : Fra
         let again : change_row page d bare ≡ change_row page c rows =
         change_twice _ _ d c _ (λ r. refl) (grind (arith, row_of_page)) in
         let there : lies_on page (Some g) off ≡ frame = lies_again page None (Some g) frame ∙ lies_still _ _ _ lies in
-        let here : off page ≡ None = on_page page None frame page (same_page_refl page) in
         let s = swapped (Some g) {page = page} d _ (ordered_change _ _ _ (λ r. refl) rise)
         (at_changed page bared rows row (λ r. refl) found) (λ r. refl) q (grind arith) in
-        grind arith
+        grind (arith, same_page_refl)
 
     -- rows and dups lie lawfully where a row that is not shared gets new bytes, and its frame holds them
     pub written_in : (c : Row → Row) → ((r : Row) → (c r).page ≡ r.page) → (fr : Note) → fr.kind ≡ Private → fr.base ≡ (frame_at k g).base → fr.generation ≡ (frame_at k g).generation → length fr.content ≡ PAGE_WORDS

@@ -39,7 +39,7 @@ module _ {sh : Shape} {across : ℕ} {k : Ledger} {rows : List Row} {frame : Fra
   at_it = grind (arith, get_or-set_same)
 
   pub at_other : (h : ℕ) → h ≢ g → frame_at next h ≡ frame_at k h
-  at_other h ne = get_or-set_other k.frames g h new _ ne
+  at_other h ne = grind (arith, get_or-set_other)
 
   ruleset notes = (at_it, at_other)
 

@@ -1,10 +1,9 @@
 -- A visited page makes a dup with the page that waits for it: what the keeper may do, and what becomes of the book.
-use Rattle.ksm_book.proofs.Names.{Add, All, All-contains_itself, ap, arith, BookState, BookView, Bool, change_row, change_rows, Contains, Contains-append_right, count_none, did, dup_of_row, DupRow}
+use Rattle.ksm_book.proofs.Names.{Add, All, All-contains_itself, arith, BookState, BookView, Bool, change_row, change_rows, Contains, Contains-append_right, count_none, did, dup_of_row, DupRow}
 use Rattle.ksm_book.proofs.Names.{each_at_page, eq-eqb, false, find_all, find_changed_other, find_passes, frames_of, GuestPage, if◌then◌else◌, InPageOrder, IsFree, IsLaid, IsSound, IsVacant}
 use Rattle.ksm_book.proofs.Names.{item_count, joined_count, KeeperView, leaving, lies_on, List, list_any, MakesSteps, MatchOption, May, MayLeave, MayPair, MeetsPage, Merged, merged_into}
 use Rattle.ksm_book.proofs.Names.{MOST_REFERENCES, new_place, new_place_free, next_is_new, Option, ordered_change, PageState, PagesView, partner, place_count, Publish, refl, Row, row_at, same_page}
-use Rattle.ksm_book.proofs.Names.{shared_state, Some, state_of, Sub, subst, sym, true, waits_for, waits_tells, WaitsFor, with_dup, Withdraw, withdrawing, ℕ, [], ◌+◌, ◌-◌, ◌<◌, ◌==◌, ◌||◌, ◌∙◌, ◌∷◌}
-use Rattle.ksm_book.proofs.Names.{◌≡◌, ◌≤◌}
+use Rattle.ksm_book.proofs.Names.{shared_state, Some, state_of, Sub, subst, sym, true, waits_tells, WaitsFor, with_dup, Withdraw, withdrawing, ℕ, [], ◌+◌, ◌-◌, ◌<◌, ◌==◌, ◌||◌, ◌∙◌, ◌∷◌, ◌≡◌, ◌≤◌}
 use Rattle.ksm_pages.specs.Paged.{paired as are_paired}
 use Rattle.ksm_book.proofs.Made.{made_one, made_then}
 use Rattle.ksm_book.proofs.Sharing.{laid_found, laid_joined, may_clear, may_found, may_join, may_part, spent_most}
@@ -51,7 +50,7 @@ module _ (other : GuestPage) {p : PagesView} {k : KeeperView} {cursor : Option G
   at_page = page_is at
 
   tells : WaitsFor p.knobs row w
-  tells = grind (arith, waits_tells, find_passes (waits_for p.knobs row) p.rows w met.1)
+  tells = grind (arith, waits_tells, find_passes, met)
 
   -- the waiting row is found at its page
   pub waits_at : row_at w.page p.rows ≡ Some w
@@ -89,14 +88,13 @@ module _ (other : GuestPage) {p : PagesView} {k : KeeperView} {cursor : Option G
   -- the two pages may become the items of a new dup at the place
   pub pair_may : MatchOption (row_at one p.rows) (true ≡ false) (λ r. MatchOption (row_at page p.rows) (true ≡ false) (MayPair p place r))
   pair_may =
-      let own = restless_own row at.so.0.restless in
-      grind (arith, waits_one, at.found, waits_at, there_is at, alone, tells.other, inside, vacant, spent_most h, fresh)
+      grind (arith, waits_one, at.found, waits_at, there_is at, alone, tells.other, inside, vacant, spent_most h, fresh, restless_own)
 
   module _ {f : ℕ} (stands : p.frame one ≡ Some f) {k1 : KeeperView} {taken : Bool}
       (taken_is : taken ≡ list_any (λ d. d.place == place) p.dups)
       (cleared : MakesSteps k k1 (if taken then Withdraw place ∷ [] else [])) where
     lies : p.frame w.page ≡ Some f
-    lies = ap p.frame (sym (is ∙ met.2)) ∙ stands
+    lies = grind (arith, met)
 
     clears : MakesSteps k k1 (withdrawing p.dups place)
     clears = rw (← taken_is) cleared
@@ -119,13 +117,13 @@ module _ (other : GuestPage) {p : PagesView} {k : KeeperView} {cursor : Option G
           (λ none. grind (arith, none, tells.tree)) s.numbers fresh
 
       first_rise : InPageOrder first.rows
-      first_rise = ordered_change _ _ _ (λ r. refl) s.rows_rise
+      first_rise = grind (arith, ordered_change)
 
       row_still : row_at page first.rows ≡ Some row
       row_still = find_changed_other (λ (r : Row). r.page) w.page change (λ r. refl) page p.rows apart ∙ at.found
 
       item_at : row_at w.page first.rows ≡ Some (change w)
-      item_at = at_changed w.page change p.rows w (λ r. refl) waits_at
+      item_at = grind (arith, at_changed, waits_at)
 
       one_item : item_count first.rows dup ≤ MOST_REFERENCES - 1
       one_item =
@@ -150,7 +148,7 @@ module _ (other : GuestPage) {p : PagesView} {k : KeeperView} {cursor : Option G
             (told : MatchOption (row_at one p.rows) (true ≡ false) (λ r. MatchOption (row_at page p.rows) (true ≡ false)
             (λ x. q ≡ are_paired place r x p))) where
           goes : q ≡ are_paired place w row p
-          goes = at_row (λ x. q ≡ are_paired place w x p) page p.rows row at.found (at_row _ one _ w waits_one told)
+          goes = grind (arith, at_row, waits_one)
 
           steps : MakesSteps k2 l (Add f ∷ leaving (p.frame page))
           steps = rw left (made_then comes leaves)

@@ -1,10 +1,10 @@
 -- A lawful placement says the sentences that are promised, and so a new dup finds a place.
 use Rattle.ksm_book.proofs.Names.{Agrees, All, All-append, All-contains_itself, All-filter, All-map, AllPairs, AllPairs-cons, AllPairs-filter, ap, arith, BookState, Bool, cases_Bool, Contains}
 use Rattle.ksm_book.proofs.Names.{Contains-append_left, Contains-append_right, Contains-from_any, count_by, count_more, counts_one, dup_frames, DupRow, eq-eqb, eqb, eqb-true, false, filter}
-use Rattle.ksm_book.proofs.Names.{filter_passes, find, find_all, find_passes, FindsPlace, frame_at, frame_number, Frames, frames_of, get_or, get_or-map, GuestPage, has_items, HasItsOwn, home_of_item}
-use Rattle.ksm_book.proofs.Names.{inl, inr, is_frame, is_in_use, is_stale, IsDistinct-from_apart, IsOutlived, IsSound, item_count, Ledger, length-append, length-le_from_distinct_below, length-map}
-use Rattle.ksm_book.proofs.Names.{LieOn, List, lt-ltb, map, Merged, merged_into, None, none_counted, not, own_frames, pairs_append, pairs_mapped, place_frame, Placed, Private, Row, row_at, RowFits}
-use Rattle.ksm_book.proofs.Names.{shared_state, Some, Stable, StandsOn, subst, suc, true, uses, ℕ, [], ◌++◌, ◌<◌, ◌==◌, ◌∙◌, ◌∷◌, ◌≡◌, ◌≢◌, ◌≤◌}
+use Rattle.ksm_book.proofs.Names.{filter_passes, find, find_all, find_passes, FindsPlace, frame_at, frame_number, Frames, frames_of, get_or, get_or-map, GuestPage, has_items, home_of_item, inl, inr}
+use Rattle.ksm_book.proofs.Names.{is_frame, is_in_use, is_stale, IsDistinct-from_apart, IsOutlived, IsSound, item_count, Ledger, length-append, length-le_from_distinct_below, length-map, LieOn, List}
+use Rattle.ksm_book.proofs.Names.{lt-ltb, map, Merged, merged_into, None, none_counted, not, own_frames, pairs_append, pairs_mapped, place_frame, Placed, Private, Row, row_at, RowFits, shared_state}
+use Rattle.ksm_book.proofs.Names.{Some, Stable, StandsOn, subst, suc, true, uses, ℕ, [], ◌++◌, ◌<◌, ◌==◌, ◌∙◌, ◌∷◌, ◌≡◌, ◌≢◌, ◌≤◌}
 use Rattle.ksm_base.proofs.Changes.{contains_filter}
 use Rattle.ksm_book.proofs.Moves.{base_is_items, stale_is_loose}
 use Rattle.ksm_book.proofs.Standing.{empty_from_most, frames_apart, Lives, lives}
@@ -20,7 +20,7 @@ passing f test xs at passes =
 
 -- numbers that are each counted once differ
 once_each : (xs : List ℕ) → All (λ f. count_by (λ g. g == f) xs ≤ 1) xs → AllPairs (λ f g. f ≢ g) xs
-once_each [] once = λ i j d before lt. absurd (omega arith)
+once_each [] once = grind arith
 once_each (x ∷ xs) once =
     let none : count_by (λ g. g == x) xs ≡ 0 = grind (arith, once 0 x, count_more (λ g. g == x) x xs) in
     AllPairs-cons (λ f g. f ≢ g) x xs (grind (arith, none_counted))
@@ -60,10 +60,6 @@ module _ (b : BookState) (k : Ledger) (s : IsSound b) (frame : Frames) (p : Plac
   abbrev shown : List ℕ
   shown = dup_frames b k
 
-  -- a row that is not shared has its own frame
-  owns : All (λ r. shared_state r.state ≡ false → (f : ℕ) × (frame r.page ≡ Some f) × HasItsOwn b.shape k r f) b.rows
-  owns i r0 lt alone = grind arith
-
   dup_lives : All (λ d. has_items b.rows d ≡ true → Lives k b.dups b.shape b.rows frame d) b.dups
   dup_lives n d lt some = lives p n d lt (λ none. absurd (grind arith))
 
@@ -73,13 +69,12 @@ module _ (b : BookState) (k : Ledger) (s : IsSound b) (frame : Frames) (p : Plac
       grind (arith, base_is_items p n d lt a.life, home_of_item b s, s.limit n d lt, p.each_dup n d lt)
 
   own_kinds : All (λ f. (frame_at k f).kind ≡ Private) own
-  own_kinds = all_own (λ f. (frame_at k f).kind ≡ Private) b.rows frame (grind (arith, owns))
+  own_kinds = all_own (λ f. (frame_at k f).kind ≡ Private) b.rows frame (grind arith)
 
   -- a frame with one reference is listed once
   own_distinct : AllPairs (λ f g. f ≢ g) own
-  own_distinct = once_each own (λ i d lt.
-      let f = get_or own i d in
-      grind (arith, own_kinds i d lt, p.kinds f, p.bases f, own_count f frame b.rows, owns))
+  own_distinct =
+      once_each own (λ i d lt. let f = get_or own i d in grind (arith, own_kinds i d lt, p.kinds f, p.bases f, own_count f frame b.rows))
 
   abbrev Live : DupRow → Type 0
   Live d = Lives k b.dups b.shape b.rows frame d
@@ -130,7 +125,7 @@ module _ (b : BookState) (k : Ledger) (s : IsSound b) (frame : Frames) (p : Plac
       let first = first_found (λ r. is_frame f (frame r.page)) b.rows (grind (arith, p.kinds f, p.bases f)) in
       let has = find_all (λ r. is_frame f (frame r.page)) (Contains b.rows) b.rows first.0 first.1
       (All-contains_itself b.rows) in
-      listed f first.0 has (grind (arith, find_passes))
+      grind (arith, listed, find_passes)
 
   outlived : All (λ d. has_items b.rows d ≡ false → IsOutlived k d.place) b.dups
   outlived n d lt none = let loose = stale_is_loose p n d lt in grind (arith, loose, p.each_dup n d lt)
@@ -140,9 +135,8 @@ module _ (b : BookState) (k : Ledger) (s : IsSound b) (frame : Frames) (p : Plac
   lie_on absent = grind (arith, stands, all_distinct, in_use_listed, outlived)
 
   inside : All (λ f. f < frames_of b.shape) (own ++ shown)
-  inside = All-append (λ f. f < frames_of b.shape) own _
-      (all_own (λ f. f < frames_of b.shape) b.rows frame (grind (arith, owns)))
-      (All-map (λ f. f < frames_of b.shape) _ _ (grind arith))
+  inside =
+      All-append (λ f. f < frames_of b.shape) own _ (all_own (λ f. f < frames_of b.shape) b.rows frame (grind arith)) (All-map (λ f. f < frames_of b.shape) _ _ (grind arith))
 
   -- beside a page with a frame of its own a new dup finds a place: where no dup is stale, each has a frame, and the page's is one more
   pub finds_place : FindsPlace b

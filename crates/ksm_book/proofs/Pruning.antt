@@ -6,7 +6,6 @@ use Rattle.ksm_book.proofs.Names.{ℕ, [], ◌++◌, ◌+◌, ◌<◌, ◌==◌,
 use Rattle.std.proofs.lemmas.Bool.{eq-eqb}
 use Rattle.ksm_book.proofs.Sharing.{laid_cleared, vacant_loose}
 use Rattle.ksm_book.proofs.Made.{made_one, made_then}
-use Rattle.ksm_book.proofs.Withdrawn.{elsewhere_so}
 
 -- two dups are in the order of their places, with numbers of their own
 abbrev Rises : DupRow → DupRow → Type 0
@@ -31,9 +30,9 @@ live_elsewhere rows place (d ∷ ds) vacant =
 -- the first stale dup is the first to go
 pub first_stale : (rows : List Row) (dups : List DupRow) (d : DupRow) → InPlaceOrder dups → find (is_stale rows) dups ≡ Some d
     → filter (is_stale rows) dups ≡ d ∷ filter (is_stale rows) (filter (elsewhere d.place) dups)
-first_stale rows [] d rise found = absurd (grind (arith, found))
+first_stale rows [] d rise found = grind arith
 first_stale rows (x ∷ xs) d rise found =
-    let off : All (λ e. elsewhere x.place e ≡ true) xs = λ i e lt. grind (arith, elsewhere_so, rise 0 (suc i) e) in
+    let off : All (λ e. elsewhere x.place e ≡ true) xs = λ i e lt. grind (arith, rise 0 (suc i) e) in
     grind (arith, filter_all (elsewhere x.place) xs off, eq-eqb, first_stale rows xs d (pairs_tail Rises x xs rise))
 
 -- dups in the order of their places, each place below a bound, are no more than the bound

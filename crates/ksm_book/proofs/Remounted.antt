@@ -1,26 +1,21 @@
 -- A dup moves to another frame, with all of its items.
-use Rattle.ksm_book.proofs.Names.{Agrees, All, arith, cond, count_alike, count_none, DupFits, DupRow, Dying, eq-eqb, frame_at, Frames, frames_of, Free, get_or-set_other, get_or-set_same, GuestPage}
-use Rattle.ksm_book.proofs.Names.{instead, is_frame, IsInLife, IsServed, Ledger, length-set, Life, List, named_at, ne_eqb, node_of, None, none_counted, Note, place_frame, Placed, refl, Row, RowFits}
-use Rattle.ksm_book.proofs.Names.{same_Some, set, Shape, Some, Stable, uses, ℕ, ◌+◌, ◌<◌, ◌≡◌, ◌≢◌, ◌≤◌}
+use Rattle.ksm_book.proofs.Names.{Agrees, All, arith, cond, count_alike, count_none, DupFits, DupRow, Dying, eq-eqb, frame_at, Frames, frames_of, Free, get_or-set_other, get_or-set_same, instead}
+use Rattle.ksm_book.proofs.Names.{is_frame, IsInLife, IsServed, Ledger, length-set, List, named_at, ne_eqb, node_of, None, none_counted, Note, place_frame, Placed, refl, Row, same_Some, set, Shape}
+use Rattle.ksm_book.proofs.Names.{Some, Stable, uses, ℕ, ◌+◌, ◌<◌, ◌≡◌, ◌≢◌}
 use mathlib.Core.Logic.{dite}
 use native.Mathlib.Decide.{ℕ_discrete}
-use Rattle.ksm_book.proofs.ByPage.{frame_cases, not_on}
 use Rattle.ksm_book.proofs.Moves.{Serves}
-
--- where frame g comes in the stead of f, a page that lay on f lies on g
-instead_here : (f g : ℕ) (frame : Frames) (page : GuestPage) → frame page ≡ Some f → instead f g frame page ≡ Some g
-instead_here f g frame page e = rw (e, (eq-eqb f f refl))
 
 -- those that lay on f lie on g, and none lies on f any more
 module _ (f g : ℕ) (frame : Frames) (rows : List Row) where
   uses_new : uses g frame rows ≡ 0 → uses g (instead f g frame) rows ≡ uses f frame rows
-  uses_new none = grind (arith, count_alike, instead_here, none_counted, not_on)
+  uses_new none = grind (arith, count_alike, none_counted, eq-eqb)
 
   uses_old : g ≢ f → uses f (instead f g frame) rows ≡ 0
-  uses_old ne = grind (arith, count_none, instead_here, not_on, same_Some)
+  uses_old ne = grind (arith, count_none, same_Some, eq-eqb)
 
   uses_still : (x : ℕ) → x ≢ f → x ≢ g → uses x (instead f g frame) rows ≡ uses x frame rows
-  uses_still x nf ng = grind (arith, frame_cases, instead_here, not_on, same_Some)
+  uses_still x nf ng = grind (arith, same_Some, eq-eqb)
 
 -- one of the dups moves from the frame that its place names to another
 module _ {sh : Shape} {across : ℕ} {k : Ledger} {rows : List Row} {frame : Frames} {dups : List DupRow}
@@ -38,13 +33,9 @@ module _ {sh : Shape} {across : ℕ} {k : Ledger} {rows : List Row} {frame : Fra
   abbrev pub mounted : Note
   mounted = record { kind = Stable; base = (frame_at k left).base; generation = (frame_at k g).generation + 1; content = (frame_at k left).content }
 
-  -- the life of the frame to which the dup goes
-  abbrev pub life : Life
-  life = record { frame = g; generation = (frame_at k g).generation + 1 }
-
   -- what the keeper knows once the dup has moved
   abbrev pub next : Ledger
-  next = record { frames = set (set k.frames left dead) g mounted; places = set k.places q (Some life) }
+  next = record { frames = set (set k.frames left dead) g mounted; places = set k.places q (Some (record { frame = g; generation = (frame_at k g).generation + 1 })) }
 
   module _ (inside : g < frames_of sh) (free : (frame_at k g).kind ≡ Free) (in_life : IsInLife k q) (stable : (frame_at k left).kind ≡ Stable) (node : across ≡ 0 → node_of sh g ≡ node_of sh left) (numbers : All (λ e. e.place ≢ q → e.number ≢ moving.number) dups) where
     apart : g ≢ left
@@ -52,9 +43,6 @@ module _ {sh : Shape} {across : ℕ} {k : Ledger} {rows : List Row} {frame : Fra
 
     unused : uses g frame rows ≡ 0
     unused = grind arith
-
-    some : 1 ≤ (frame_at k left).base
-    some = grind arith
 
     -- the notes of the frame that comes, of the one that is left, and of any other
     at_g : frame_at next g ≡ mounted
@@ -68,39 +56,20 @@ module _ {sh : Shape} {across : ℕ} {k : Ledger} {rows : List Row} {frame : Fra
 
     ruleset notes = (at_g, at_left, at_other)
 
-    named : named_at next q ≡ Some life
-    named = grind (arith, get_or-set_same)
-
     named_off : (e : ℕ) → e ≢ q → named_at next e ≡ named_at k e
-    named_off e ne = get_or-set_other k.places q e (Some life) None ne
-
-    -- another place that names a frame in its life did so before
-    off : (e : DupRow) → DupFits sh across k e → e.place ≢ q → IsInLife next e.place → IsInLife k e.place × (place_frame k e.place ≢ g)
-    off e m ne l = grind (arith, named_off, notes)
-
-    -- a row on the frame that is left lies on the one that comes, and any other stays where it is
-    moved_row : (r : Row) → RowFits sh k r left → RowFits sh next r g
-    moved_row r was = grind (arith, at_g)
-
-    still_row : (r : Row) (f : ℕ) → f ≢ g → f ≢ left → RowFits sh k r f → RowFits sh next r f
-    still_row r f ng nl was = grind (arith, at_other)
+    named_off e ne = grind (arith, get_or-set_other)
 
     moved_agrees : (r : Row) (e : DupRow) → All (Agrees k r left) dups → DupFits sh across k e
         → (e.place ≢ q → e.number ≢ moving.number) → Agrees k r left e → Agrees next r g e
-    moved_agrees r e all m others a = grind (arith, at_g, named, named_off, off, among (Agrees k r left) all)
-
-    still_agrees : (r : Row) (f : ℕ) (e : DupRow) → f ≢ g → f ≢ left → DupFits sh across k e → Agrees k r f e
-        → Agrees next r f e
-    still_agrees r f e ng nl m a = grind (arith, named, named_off, off, at_other)
+    moved_agrees r e all m others a = grind (arith, at_g, named_off, notes, get_or-set_same)
 
     serves : (r : Row) (f : ℕ) → f ≢ g → Serves sh k dups r f
         → IsServed sh next dups r (cond (is_frame left (Some f)) (Some g) (Some f))
-    serves r f far h = dite (ℕ_discrete f left)
-        (λ e. grind (arith, eq-eqb, moved_row, moved_agrees))
-        (λ ne. grind (arith, ne_eqb, still_row, still_agrees))
+    serves r f far h =
+        dite (ℕ_discrete f left) (λ e. grind (arith, eq-eqb, at_g, moved_agrees)) (λ ne. grind (arith, ne_eqb, named_off, notes, get_or-set_same))
 
     dup_fits : (e : DupRow) → DupFits sh across k e → DupFits sh across next e
-    dup_fits e m = grind (arith, notes, named, named_off, off)
+    dup_fits e m = grind (arith, notes, named_off, get_or-set_same)
 
     -- rows and dups lie lawfully once a dup has moved from its Stable frame to a free one, with all of its items
     pub remounted : Placed sh across next rows (instead left g frame) dups None

@@ -1,8 +1,8 @@
 -- A dup with items, and where its pages lie before and after it moves.
-use Rattle.ksm_book.proofs.Names.{All, All-contains_itself, ap, arith, Bool, Contains, count_in, did, dup_frame, dup_numbered, DupFits, DupRow, each_has_number, Err, find_all, find_passes, Finds}
-use Rattle.ksm_book.proofs.Names.{FindsHeld, FindsNone, frame_at, frames_of, Freeze, get_or-set_other, GuestPage, has_items, HasRemounted, instead, InUse, is_frame, IsInLife, IsLaid, IsLowestFree}
-use Rattle.ksm_book.proofs.Names.{item_count, items_on, KeeperView, length-set, List, list_any, list_any_at, lying, MakesSteps, MayMount, MayMove, merged_into, mounting, Moves, NoFrame, None, Note}
-use Rattle.ksm_book.proofs.Names.{Ok, once_mounted, PagesView, place_frame, Placed, Publish, refl, Row, row_at, Shape, Some, spent, Stable, true, with_frame, ℕ, ◌&&◌, ◌<◌, ◌==◌, ◌∙◌, ◌≡◌, ◌≢◌, ◌≤◌}
+use Rattle.ksm_book.proofs.Names.{All, All-contains_itself, ap, arith, Bool, Contains, count_in, did, dup_numbered, DupFits, DupRow, each_has_number, Err, find_all, find_passes, Finds, FindsNone}
+use Rattle.ksm_book.proofs.Names.{frame_at, frames_of, Freeze, get_or-set_other, GuestPage, has_items, HasRemounted, instead, InUse, is_frame, IsInLife, IsLaid, IsLowestFree, item_count, items_on}
+use Rattle.ksm_book.proofs.Names.{KeeperView, length-set, List, list_any, list_any_at, MakesSteps, MayMount, MayMove, merged_into, mounting, NoFrame, None, Note, Ok, once_mounted, PagesView}
+use Rattle.ksm_book.proofs.Names.{place_frame, Placed, Publish, refl, Row, row_at, Shape, Some, spent, Stable, true, with_frame, ℕ, ◌&&◌, ◌<◌, ◌==◌, ◌∙◌, ◌≡◌, ◌≢◌, ◌≤◌}
 use Rattle.ksm_book.proofs.ByPage.{found_page, same_frames}
 use Rattle.ksm_book.proofs.Filling.{at_again}
 use Rattle.ksm_book.proofs.Keeping.{searched_placed, searched_spends, spent_kept}
@@ -29,9 +29,6 @@ module _ {v : PagesView} {k : KeeperView} {dup : DupRow} {node g : ℕ} (may : M
   abbrev dups : List DupRow
   dups = v.dups
 
-  abbrev across : ℕ
-  across = v.knobs.merge_across_nodes
-
   abbrev by_item : Row → Bool
   by_item r = merged_into dup.number r.state
 
@@ -42,26 +39,20 @@ module _ {v : PagesView} {k : KeeperView} {dup : DupRow} {node g : ℕ} (may : M
   item_some : 1 ≤ item_count v.rows dup
   item_some = grind (arith, find_passes)
 
-  stands : dup_numbered dup.number dups ≡ Some dup
-  stands = among (λ d. dup_numbered d.number dups ≡ Some d) (each_has_number _ may.sound.2.dups_rise)
-
   numbers : All (λ e. e.place ≢ dup.place → e.number ≢ dup.number) dups
-  numbers n x lt apart same = grind (arith, each_has_number, stands)
+  numbers n x lt apart same = grind (arith, each_has_number, among (λ d. dup_numbered d.number dups ≡ Some d) (each_has_number _ may.sound.2.dups_rise))
 
   module _ {w : KeeperView} {f : ℕ} (to : Finds k w node f) where
-    abbrev p : Placed sh across w.ledger v.rows v.frame dups None
+    abbrev p : Placed sh v.knobs.merge_across_nodes w.ledger v.rows v.frame dups None
     p = kept k may.laid.same w None
         (λ a rows frame ds. searched_placed node (rw may.laid.same may.exists) to.reaped a
         rows frame ds None) may.laid.placed
 
-    more_spent : spent k.ledger ≤ spent w.ledger
-    more_spent = searched_spends _ to.reaped
-
     abbrev n : Note
     n = frame_at w.ledger g
 
-    dup_fits : DupFits sh across w.ledger dup
-    dup_fits = among (DupFits sh across w.ledger) p.each_dup
+    dup_fits : DupFits sh v.knobs.merge_across_nodes w.ledger dup
+    dup_fits = among (DupFits sh v.knobs.merge_across_nodes w.ledger) p.each_dup
 
     live : Lives w.ledger dups sh v.rows v.frame dup
     live = among (λ d. (item_count v.rows d ≡ 0 → ⊥) → Lives w.ledger dups sh v.rows v.frame d) (lives p) (λ none. omega (arith, item_some))
@@ -70,10 +61,6 @@ module _ {v : PagesView} {k : KeeperView} {dup : DupRow} {node g : ℕ} (may : M
     item_lies = find_all by_item (λ r. by_item r ≡ true → v.frame r.page ≡ Some g) v.rows live.item live.first
         (among (λ d. d.place ≡ dup.place → All (λ r. merged_into d.number r.state ≡ true → v.frame r.page ≡ Some g) v.rows) lie refl)
         live.merged
-
-    -- the frame of the dup is its first item's
-    dup_frame_is : dup_frame v.frame v.rows dup.number ≡ g
-    dup_frame_is = grind (arith, item_lies)
 
     on_frame : g ≡ place_frame w.ledger dup.place
     on_frame = grind (arith, item_lies, live)
@@ -118,18 +105,9 @@ module _ {v : PagesView} {k : KeeperView} {dup : DupRow} {node g : ℕ} (may : M
     module _ {u : KeeperView} (found : ℕ) (freezes : u ≡ did w (Freeze g) found) where
       -- it fails where a reader holds the frame
       module _ (other : count_in found ≢ n.base) where
-        still : u.ledger ≡ w.ledger
-        still = grind arith
-
-        found_held : FindsHeld (lying v k) (lying v u) v.rows dup node
-        found_held = grind (arith, dup_frame_is, still, known)
-
-        laid_lost : IsLaid v u
-        laid_lost = grind (arith, more_spent, still, p)
-
         -- where the exchange found another count than the keeper's references, the dup stays
         pub stays : {X : Type 0} → HasRemounted {X = X} v v k u dup node (Err InUse)
-        stays = grind (arith, laid_lost, found_held)
+        stays = grind (arith, searched_spends _ to.reaped, p, known, item_lies)
 
       -- it is made where the keeper's references are all
       module _ (all : count_in found ≡ n.base) where
@@ -165,10 +143,6 @@ module _ {v : PagesView} {k : KeeperView} {dup : DupRow} {node g : ℕ} (may : M
           goes_there : q.frame ≡ instead g f v.frame
           goes_there = rw goes (items_go f)
 
-          moves : (before : KeeperView) × (x ≡ did before (Publish dup.place f) 0)
-              → Moves (lying v k) (lying q x) v.rows dup node
-          moves named = grind (arith, dup_frame_is, known, may_mount, base, at_g, goes_there)
-
           ledger_is : x.ledger ≡ next p dup among g f on_frame
           ledger_is = grind (arith, frozen, at_other f apart, at_g)
 
@@ -178,13 +152,13 @@ module _ {v : PagesView} {k : KeeperView} {dup : DupRow} {node g : ℕ} (may : M
             same = grind arith;
             placed = rw ledger_is (remounted p dup among g f on_frame inside lowest.free live.life known.1
                 (grind (arith, dup_fits, on_frame)) numbers);
-            spent = grind (arith, spent_kept, more_spent);
+            spent = grind (arith, spent_kept, searched_spends _ to.reaped);
           })
 
           -- once the new frame is mounted and the items lie there, the dup has moved to a frame of the node
           pub has_remounted : {X : Type 0} {done : X} → (before : KeeperView) × (x ≡ did before (Publish dup.place f) 0)
               → HasRemounted {X = X} v q k x dup node (Ok done)
-          has_remounted shows = grind (arith, laid_moved_dup, moves)
+          has_remounted shows = grind (arith, laid_moved_dup, item_lies, known, may_mount, base, at_g, goes_there)
 
 -- where a dup is to move from a place, a dup stands at that place
 pub taken_place : {v : PagesView} {k : KeeperView} {dup : DupRow} {node : ℕ} → MayMove v k dup node

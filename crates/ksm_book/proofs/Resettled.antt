@@ -19,7 +19,7 @@ module _ {p : PagesView} {k w : KeeperView} (h : IsLaid p k) (rise : InPageOrder
   houses = grind arith
 
   same : w.table.shape ≡ p.shape
-  same = shape_same _ k w h.same ((provides_does provides).1.table)
+  same = grind (arith, shape_same, provides_does)
 
   -- once the page lies on the frame taken, the one that it had is in the hand
   in_hand : {change : Row → Row} → Houses change page node bytes p.rows → Placed p.shape across w.ledger (change_row page change p.rows) (lies_on page (Some g) p.frame) p.dups (p.frame page)

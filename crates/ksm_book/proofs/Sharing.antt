@@ -3,11 +3,11 @@ use Rattle.ksm_base.specs.declared.limits.TheConstants.{MOST_FRAMES, MOST_LIVES,
 use Rattle.ksm_book.proofs.Names.{Add, All, All-filter, ap, arith, blank, Bool, change_row, Contains, count_by, count_none, did, DupRow, elsewhere, eq-eqb, false, filter, filter_passes, find}
 use Rattle.ksm_book.proofs.Names.{find_all, find_none, find_passes, frame_at, Frames, frames_of, get_or-set_same, get_or_default, GuestPage, IfSome, if◌then◌else◌, InPageOrder, IsInLife, IsLaid}
 use Rattle.ksm_book.proofs.Names.{IsLoose, IsServed, IsVacant, item_count, KeeperView, leaving, Ledger, ledger_after, length, lies_on, Life, life_or, List, list_any, MakesSteps, May}
-use Rattle.ksm_book.proofs.Names.{MayLeave, Merged, merged_into, merged_state, named_at, nat_lt, None, none_found, Note, Option, PageState, PagesView, place_frame, Placed, Private, Publish, refl, Row}
-use Rattle.ksm_book.proofs.Names.{row_at, RowFits, set, set-get_or, settled, Shape, shared_state, Some, spent, spent_on, Stable, subst, sum_by-le, sym, true, with_dup, with_frame, Withdraw}
-use Rattle.ksm_book.proofs.Names.{withdrawing, ℕ, [], ◌*◌, ◌+◌, ◌-◌, ◌<◌, ◌==◌, ◌∙◌, ◌∷◌, ◌≡◌, ◌≢◌, ◌≤◌}
+use Rattle.ksm_book.proofs.Names.{MayLeave, Merged, merged_into, merged_state, named_at, None, none_found, Note, Option, PageState, PagesView, place_frame, Placed, Private, Publish, refl, Row, row_at}
+use Rattle.ksm_book.proofs.Names.{RowFits, set, set-get_or, settled, Shape, shared_state, Some, spent, spent_on, Stable, subst, sum_by-le, sym, true, with_dup, with_frame, Withdraw, withdrawing, ℕ}
+use Rattle.ksm_book.proofs.Names.{[], ◌*◌, ◌+◌, ◌-◌, ◌<◌, ◌==◌, ◌∙◌, ◌∷◌, ◌≡◌, ◌≢◌, ◌≤◌}
 use Rattle.ksm_book.proofs.Moves.{base_is_items, joined, published, Serves, stale_is_loose}
-use Rattle.ksm_book.proofs.Laying.{laid_rows, LodgesAs, own_kind, served_at, shape_same}
+use Rattle.ksm_book.proofs.Laying.{laid_rows, LodgesAs, served_at, shape_same}
 use Rattle.ksm_book.proofs.Keeping.{added_placed, added_spends, left_placed, left_spends, may_leave, spent_set}
 use Rattle.ksm_book.proofs.Made.{none_made, parts_made, step_made}
 use Rattle.ksm_book.proofs.Withdrawn.{withdrawn}
@@ -131,9 +131,7 @@ inside_of p q passes (d ∷ ds) = grind (arith, inside_of p q passes ds)
 
 -- a dup that takes a place takes it of any that stood there
 with_elsewhere : (d : DupRow) (ds : List DupRow) → with_dup d (filter (elsewhere d.place) ds) ≡ with_dup d ds
-with_elsewhere d ds =
-    let inside = inside_of (λ e. nat_lt e.place d.place) (elsewhere d.place) (λ e is. grind arith) ds in
-    grind (arith, inside_of (λ e. nat_lt d.place e.place) (elsewhere d.place) (λ e is. grind arith) ds)
+with_elsewhere d ds = grind (arith, inside_of)
 
 -- no more dups were ever made than there are lives of all frames, since each spent one
 pub spent_most : {v : PagesView} {k : KeeperView} → IsLaid v k → v.next ≤ MOST_FRAMES * MOST_LIVES
@@ -168,13 +166,11 @@ module _ {p : PagesView} {k : KeeperView} (h : IsLaid p k) (rise : InPageOrder p
   fits = (subst (IsServed sh k.ledger p.dups row) lies (served_at h.placed _ row found)).0
 
   own : o.kind ≡ Private
-  own = fits.kind ∙ own_kind _ alone
+  own = grind (arith, fits)
 
   -- once its place is cleared, a new dup may be published there on the frame of a row that is not shared
   pub may_found : (w : KeeperView) → MakesSteps k w (withdrawing p.dups d.place) → May w (Publish d.place f)
-  may_found w m =
-      let set_there = get_or-set_same k.ledger.places d.place None None in
-      grind (arith, cleared_ledger w h d.place inside vacant m, m.after, own, fits)
+  may_found w m = grind (arith, cleared_ledger w h d.place inside vacant m, m.after, own, fits, get_or-set_same)
 
   -- rows and dups lie lawfully once the row's frame is published at the place of the new dup
   pub laid_found : (c : Row → Row) (w1 w : KeeperView) → ((r : Row) → (c r).page ≡ r.page)
@@ -190,12 +186,5 @@ module _ {p : PagesView} {k : KeeperView} (h : IsLaid p k) (rise : InPageOrder p
       (All-filter (elsewhere d.place) (λ e. ¬ (e.number ≡ d.number)) p.dups (grind arith))
       (grind (arith, filter_passes, eq-eqb)) in
       let ledger : w.ledger ≡ ledger_after w1.table.shape cleared (Publish d.place f) 0 = grind arith in
-      let more : spent (with_frame k.ledger f stable) + spent_on o ≡ spent k.ledger + o.generation =
-      spent_set k.ledger f stable (omega (arith, fits.frame)) in
       let now : spent w.ledger ≡ spent (with_frame k.ledger f stable) = ap spent ledger in
-      record {
-        small = h.small;
-        same = grind arith;
-        placed = grind (arith, with_elsewhere d p.dups);
-        spent = grind (arith, own, fits.given);
-      }
+      grind (arith, with_elsewhere, own, fits, spent_set)

@@ -42,7 +42,7 @@ quiet_adds (suc n) f = (refl, quiet_adds n f)
 
 -- the withdrawing of dups from their places gives no frame
 pub quiet_withdraws : (ds : List DupRow) → GivesNone (map (λ d. Withdraw d.place) ds)
-quiet_withdraws ds = quiet_map (λ d. Withdraw d.place) (λ d. refl) ds
+quiet_withdraws ds = grind (arith, quiet_map)
 
 -- a page that leaves its frame, if it has one, makes no step that gives a frame
 pub quiet_leaving : (o : Option ℕ) → GivesNone (leaving o)
@@ -64,7 +64,7 @@ part_did v w {part} is quiet = record {
 
 -- steps that give no frame gave none by the part of the log in which they were made
 pub quiet_did : {v w : KeeperView} {steps : List KeeperStep} (m : MakesSteps v w steps) → GivesNone steps → Allocates v w [] m.part
-quiet_did {v} {w} m quiet = part_did v w m.after (rw m.are quiet)
+quiet_did {v} {w} m quiet = grind (arith, part_did)
 
 -- a keeper that made steps that give no frame gave none
 pub quiet_does : {v w : KeeperView} {steps : List KeeperStep} → MakesSteps v w steps → GivesNone steps → AllocatesOn v w []
@@ -95,10 +95,6 @@ provides_does {node = node} {bytes} {g} h =
 -- a page that was resettled was given one frame, on the node asked for
 pub resettles_does : {v w : Mapped} {page : GuestPage} {node : ℕ} {bytes : List ℕ} → Resettles v w page node bytes → AllocatesOn v.keeper w.keeper (node ∷ [])
 resettles_does h = does_then (provides_does h.provides) (quiet_does h.leaves (quiet_leaving _))
-
--- and the keeper is of the same table
-pub resettles_own : {v w : Mapped} {page : GuestPage} {node : ℕ} {bytes : List ℕ} → Resettles v w page node bytes → w.keeper.table ≡ v.keeper.table
-resettles_own h = (resettles_does h).1.table
 
 -- pages that were resettled one after another were given a frame each, on their homes
 pub each_does : (rows : List Row) (v w : Mapped) → ResettlesEach rows v w → AllocatesOn v.keeper w.keeper (map (λ r. r.home) rows)
@@ -244,7 +240,3 @@ unmerges_does rows (Some (NoFrame node)) v w h =
     let left = none_left h.2.searched in
     subst (AllocatesOn v.keeper w.keeper) (append-nil (map (λ r. r.home) rows)) (does_then (each_does _ v h.0 h.1) (left.part, left.did))
 unmerges_does rows _ v w h = absurd h
-
--- and the keeper is of the same table
-pub unmerges_own : (rows : List Row) (stop : Option Fault) (v w : Mapped) → UnmergesTo rows stop v w → w.keeper.table ≡ v.keeper.table
-unmerges_own rows stop v w h = (unmerges_does _ _ v w h).1.table

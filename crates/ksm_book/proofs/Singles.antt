@@ -1,10 +1,9 @@
 -- The commands on single pages, carried out.
-use Rattle.ksm_book.proofs.Names.{absent_parts, All, Answer, ap, arith, BookValue, BookView, Bool, change_row, comes_before, Command, Done, Drop, Err, false, filter, filter_passes, find_put}
-use Rattle.ksm_book.proofs.Names.{FindsNone, frame_at, frames_of, fresh_row, GuestPage, HasNewFrame, Held, Houses, IfErr, IfSome, if◌then◌else◌, InPageOrder, is_some, IsAlone, IsCarried, IsHeld}
-use Rattle.ksm_book.proofs.Names.{IsLaid, IsReadable, IsSound, IsWritable, KeeperView, leaving, length, lies_on, List, lying, MakesSteps, map_fixed, MatchBool, MayLeave, MovePage, nat_le, NoFrame}
-use Rattle.ksm_book.proofs.Names.{None, Ok, on_its_own, Option, ordered_with, PAGE_WORDS, pages_ordered, PagesView, Performs, Placed, Provides, puts, refl, Register, Resettled, Resettles, Result}
-use Rattle.ksm_book.proofs.Names.{rewriting, Row, row_at, same_page, same_page_refl, shared_state, Some, sound_after, state_of, stepped, Store, stored, true, view_of, with_row, without_between}
-use Rattle.ksm_book.proofs.Names.{without_page, ℕ, [], ◌<◌, ◌==◌, ◌∙◌, ◌∷◌, ◌≡◌}
+use Rattle.ksm_book.proofs.Names.{absent_parts, All, Answer, ap, arith, BookValue, BookView, change_row, comes_before, Command, Done, Drop, Err, false, filter, filter_passes, find_put, FindsNone}
+use Rattle.ksm_book.proofs.Names.{frame_at, frames_of, fresh_row, GuestPage, HasNewFrame, Held, Houses, IfErr, IfSome, if◌then◌else◌, InPageOrder, is_some, IsCarried, IsHeld, IsLaid, IsReadable}
+use Rattle.ksm_book.proofs.Names.{IsSound, IsWritable, KeeperView, leaving, length, lies_on, List, lying, MakesSteps, map_fixed, MayLeave, MovePage, nat_le, NoFrame, None, Ok, on_its_own, Option}
+use Rattle.ksm_book.proofs.Names.{ordered_with, PAGE_WORDS, pages_ordered, PagesView, Provides, puts, refl, Register, Resettled, Resettles, Result, Row, row_at, same_page, same_page_refl}
+use Rattle.ksm_book.proofs.Names.{shared_state, Some, sound_after, state_of, stepped, Store, stored, true, view_of, with_row, without_between, without_page, ℕ, [], ◌<◌, ◌==◌, ◌∙◌, ◌∷◌, ◌≡◌}
 use Rattle.ksm_base.specs.declared.row.PageState.TheVariants.{Private}
 use Rattle.ksm_book.proofs.ByPage.{at_changed, change_twice, found_page, lies_again, lies_still, row_of_page}
 use Rattle.ksm_book.proofs.Laying.{come_there, laid_rows, served_at}
@@ -24,6 +23,11 @@ Carries p k q l cursor passes command answer = IsCarried (book p k cursor passes
 -- a command that was carried out leaves a sound state
 pub sound_carried : {v w : BookView} {command : Command} {answer : Answer} → IsSound v.state → IsCarried v w command answer → IsSound w.state
 sound_carried s h = grind (arith, sound_after)
+
+-- a command that was carried out leaves a sound state, with what is known beside
+pub lawful : {v w : BookView} {command : Command} {answer : Answer} {L : Type 0} → IsSound v.state → IsCarried v w command answer × L
+    → IsSound w.state × L
+lawful s h = (sound_carried s h.0, h.1)
 
 -- a command carried out from one book value was carried out from an equal one, and so was an equal command
 pub carried_so : {old now : BookValue} {w : BookView} {by given : Command} {answer : Answer} → old ≡ now → by ≡ given → IsCarried (view_of old) w by answer → IsCarried (view_of now) w given answer
@@ -47,17 +51,8 @@ settled_then {p} {m} {q} {k} {l} {page} {node} {bytes} {row} h rise found r d ch
     let one = row_of_page _ _ row rise found in
     let rows = change_twice page on_its_own d change p.rows (λ x. refl)
     (λ i x lt at. grind (arith, one i x lt at, to)) in
-    let pages : q ≡ record p { rows = change_row page change p.rows; frame = q.frame } =
-    grind (arith, goes, r.pages) in
-    let houses : Houses change page node bytes p.rows = record { pages = keeps; row = rw found housed } in (
-      pages,
-      grind (arith, found_page page p.rows row found, r.resettles, goes),
-      rw pages (grind arith),
-    )
-
--- a page whose row is found and not shared has a frame of its own
-pub alone_now : (rows : List Row) (page : GuestPage) (row : Row) → row_at page rows ≡ Some row → shared_state row.state ≡ false → IsAlone page rows
-alone_now rows page row found alone = rw found alone
+    let houses : Houses change page node bytes p.rows = record { pages = keeps; row = rw found housed } in
+    grind (arith, found_page)
 
 -- a page with a frame
 module _ {p : PagesView} {k : KeeperView} (h : IsLaid p k) (page : GuestPage) (row : Row) (found : row_at page p.rows ≡ Some row) where
@@ -84,17 +79,10 @@ found_resettled r found = grind (arith, r.pages, at_changed)
 -- ---------------------------------------------------------------- a store
 
 module _ (p : PagesView) (k l : KeeperView) (cursor : Option GuestPage) (passes : ℕ) (page : GuestPage) (bytes : List ℕ) (row : Row) (found : row_at page p.rows ≡ Some row) (table : l.table ≡ k.table) where
-  module _ (q : PagesView) (state : state_of q cursor passes ≡ record (state_of p cursor passes) { rows = change_row page (stored bytes) p.rows }) where
-    stores : (shared : Bool) → shared_state row.state ≡ shared
-        → MatchBool shared (Resettles (lying p k) (lying q l) row.page row.home bytes) (Performs (lying p k) (lying q l) (rewriting p.frame row.page bytes))
-        → IsCarried (book p k cursor passes) (book q l cursor passes) (Store page bytes) (Ok Done)
-    stores shared is steps = grind arith
-
   -- `Store` is carried out where the bytes are stored to the page's own frame, and its row tells them
   pub store_written : (q : PagesView) (g : ℕ) → q ≡ record p { rows = change_row page (stored bytes) p.rows } → shared_state row.state ≡ false → p.frame page ≡ Some g → l ≡ stepped k (puts g 0 bytes)
       → IsCarried (book p k cursor passes) (book q l cursor passes) (Store page bytes) (Ok Done)
-  store_written q g goes alone lies wrote =
-      stores q (rw goes) false alone (grind (arith, found_page))
+  store_written q g goes alone lies wrote = grind (arith, found_page)
 
   -- `Store` is carried out, and all lies lawfully, where a shared page is resettled with the bytes, as its row tells
   pub store_copied : (m q : PagesView) → IsLaid p k → InPageOrder p.rows → Resettled p m k l page row.home bytes
@@ -125,18 +113,15 @@ module _ (p : PagesView) (k : KeeperView) (cursor : Option GuestPage) (passes : 
         let s = settled_then h rise found r _
         (λ x. if x.home == node then x else record x { home = node; state = Private }) goes
         (grind arith) (grind (arith, away)) (grind (arith, away)) in
-        (grind (arith, there, away, s.0, s.1), s.2)
+        grind (arith, there)
 
 -- ---------------------------------------------------------------- a page that goes
 
 module _ {p : PagesView} {k : KeeperView} (h : IsLaid p k) (rise : InPageOrder p.rows) {page : GuestPage} {row : Row}
     (found : row_at page p.rows ≡ Some row) {left : Option ℕ} (was : left ≡ p.frame page) where
-  gone_hand : Placed p.shape p.knobs.merge_across_nodes k.ledger (without_page page p.rows) (lies_on page None p.frame) p.dups (p.frame page)
-  gone_hand = removed _ row rise found h.placed
-
   -- the frame of a page that goes, if it has one, may be left
   pub drop_may : IfSome left (MayLeave k)
-  drop_may = rw was (may_leave k h.same _ gone_hand)
+  drop_may = rw was (may_leave k h.same _ (removed _ row rise found h.placed))
 
   -- `Drop` is carried out, and all lies lawfully, where the page has left its frame and its row is gone
   pub drop_gone : (cursor : Option GuestPage) (passes : ℕ) (q : PagesView) (l : KeeperView) → q ≡ record p { rows = without_page page p.rows; frame = lies_on page None p.frame } → MakesSteps k l (leaving left)
@@ -145,7 +130,7 @@ module _ {p : PagesView} {k : KeeperView} (h : IsLaid p k) (rise : InPageOrder p
       let leaves = rw was at made in (
         grind (arith, made.after),
         rw goes
-            (laid_rows h l (grind (arith, made.after)) (left_spends _ leaves) (left_placed _ leaves gone_hand)),
+            (laid_rows h l (grind (arith, made.after)) (left_spends _ leaves) (left_placed _ leaves (removed _ row rise found h.placed))),
       )
 
 -- ---------------------------------------------------------------- a page that comes
@@ -178,7 +163,7 @@ module _ {p m : PagesView} {page : GuestPage} {node : ℕ} {bytes : List ℕ} (n
 
   -- a page that came has a row
   pub come_known : is_some (row_at page m.rows) ≡ true
-  come_known = rw new.comes (ap is_some found_fresh)
+  come_known = grind (arith, found_fresh)
 
   -- `Register` is carried out, and all lies lawfully, where the page comes on a frame taken with its bytes
   pub register_come : {k l : KeeperView} (h : IsLaid p k) (cursor : Option GuestPage) (passes : ℕ) (q : PagesView) {g : ℕ} → q ≡ record m { rows = change_row page on_its_own m.rows; frame = lies_on page (Some g) m.frame } → Provides k l node bytes g → HasNewFrame k l node bytes g

@@ -1,6 +1,6 @@
 -- The frames of dups with items in a lawful placement.
-use Rattle.ksm_book.proofs.Names.{ap, arith, DupRow, empty_from, find, find_all, find_passes, frame_at, Frames, get_or, InPlaceOrder, IsInLife, IsServed, item_count, Ledger, length, List, merged_into}
-use Rattle.ksm_book.proofs.Names.{None, place_frame, Placed, Row, Shape, Some, Stable, true, zero_state, ℕ, [], ◌+◌, ◌<◌, ◌∷◌, ◌≡◌, ◌≢◌, ◌≤◌}
+use Rattle.ksm_book.proofs.Names.{arith, DupRow, empty_from, find, find_all, find_passes, frame_at, Frames, get_or, InPlaceOrder, IsInLife, IsServed, item_count, Ledger, length, List, merged_into}
+use Rattle.ksm_book.proofs.Names.{None, place_frame, Placed, Row, Shape, Some, Stable, true, ℕ, [], ◌+◌, ◌<◌, ◌∷◌, ◌≡◌, ◌≢◌, ◌≤◌}
 use Rattle.ksm_book.proofs.Moves.{framed}
 use Rattle.ksm_book.proofs.Sharing.{first_found, state_of_item}
 
@@ -29,10 +29,8 @@ module _ {sh : Shape} {across : ℕ} {k : Ledger} {rows : List Row} {frame : Fra
       let first = first_found (λ r. merged_into e.number r.state) rows (omega arith) in
       let row = first.0 in
       let into = find_passes (λ r. merged_into e.number r.state) rows row first.1 in
-      let state = state_of_item e.number _ into in
       let served = find_all _ (λ r. IsServed sh k dups r (frame r.page)) _ row first.1 p.each_row in
-      let has = framed sh k _ row _ (ap zero_state state) served in
-      grind arith
+      grind (arith, framed, state_of_item)
 
   -- the frames of dups with items differ, and none of them is a page's own
   module _ (rise : InPlaceOrder dups) where

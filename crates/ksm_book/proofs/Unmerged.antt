@@ -1,17 +1,17 @@
 -- Pages that leave their dups, or the zero page, one after another.
 use Rattle.ksm_book.proofs.Names.{All, append-nil, arith, Bool, change_row, change_rows, Contains-append_right, false, Fault, filter, filter-append, filter_none, find, GuestPage, HasLeft, Held}
-use Rattle.ksm_book.proofs.Names.{InPageOrder, is_next, is_of, is_shared_of, is_some, IsAlone, IsHeld, IsKnown, IsLaid, KeeperView, left_by, length, length-append, let_go, List, lying, Mapped}
-use Rattle.ksm_book.proofs.Names.{MayNotLeave, None, not, of_guest, on_its_own, Option, option_map, PagesView, refl, Resettled, ResettlesEach, Row, row_at, same_page, same_Some, shared_state}
-use Rattle.ksm_book.proofs.Names.{slice_get, Some, take-append_seam, true, Unshares, ℕ, [], ◌++◌, ◌+◌, ◌<◌, ◌∷◌, ◌≡◌, ◌≤◌}
+use Rattle.ksm_book.proofs.Names.{InPageOrder, is_next, is_of, is_shared_of, is_some, IsHeld, IsLaid, KeeperView, left_by, length, length-append, let_go, List, lying, Mapped, MayNotLeave, None, not}
+use Rattle.ksm_book.proofs.Names.{of_guest, on_its_own, Option, option_map, PagesView, refl, Resettled, ResettlesEach, Row, row_at, same_page, same_Some, shared_state, slice_get, Some}
+use Rattle.ksm_book.proofs.Names.{take-append_seam, true, Unshares, ℕ, [], ◌++◌, ◌+◌, ◌<◌, ◌∷◌, ◌≡◌, ◌≤◌}
 use Rattle.ksm_base.proofs.Edits.{count_more}
 use Rattle.ksm_base.specs.Counting.{mergeable_count}
 use Rattle.ksm_base.specs.declared.row.PageState.TheVariants.{Private}
 use Rattle.std.proofs.lemmas.List.Sums.{count_by-le-length}
 use Rattle.ksm_book.proofs.Along.{along_cut, along_end, FitsPage, further, IsAlong, IsCut, position}
 use Rattle.ksm_book.proofs.ByPage.{row_of_page}
-use Rattle.ksm_book.proofs.Laying.{laid_changed, LodgesAs}
-use Rattle.ksm_book.proofs.Shown.{each_does, unmerges_own}
-use Rattle.ksm_book.proofs.Singles.{change_still, found_resettled, settled_then}
+use Rattle.ksm_book.proofs.Laying.{laid_changed}
+use Rattle.ksm_book.proofs.Shown.{each_does, unmerges_does}
+use Rattle.ksm_book.proofs.Singles.{change_still, settled_then}
 
 -- where all rows are mergeable, none changes by becoming so
 pub stay_in_scan : (test : Row → Bool) (rows : List Row) → mergeable_count rows ≡ length rows
@@ -41,24 +41,14 @@ module _ {p : PagesView} {k : KeeperView} (guest : Option ℕ) {page : GuestPage
   one = grind (arith, row_of_page)
 
   module _ (test : not held.shared ≡ true) where
-    alone : shared_state row.state ≡ false
-    alone = grind arith
-
-    still : left_by None row ≡ row
-    still = grind arith
-
-    lodges : (g : Option ℕ) → LodgesAs (left_by g row) row
-    lodges g = grind (arith, alone)
-
     -- a page with a frame of its own gets none
     left_own : (q : PagesView) → q ≡ record p { rows = change_row page (left_by guest) p.rows }
         → HasLeft p q k k guest page 0
-    left_own q goes =
-        grind (arith, alone, laid_changed h page row (left_by guest) rise told.found, page_left, lodges)
+    left_own q goes = grind (arith, laid_changed h page row (left_by guest) rise told.found, page_left)
 
     -- a row with a frame of its own is left as it is where all pages are asked for
     pub left_still : is_some guest ≡ false → HasLeft p p k k guest page 0
-    left_still none = grind (arith, left_own, change_still, one, still)
+    left_still none = grind (arith, left_own, change_still, one)
 
     -- a guest's row with a frame of its own is left once it is let go, and no frame is given for it
     pub left_alone : is_some guest ≡ true → {q : PagesView} → q ≡ record p { rows = change_row page let_go p.rows }
@@ -70,17 +60,6 @@ module _ {p : PagesView} {k : KeeperView} (guest : Option ℕ) {page : GuestPage
       (are : option_map (λ r. r.bytes) (row_at page p.rows) ≡ Some bytes) (r : Resettled p m k l page held.home bytes) where
     shared : shared_state row.state ≡ true
     shared = grind arith
-
-    now : row_at page m.rows ≡ Some (on_its_own row)
-    now = found_resettled r told.found
-
-    -- a shared page that was resettled has a row
-    pub left_known : IsKnown page m.rows
-    left_known = grind (arith, now)
-
-    -- a shared page that was resettled has a frame of its own
-    pub left_lone : IsAlone page m.rows
-    left_lone = grind (arith, now)
 
     left_shared : (q : PagesView) (d : Row → Row) → q ≡ record m { rows = change_row page d m.rows }
         → ((x : Row) → shared_state x.state ≡ true → d (on_its_own x) ≡ left_by guest x) → (d (on_its_own row)).state ≡ Private
@@ -138,7 +117,7 @@ seam (y ∷ xs) x ys = seam xs x ys
 -- rows that were unshared, to the last or up to a stop, are in the frames of the same table
 pub unshares_own : {p q : PagesView} {k l : KeeperView} {guest : Option ℕ} {count : ℕ} {stop : Option Fault} → Unshares p q k l guest count stop
     → l.table ≡ k.table
-unshares_own u = unmerges_own _ _ _ _ u.unmerges
+unshares_own u = (unmerges_does _ _ _ _ u.unmerges).1.table
 
 module _ {p q : PagesView} {k l : KeeperView} {guest : Option ℕ} {count : ℕ} {last : Option GuestPage}
     (u : IsUnsharing p q k l guest count last) (rise : InPageOrder p.rows) where
@@ -156,12 +135,6 @@ module _ {p q : PagesView} {k l : KeeperView} {guest : Option ℕ} {count : ℕ}
     abbrev r : Row
     r = cut.row
 
-    met_before : filter (is_shared_of guest) cut.before ≡ met
-    met_before = cut.met (λ x. shared_state x.state)
-
-    all_met : filter (is_shared_of guest) p.rows ≡ met ++ filter (is_shared_of guest) (r ∷ cut.rest)
-    all_met = grind (arith, cut.whole, filter-append, met_before)
-
     -- the next page is at home on a node that is there
     pub unsharing_home : {held : Held} → IsHeld q page held → All (λ x. x.home < p.shape.nodes) p.rows → held.home < q.shape.nodes
     unsharing_home h homes =
@@ -171,7 +144,7 @@ module _ {p q : PagesView} {k l : KeeperView} {guest : Option ℕ} {count : ℕ}
     -- once the next page was left too, so many pages more got frames of their own, up to that page
     pub unsharing_next : {v : PagesView} {w : KeeperView} {given : ℕ} → HasLeft q v l w guest page given → FitsPage (Some page)
         → IsUnsharing p v k w guest (count + given) (Some page)
-    unsharing_next {v} h fits = grind (arith, cut, filter-append, met_before, length-append, each_then, further)
+    unsharing_next {v} h fits = grind (arith, cut, filter-append, cut.met (λ x. shared_state x.state), length-append, each_then, further)
 
     -- where no frame was left for the next page, the unsharing stops there, and the shared rows before it are done
     pub unsharing_stop : {v : PagesView} {w : KeeperView} {fault : Fault} → MayNotLeave q v l w page fault
@@ -179,9 +152,9 @@ module _ {p q : PagesView} {k l : KeeperView} {guest : Option ℕ} {count : ℕ}
     unsharing_stop {v} {w} {fault} h = record {
       at = Some r;
       fault = grind (arith, cut.there);
-      stands = grind (arith, all_met, seam, cut.there);
+      stands = grind (arith, cut.whole, filter-append, cut.met (λ x. shared_state x.state), seam, cut.there);
       pages = grind (arith, cut.stop);
-      unmerges = grind (arith, all_met, cut.there, take-append_seam);
+      unmerges = grind (arith, cut.whole, filter-append, cut.met (λ x. shared_state x.state), cut.there, take-append_seam);
       laid = h.turned.laid;
     }
 
@@ -215,13 +188,10 @@ module _ {p q : PagesView} {guest : ℕ} {last : Option GuestPage} (u : IsMarkin
   -- the next page is there
   module _ (rise : InPageOrder p.rows) {page : GuestPage}
       (told : option_map (λ r. r.page) (find (is_next (Some guest) last) q.rows) ≡ Some page) where
-    at : IsCut (is_of guest) in_scan p.rows q.rows u.done page
-    at = along_cut _ (λ _. refl) u.along rise _ told
-
     -- once the next page of the guest is mergeable too, the guest's pages are so up to that page
     pub marking_next : {v : PagesView} → v ≡ record q { rows = change_row page in_scan q.rows }
         → FitsPage (Some page) → IsMarking p v guest (Some page)
-    marking_next {v} goes fits = grind (arith, at)
+    marking_next {v} goes fits = grind (arith, along_cut _ (λ _. refl) u.along rise _ told)
 
   -- where no page of the guest is left, all its rows are mergeable
   pub marking_end : find (is_next (Some guest) last) q.rows ≡ None → q ≡ record p { rows = change_rows (is_of guest) in_scan p.rows }

@@ -1,14 +1,10 @@
 -- The commands on all pages of a guest, or on all there are, carried out.
-use Rattle.ksm_book.proofs.Names.{All, All-map, any_found, arith, BookState, change_rows, Done, Err, false, Fault, find, GuestPage, has_guest, Held, inl, is_next, is_of, is_some, IsCarried, IsHeld}
-use Rattle.ksm_book.proofs.Names.{IsLaid, IsStop, KeeperView, Knobs, left_by, List, list_any, map, map_mapped, MatchOption, Mergeable, None, Ok, Option, option_map, PagesView, refl, Row, SetRun}
-use Rattle.ksm_book.proofs.Names.{shared_state, slice_get, slice_get_past, Some, state_of, true, UnknownPage, Unmerge, Unmerged, unshare_stopped, unshared, Unshares, ℕ, ◌∙◌, ◌≡◌}
+use Rattle.ksm_book.proofs.Names.{All, All-map, any_found, arith, BookState, change_rows, Done, Err, false, Fault, find, GuestPage, Held, inl, is_next, is_of, is_some, IsCarried, IsHeld, IsLaid}
+use Rattle.ksm_book.proofs.Names.{KeeperView, Knobs, left_by, list_any, map, map_mapped, MatchOption, Mergeable, None, Ok, Option, option_map, PagesView, refl, SetRun, shared_state, slice_get_past}
+use Rattle.ksm_book.proofs.Names.{Some, state_of, true, UnknownPage, Unmerge, Unmerged, unshare_stopped, unshared, Unshares, ℕ, ◌∙◌, ◌≡◌}
 use Rattle.ksm_book.proofs.Laying.{laid_mapped, retuned}
-use Rattle.ksm_book.proofs.Singles.{book}
+use Rattle.ksm_book.proofs.Singles.{book, Carries}
 use Rattle.ksm_book.proofs.Unmerged.{in_scan, unshares_own}
-
--- the row at which there was a stop is the next of the shared ones
-stop_is : (rows : List Row) (k : ℕ) (at : Option Row) → IsStop rows k at → slice_get rows k ≡ at
-stop_is rows k at h = grind (arith, slice_get_past)
 
 -- the first row of a guest is told, if it has one
 abbrev pub IsTold : PagesView → ℕ → Option Held → Type 0
@@ -16,40 +12,32 @@ IsTold p guest told = MatchOption told (find (is_next (Some guest) None) p.rows 
     × (option_map (λ r. r.page) (find (is_next (Some guest) None) p.rows) ≡ Some held.spot.page))
 
 -- a guest has a row exactly where a first row of the guest is told
-pub has_told : (p : PagesView) (guest : ℕ) (o : Option Held) → IsTold p guest o → list_any (is_of guest) p.rows ≡ is_some o
+has_told : (p : PagesView) (guest : ℕ) (o : Option Held) → IsTold p guest o → list_any (is_of guest) p.rows ≡ is_some o
 has_told p guest o told = any_found (is_of guest) p.rows ∙ (grind arith) ∙ by o told
   where
     by : (o : Option Held) → IsTold p guest o → is_some (find (is_next (Some guest) None) p.rows) ≡ is_some o
     by o none = grind arith
 
--- a guest without a row
-module _ (p : PagesView) {k : KeeperView} {cursor : Option GuestPage} {passes guest : ℕ}
-    (has : has_guest (state_of p cursor passes) guest ≡ false) where
-  -- `Unmerge` of it is refused, and nothing changes
-  pub unmerge_refused : IsCarried (book p k cursor passes) (book p k cursor passes) (Unmerge guest) (Err UnknownPage)
-  unmerge_refused = grind arith
+-- it was asked for the first row of a guest
+module _ (p : PagesView) {k : KeeperView} {cursor : Option GuestPage} {passes guest : ℕ} (o : Option Held) (told : IsTold p guest o) where
+  -- where the guest has no row, `Unmerge` of it is refused, and nothing changes
+  pub unmerge_refused : is_some o ≡ false → IsCarried (book p k cursor passes) (book p k cursor passes) (Unmerge guest) (Err UnknownPage)
+  unmerge_refused none = grind (arith, has_told p guest o told)
 
   -- and so is `Mergeable`
-  pub mergeable_refused : IsCarried (book p k cursor passes) (book p k cursor passes) (Mergeable guest) (Err UnknownPage)
-  mergeable_refused = grind arith
+  pub mergeable_refused : is_some o ≡ false → IsCarried (book p k cursor passes) (book p k cursor passes) (Mergeable guest) (Err UnknownPage)
+  mergeable_refused none = grind (arith, has_told p guest o told)
 
--- `Unmerge` of a guest that has a row is carried out where its shared rows are unshared up to a stop or the end
-pub unmerge_carried : {p q : PagesView} {k l : KeeperView} {cursor : Option GuestPage} {passes : ℕ} {guest count : ℕ} {stop : Option Fault}
-    → Unshares p q k l (Some guest) count stop → has_guest (state_of p cursor passes) guest ≡ true
-    → IsCarried (book p k cursor passes) (book q l cursor passes) (Unmerge guest) (Ok (Unmerged count stop))
-unmerge_carried u has = grind (arith, stop_is, unshares_own u)
+  -- `Unmerge` of a guest that has a row is carried out where its shared rows are unshared up to a stop or the end
+  pub unmerge_carried : {q : PagesView} {l : KeeperView} {count : ℕ} {stop : Option Fault} → is_some o ≡ true → Unshares p q k l (Some guest) count stop
+      → Carries p k q l cursor passes (Unmerge guest) (Ok (Unmerged count stop))
+  unmerge_carried some u = (grind (arith, has_told p guest o told, unshares_own u, slice_get_past), u.laid)
 
--- all pages of a guest become mergeable, if it has one
-module _ {p q : PagesView} {k : KeeperView} (cursor : Option GuestPage) (passes guest : ℕ) (h : IsLaid p k)
-    (goes : q ≡ record p { rows = change_rows (is_of guest) in_scan p.rows }) where
   -- `Mergeable` of a guest that has a row is carried out where all its rows are put in the scan
-  pub mergeable_carried : has_guest (state_of p cursor passes) guest ≡ true
-      → IsCarried (book p k cursor passes) (book q k cursor passes) (Mergeable guest) (Ok Done)
-  mergeable_carried has = grind arith
-
-  -- rows and dups lie lawfully once a guest's rows are in the scan
-  pub mergeable_laid : IsLaid q k
-  mergeable_laid = rw goes (laid_mapped h _ (grind arith) (grind arith))
+  pub mergeable_carried : {q : PagesView} → is_some o ≡ true → IsLaid p k → q ≡ record p { rows = change_rows (is_of guest) in_scan p.rows }
+      → Carries p k q k cursor passes (Mergeable guest) (Ok Done)
+  mergeable_carried {q} some h goes =
+      (grind (arith, has_told p guest o told), rw goes (laid_mapped h _ (grind arith) (grind arith)))
 
 -- a run of 2
 module _ {p m : PagesView} {k l : KeeperView} (cursor : Option GuestPage) (passes : ℕ) {count : ℕ} {stop : Option Fault}
@@ -85,5 +73,4 @@ module _ {p m : PagesView} {k l : KeeperView} (cursor : Option GuestPage) (passe
         → IsCarried (book p k cursor passes) (book q l None passes) (SetRun 2) (Ok (Unmerged count stop)) × IsLaid q l
     unshare_ends {w} {q} wide goes =
         let there = laid_mapped u.laid unshared (λ r. refl) (grind (arith, unshare_none)) in
-        let rows : map unshared m.rows ≡ map unshared p.rows = grind (arith, went, map_mapped) in
-        grind (arith, carried q None, retuned)
+        grind (arith, carried q None, retuned, went, map_mapped)

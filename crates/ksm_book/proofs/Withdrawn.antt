@@ -1,15 +1,11 @@
 -- A place is emptied, and the dup that stood there goes.
 use Rattle.ksm_book.proofs.Names.{Agrees, All, All-filter, arith, DupFits, DupRow, elsewhere, eq-eqb, filter, filter_passes, Frames, frames_of, get_or, get_or-set_other, get_or-set_same, Ledger}
-use Rattle.ksm_book.proofs.Names.{length-set, List, named_at, None, Option, Placed, refl, Row, set, Shape, true, ℕ, ◌<◌, ◌∙◌, ◌≡◌, ◌≢◌}
+use Rattle.ksm_book.proofs.Names.{length-set, List, named_at, None, Option, Placed, refl, Row, set, Shape, ℕ, ◌<◌, ◌∙◌, ◌≡◌, ◌≢◌}
 use mathlib.Core.Logic.{dite}
 use native.Mathlib.Decide.{ℕ_discrete}
 use Rattle.ksm_base.proofs.Changes.{contains_filter}
 use Rattle.ksm_book.proofs.Moves.{served_as}
 use Rattle.std.proofs.lemmas.List.Elements.{Contains-get_or}
-
--- a dup at another place passes the test for dups elsewhere
-pub elsewhere_so : (q : ℕ) (d : DupRow) → d.place ≢ q → elsewhere q d ≡ true
-elsewhere_so q d ne = grind arith
 
 module _ {sh : Shape} {across : ℕ} {k : Ledger} {rows : List Row} {frame : Frames} {dups : List DupRow} {hand : Option ℕ} (q : ℕ) (inside : q < frames_of sh)
     (p : Placed sh across k rows frame dups hand) where
@@ -18,7 +14,7 @@ module _ {sh : Shape} {across : ℕ} {k : Ledger} {rows : List Row} {frame : Fra
   emptied = record { frames = k.frames; places = set k.places q None }
 
   named_off : (r : ℕ) → r ≢ q → named_at emptied r ≡ named_at k r
-  named_off r ne = get_or-set_other k.places q r None None ne
+  named_off r ne = grind (arith, get_or-set_other)
 
   -- what holds of each dup is said of those that stay
   staying : (P Q : DupRow → Type 0) → ((d : DupRow) → d.place ≢ q → P d → Q d) → All P dups → All Q (filter (elsewhere q) dups)

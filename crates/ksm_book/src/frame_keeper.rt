@@ -71,6 +71,7 @@ fn sort(keeper: &Keeper, free: &mut NumberSet, dying: &mut NumberSet, frame: u32
 impl FrameKeeper {
     /// Begins with a keeper that has made no step: all frames are free, none is dying. Refused for memory alone, it
     /// gives the keeper back.
+    #[tactic(auto, using(crate::proofs::Laying::first_note))]
     pub fn new(alloc: Global, keeper: Keeper, frames: u32) -> Result<FrameKeeper, (Keeper, Fault)>
         requires checked { IsShape keeper.table.shape }
         requires all { frames ≡ frames_of keeper.table.shape }
@@ -145,6 +146,7 @@ impl FrameKeeper {
     }
 
     /// One reference less on a frame. With the last it is dying.
+    #[tactic(auto, using(crate::proofs::FrameKinds::sets_lowered))]
     pub fn sub(&mut self, table: &FrameTable, frame: u32)
         requires own { self.old.table ≡ table.now }
         requires may { MayLeave self.old frame }

@@ -87,6 +87,7 @@ pub fn write(keeper: &mut FrameKeeper, table: &FrameTable, frame: u32, bytes: &P
 }
 
 /// The words of a frame.
+#[tactic(auto, using(crate::proofs::Made::along_one, crate::proofs::Made::word_written))]
 pub fn load(keeper: &mut FrameKeeper, table: &FrameTable, frame: u32) -> PageBytes
     requires own { keeper.old.table ≡ table.now }
     requires inside { frame < frames_of keeper.old.table.shape }

@@ -109,6 +109,7 @@ impl State {
     }
 
     /// The bytes of a page, loaded from the words of its frame, if it has one.
+    #[tactic(auto, using(crate::proofs::Shown::part_did, crate::proofs::Shown::quiet_loads))]
     pub fn read(&mut self, table: &FrameTable, page: GuestPage) -> Option<PageBytes>
         requires own { self.old.keeper.table ≡ table.now }
         ensures own { self.new.keeper.table ≡ self.old.keeper.table }

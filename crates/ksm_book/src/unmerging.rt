@@ -55,6 +55,7 @@ fn leave(
 }
 
 // The pages of a guest, or all, leave in order. Stops where a page finds no frame on its home. Says how many got one.
+#[tactic(auto, using(crate::proofs::Along::further, crate::proofs::Along::not_far))]
 fn unshare_each(
     pages: &mut Pages,
     keeper: &mut FrameKeeper,
@@ -81,6 +82,7 @@ fn unshare_each(
 }
 
 // All pages of a guest become mergeable.
+#[tactic(auto, using(crate::proofs::Unmerged::stay_in_scan, crate::proofs::Along::further, crate::proofs::Along::not_far))]
 fn make_mergeable(pages: &mut Pages, guest: u16)
     ensures { seen pages.new ≡ record (seen pages.old) {
       rows = change_rows (is_of guest) (λ r. record r { mergeable = true }) pages.old.rows;

@@ -1,29 +1,19 @@
-use Rattle.ksm_book.proofs.Names.{ap, arith, frame_at, holding, KeeperView, length, opened, PAGE_WORDS, Provides, raised, rules, ◌<◌, ◌≡◌}
+use Rattle.ksm_book.proofs.Names.{ap, arith, holding, KeeperView, opened, Provides, rules, ◌<◌}
 use Rattle.ksm_book.proofs.Filling.{at_again, follow, found_inside, found_within, raised_ready, took}
 use Rattle.ksm_book.proofs.Made.{made_one, made_part, made_then}
 use Rattle.ksm_book.proofs.frames.take_frame.Goals as goal
 
-ready : (c : goal.After-write-arg-1) → (c.in_ok-frame.frame < length c.raise.new.self.ledger.frames)
-    × (frame_at c.raise.new.self.ledger c.in_ok-frame.frame ≡ raised (frame_at c.find_frame.new.keeper.ledger c.in_ok-frame.frame))
-    × (length (frame_at c.raise.new.self.ledger c.in_ok-frame.frame).content ≡ PAGE_WORDS)
-ready c = raised_ready _ _ _ _ (rw (← c.requires.shape) c.requires.node)
-    c.requires.lawful c.in_ok-frame.ensures _ _ c.raise.ensures.1
-
-pub write-requires-clause-within : goal.write-requires-clause-within
-write-requires-clause-within c = (ready c).0
-
-pub write-requires-clause-writable : goal.write-requires-clause-writable
-write-requires-clause-writable c = rw (ready c).1 tt
-
-pub write-requires-clause-wide : goal.write-requires-clause-wide
-write-requires-clause-wide c = (ready c).2
+pub write-requires : goal.write-requires
+write-requires c =
+    let less : c.args.node < c.args.keeper.now.table.shape.nodes = rw (← c.requires.shape) c.requires.node in
+    let ready = raised_ready _ _ _ _ less c.requires.lawful c.in_ok-frame.ensures c.raise.new.self _ c.raise.ensures.1 in
+    grind (arith, found_inside _ _ _ _ less c.requires.lawful c.in_ok-frame.ensures)
 
 pub open-requires-clause-may : goal.open-requires-clause-may
 open-requires-clause-may c =
     let less : c.args.node < c.args.keeper.now.table.shape.nodes = rw (← c.requires.shape) c.requires.node in
     let now = raised_ready _ _ _ _ less c.requires.lawful c.in_ok-frame.ensures c.raise.new.self _ c.raise.ensures.1 in
-    let at = at_again c.raise.new.self.ledger c.in_ok-frame.frame now.0 in
-    grind (arith, at, found_inside _ _ _ _ less c.requires.lawful c.in_ok-frame.ensures)
+    grind (arith, found_inside _ _ _ _ less c.requires.lawful c.in_ok-frame.ensures, at_again)
 
 abbrev provided : (c : goal.After-open) → Provides c.args.keeper.now c.open.new.self c.args.node c.args.bytes.now c.in_ok-frame.frame
 provided c = record {

@@ -1,9 +1,6 @@
 use Rattle.ksm_book.proofs.Names.{ap, arith, frame_at, holding, KeeperView, opened, raised, set, shown, Some, Stable, with_more, ◌+◌, ◌-◌, ◌∙◌, ◌≡◌}
-use Rattle.ksm_book.proofs.Filling.{again, at_again, follow, mounts, words_kept}
+use Rattle.ksm_book.proofs.Filling.{again, at_again, follow, words_kept}
 use Rattle.ksm_book.proofs.mounting.mount.Goals as goal
-
-pub returns-clause-made : goal.returns-clause-made
-returns-clause-made c = grind (arith, words_kept, mounts)
 
 pub returns-clause-ledger : goal.returns-clause-ledger
 returns-clause-ledger c =

@@ -1,5 +1,4 @@
 use Rattle.ksm_book.proofs.Names.{arith, ◌∙◌}
-use Rattle.ksm_book.proofs.Along.{further, not_far}
 use Rattle.ksm_book.proofs.Unmerged.{unshares_own, unsharing_end, unsharing_home, unsharing_next, unsharing_own, unsharing_stop}
 use Rattle.ksm_book.proofs.unmerging.unshare_each.Goals as goal
 
@@ -22,9 +21,6 @@ returns-in-Err-clause-unshares c = unsharing_stop c.pages.invariant c.lie_in_ord
 
 pub pages-preserved : goal.pages-preserved
 pages-preserved c = grind (arith, unsharing_next)
-
-pub pages-smaller : goal.pages-smaller
-pages-smaller c = grind (arith, further, not_far)
 
 pub returns-clause-unshares : goal.returns-clause-unshares
 returns-clause-unshares c = unsharing_end c.pages.invariant c.lie_in_order.ensures.rise c.in_default.ensures

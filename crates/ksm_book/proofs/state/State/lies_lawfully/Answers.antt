@@ -1,18 +1,15 @@
-use Rattle.ksm_book.proofs.Names.{arith, seen, state_of}
+use Rattle.ksm_book.proofs.Names.{arith}
 use Rattle.ksm_book.proofs.Promised.{finds_place, lie_on}
 use Rattle.ksm_book.proofs.Sharing.{spent_most}
 use Rattle.ksm_book.proofs.state.State.lies_lawfully.Goals as goal
 
-pub returns : goal.returns
-returns c =
-    let s = c.self.inside in
-    let b = state_of (seen s.pages) s.cursor s.passes in
-    let sound = c.self.invariant.0 in
-    let laid = c.self.invariant.1 in
-    record {
-      sound = rw (← c.self.view_is) sound;
-      placed = rw (← c.self.view_is) (lie_on b _ sound _ laid.placed c.lie_in_order.ensures.absent);
-      place = rw (← c.self.view_is) (finds_place b _ sound _ laid.placed);
-      lives = rw (← c.self.view_is) laid.spent;
-      numbers = rw (← c.self.view_is) (λ k d lt. omega (arith, sound.numbers k d lt, spent_most laid));
-    }
+pub returns-clause-placed : goal.returns-clause-placed
+returns-clause-placed c =
+    rw (← c.self.view_is) (lie_on _ _ c.self.invariant.0 _ c.self.invariant.1.placed c.lie_in_order.ensures.absent)
+
+pub returns-clause-place : goal.returns-clause-place
+returns-clause-place c = rw (← c.self.view_is) (finds_place _ _ c.self.invariant.0 _ c.self.invariant.1.placed)
+
+pub returns-clause-numbers : goal.returns-clause-numbers
+returns-clause-numbers c =
+    rw (← c.self.view_is) (λ k d lt. omega (arith, c.self.invariant.0.numbers k d lt, spent_most c.self.invariant.1))

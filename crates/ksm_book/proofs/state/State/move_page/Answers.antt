@@ -1,6 +1,6 @@
 use Rattle.ksm_book.proofs.Names.{ap, Done, MovePage, ne_eqb, Ok, option_map, refl, Resettled, same_Some, seen, subst, sym, view_of, ◌∙◌}
-use Rattle.ksm_book.proofs.Shown.{resettles_own}
-use Rattle.ksm_book.proofs.Singles.{carried_so, Carries, found_resettled, move_home, move_moved, row_held, sound_carried}
+use Rattle.ksm_book.proofs.Shown.{resettles_does}
+use Rattle.ksm_book.proofs.Singles.{carried_so, Carries, found_resettled, move_home, move_moved, row_held, lawful}
 use Rattle.ksm_book.proofs.state.State.move_page.Goals as goal
 
 pub returns-then-held-node : goal.returns-then-held-node
@@ -19,7 +19,7 @@ moved_there c =
     let found = row_held c.in-Some.ensures in
     let bytes = same_Some _ _ (sym c.bytes-bytes.ensures ∙ ap (option_map (λ r. r.bytes)) found) in
     move_moved _ _ _ _ _ _ _ c.self.invariant.0.rows_rise found
-    (rw (← c.shape.ensures) c.if-node-shape.false) _ (resettles_own c.in_default-resettle.ensures.resettled.resettles)
+    (rw (← c.shape.ensures) c.if-node-shape.false) _ (resettles_does c.in_default-resettle.ensures.resettled.resettles).1.table
     (ne_eqb c.in-Some.ensures.row.home c.args.node (λ e. c.if-held-node.false (c.in-Some.ensures.home ∙ e)))
     _ _ c.self.invariant.1
     (subst (λ bs. Resettled (seen c.self.inside.pages) (seen c.resettle.new.pages) c.self.inside.keeper c.resettle.new.keeper c.in-Some.held.spot.page c.args.node bs) bytes c.in_default-resettle.ensures.resettled)
@@ -29,4 +29,4 @@ pub returns : goal.returns
 returns c = carried_so c.self.view_is (rw c.in-Some.ensures.spot) (moved_there c).0
 
 pub invariant_of-self-2 : goal.invariant_of-self-2
-invariant_of-self-2 c = (sound_carried c.self.invariant.0 (moved_there c).0, (moved_there c).1)
+invariant_of-self-2 c = lawful c.self.invariant.0 (moved_there c)

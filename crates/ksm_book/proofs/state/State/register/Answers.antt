@@ -1,11 +1,8 @@
 use Rattle.std.proofs.Common.{arith}
 use Rattle.ksm_book.proofs.Names.{Done, Err, NoFrame, Ok, refl, Register, seen}
-use Rattle.ksm_book.proofs.Singles.{carried_so, Carries, come_known, HasCome, register_come, register_turned, sound_carried}
+use Rattle.ksm_book.proofs.Singles.{carried_so, Carries, come_known, HasCome, register_come, register_turned, lawful}
 use Rattle.ksm_book.proofs.state.State.register.Goals as goal
 use Rattle.ksm_book.proofs.state.State.register.Goals.{In_ok-spot}
-
-pub returns-then-is_used_up : goal.returns-then-is_used_up
-returns-then-is_used_up c = grind arith
 
 -- the page came
 new : (c : In_ok-spot) → HasCome (seen c.self.inside.pages) (seen c.insert.new.self) c.args.page c.args.node c.args.bytes.now
@@ -26,8 +23,7 @@ returns-in_default c = carried_so c.self.view_is refl (turned c (new ((goal.at.r
 
 pub invariant_of-self-in_default : goal.invariant_of-self-in_default
 invariant_of-self-in_default c =
-    let done = turned c (new ((goal.at.invariant_of-self-in_default c).In_ok-spot)) in
-    (sound_carried c.self.invariant.0 done.0, done.1)
+    lawful c.self.invariant.0 (turned c (new ((goal.at.invariant_of-self-in_default c).In_ok-spot)))
 
 pub resettle-requires : goal.resettle-requires
 resettle-requires c = rw c.in_ok-spot.ensures.spot (come_known (new ((goal.at.resettle-requires c).In_ok-spot)))
@@ -44,5 +40,4 @@ returns c = carried_so c.self.view_is refl (come c (new ((goal.at.returns c).In_
 
 pub invariant_of-self-2 : goal.invariant_of-self-2
 invariant_of-self-2 c =
-    let done = come c (new ((goal.at.invariant_of-self-2 c).In_ok-spot)) in
-    (sound_carried c.self.invariant.0 done.0, done.1)
+    lawful c.self.invariant.0 (come c (new ((goal.at.invariant_of-self-2 c).In_ok-spot)))

@@ -1,7 +1,7 @@
 use Rattle.ksm_book.proofs.Names.{ap, arith, Done, find_all, is_some, IsCarried, length, Ok, PAGE_WORDS, refl, Resettled, rules, seen, Store, subst, sym, ◌<◌, ◌∙◌, ◌≡◌}
 use Rattle.ksm_book.proofs.Laying.{has_frame, laid_written, own_framed}
-use Rattle.ksm_book.proofs.Shown.{resettles_own}
-use Rattle.ksm_book.proofs.Singles.{alone_now, book, carried_so, Carries, found_resettled, own_ready, row_held, sound_carried, store_copied, store_written}
+use Rattle.ksm_book.proofs.Shown.{resettles_does}
+use Rattle.ksm_book.proofs.Singles.{book, carried_so, Carries, found_resettled, own_ready, row_held, lawful, sound_carried, store_copied, store_written}
 use Rattle.ksm_book.proofs.state.State.store.Goals as goal
 
 pub known_frame-frame-requires : goal.known_frame-frame-requires
@@ -15,9 +15,6 @@ write-requires c =
     let ready = own_ready c.self.invariant.1 _ _ c.in-Some.ensures.found (sym c.in-Some.ensures.shared ∙ c.if-held.false)
     _ (sym c.in-Some.ensures.frame ∙ c.known_frame-frame.ensures) in
     grind arith
-
-pub store-requires-2 : goal.store-requires-2
-store-requires-2 c = grind arith
 
 module _ (c : goal.After-store-2) where
   written : IsCarried (book (seen c.self.inside.pages) c.self.inside.keeper c.self.inside.cursor c.self.inside.passes) (book (seen c.store-2.new.self) c.write.new.keeper c.self.inside.cursor c.self.inside.passes) (Store c.in-Some.held.spot.page c.args.bytes.now) (Ok Done)
@@ -45,14 +42,13 @@ resettle-requires-clause-node c = rw c.in-Some.ensures.home
     (find_all _ (λ r. r.home < c.self.inside.pages.shape.nodes) _ _ c.in-Some.ensures.found c.self.invariant.0.homes)
 
 pub store-requires : goal.store-requires
-store-requires c = alone_now c.resettle.new.pages.rows c.in-Some.held.spot.page _
-    (found_resettled c.in_default-resettle.ensures.resettled (row_held c.in-Some.ensures)) refl
+store-requires c = rw (found_resettled c.in_default-resettle.ensures.resettled (row_held c.in-Some.ensures)) refl
 
 copied : (c : goal.After-store) → Carries (seen c.self.inside.pages) c.self.inside.keeper (seen c.store.new.self)
     c.resettle.new.keeper c.self.inside.cursor c.self.inside.passes (Store c.in-Some.held.spot.page c.args.bytes.now) (Ok Done)
 copied c =
     store_copied _ _ _ _ _ _ _ c.in-Some.ensures.row
-    (row_held c.in-Some.ensures) (resettles_own c.in_default-resettle.ensures.resettled.resettles)
+    (row_held c.in-Some.ensures) (resettles_does c.in_default-resettle.ensures.resettled.resettles).1.table
     _ _ c.self.invariant.1 c.self.invariant.0.rows_rise
     (subst (λ n. Resettled (seen c.self.inside.pages) (seen c.resettle.new.pages) c.self.inside.keeper c.resettle.new.keeper c.in-Some.held.spot.page n c.args.bytes.now) c.in-Some.ensures.home c.in_default-resettle.ensures.resettled)
     c.store.ensures (sym c.in-Some.ensures.shared ∙ c.if-held.true)
@@ -61,15 +57,9 @@ pub returns-then-held-clause-carried : goal.returns-then-held-clause-carried
 returns-then-held-clause-carried c = carried_so c.self.view_is (rw c.in-Some.ensures.spot) (copied c).0
 
 pub invariant_of-self-then-held : goal.invariant_of-self-then-held
-invariant_of-self-then-held c = (sound_carried c.self.invariant.0 (copied c).0, (copied c).1)
-
-pub note_store-requires-clause-own : goal.note_store-requires-clause-own
-note_store-requires-clause-own c = grind arith
+invariant_of-self-then-held c = lawful c.self.invariant.0 (copied c)
 
 -- what is due stays so
-pub returns-clause-due : goal.returns-clause-due
-returns-clause-due c = grind arith
-
 -- the page that was merged or Zero is due beside what was
 pub returns-then-held-clause-due : goal.returns-then-held-clause-due
 returns-then-held-clause-due c = λ known.
