@@ -1,7 +1,7 @@
 -- Frames written, read, found and filled, and a dup's place that comes to name another frame.
 use Rattle.ksm_book.proofs.Names.{Add, ap, arith, blank, did, Dying, Finds, frame_at, frames_of, Free, get_or-set_other, get_or-set_same, HasNewFrame, IsLawful, KeeperView, Kind, Ledger, length}
 use Rattle.ksm_book.proofs.Names.{length-set, List, loads, MakesSteps, mounting, None, Note, Open, PAGE_WORDS, Placed, Private, Provides, Publish, puts, Raise, raised, replicate}
-use Rattle.ksm_book.proofs.Names.{replicate-append-replicate, set-get_or, set-set, Shape, spent, spent_on, stepped, with_frame, ℕ, ◌+◌, ◌-◌, ◌<◌, ◌∙◌, ◌≡◌}
+use Rattle.ksm_book.proofs.Names.{replicate-append-replicate, set-get_or, set-set, spent, spent_on, stepped, with_frame, ℕ, ◌+◌, ◌-◌, ◌<◌, ◌∙◌, ◌≡◌}
 use Rattle.ksm_book.proofs.Keeping.{searched_placed, searched_spends, spent_kept}
 use Rattle.ksm_book.proofs.Made.{made_one, made_part, made_then}
 use Rattle.ksm_book.proofs.Noted.{noted}
@@ -28,15 +28,12 @@ module _ (k : Ledger) (g : ℕ) (lt : g < length k.frames) where
 -- ---------------------------------------------------------------- a frame is found
 
 module _ (v w : KeeperView) (node g : ℕ) (less : node < v.table.shape.nodes) (l : IsLawful v None) (finds : Finds v w node g) where
-  abbrev sh : Shape
-  sh = v.table.shape
-
   -- rows and dups lie lawfully once the frame is found
-  pub found_placed : Placed sh l.0 w.ledger l.1 l.2 l.3 None
+  pub found_placed : Placed v.table.shape l.0 w.ledger l.1 l.2 l.3 None
   found_placed = searched_placed _ less finds.reaped l.0 l.1 l.2 l.3 None l.4
 
   -- the frame found is one of the table
-  pub found_inside : g < frames_of sh
+  pub found_inside : g < frames_of v.table.shape
   found_inside = grind arith
 
   -- the frame found is one that the keeper knows

@@ -68,16 +68,13 @@ pub set_holds : (P : Note → Type 0) (xs : List Note) (i h : ℕ) (y : Note) �
 set_holds P xs i h y new old = grind (arith, get_or-set_same, get_or-set_other, set_past, cases_lt, cases_eq)
 
 module _ (v : KeeperView) (g found : ℕ) where
-  abbrev reaped_view : KeeperView
-  reaped_view = did v (Reap g) found
-
   abbrev new : Note
   new = reaped v.table.shape.last_generation (frame_at v.ledger g)
 
-  still_left : (h : ℕ) → IsLeft v.table.shape v.ledger h → IsLeft v.table.shape reaped_view.ledger h
+  still_left : (h : ℕ) → IsLeft v.table.shape v.ledger h → IsLeft v.table.shape (did v (Reap g) found).ledger h
   still_left h left = grind (arith, set_holds (λ x. x.base ≡ 0) v.ledger.frames g h new refl left.1)
 
-  reap_placed : {hand : Option ℕ} → IsLeft v.table.shape v.ledger g → Keeps v reaped_view hand hand
+  reap_placed : {hand : Option ℕ} → IsLeft v.table.shape v.ledger g → Keeps v (did v (Reap g) found) hand hand
   reap_placed {hand} left across rows frame dups p =
       let reaps : Placed v.table.shape across (with_frame v.ledger g new) rows frame dups hand =
       noted p g left.0 new hand (grind arith) (λ f ne. refl) in

@@ -1,7 +1,7 @@
 -- A dup moves to another frame, with all of its items.
 use Rattle.ksm_book.proofs.Names.{Agrees, All, arith, cond, count_alike, count_none, DupFits, DupRow, Dying, eq-eqb, frame_at, Frames, frames_of, Free, get_or-set_other, get_or-set_same, instead}
-use Rattle.ksm_book.proofs.Names.{is_frame, IsInLife, IsServed, Ledger, length-set, Life, List, named_at, ne_eqb, node_of, None, none_counted, Note, place_frame, Placed, refl, Row, same_Some, set}
-use Rattle.ksm_book.proofs.Names.{Shape, Some, Stable, uses, ℕ, ◌+◌, ◌<◌, ◌≡◌, ◌≢◌}
+use Rattle.ksm_book.proofs.Names.{is_frame, IsInLife, IsServed, Ledger, length-set, List, named_at, ne_eqb, node_of, None, none_counted, Note, place_frame, Placed, refl, Row, same_Some, set, Shape}
+use Rattle.ksm_book.proofs.Names.{Some, Stable, uses, ℕ, ◌+◌, ◌<◌, ◌≡◌, ◌≢◌}
 use mathlib.Core.Logic.{dite}
 use native.Mathlib.Decide.{ℕ_discrete}
 use Rattle.ksm_book.proofs.Moves.{Serves}
@@ -33,13 +33,9 @@ module _ {sh : Shape} {across : ℕ} {k : Ledger} {rows : List Row} {frame : Fra
   abbrev pub mounted : Note
   mounted = record { kind = Stable; base = (frame_at k left).base; generation = (frame_at k g).generation + 1; content = (frame_at k left).content }
 
-  -- the life of the frame to which the dup goes
-  abbrev pub life : Life
-  life = record { frame = g; generation = (frame_at k g).generation + 1 }
-
   -- what the keeper knows once the dup has moved
   abbrev pub next : Ledger
-  next = record { frames = set (set k.frames left dead) g mounted; places = set k.places q (Some life) }
+  next = record { frames = set (set k.frames left dead) g mounted; places = set k.places q (Some (record { frame = g; generation = (frame_at k g).generation + 1 })) }
 
   module _ (inside : g < frames_of sh) (free : (frame_at k g).kind ≡ Free) (in_life : IsInLife k q) (stable : (frame_at k left).kind ≡ Stable) (node : across ≡ 0 → node_of sh g ≡ node_of sh left) (numbers : All (λ e. e.place ≢ q → e.number ≢ moving.number) dups) where
     apart : g ≢ left

@@ -29,9 +29,6 @@ module _ {v : PagesView} {k : KeeperView} {dup : DupRow} {node g : ℕ} (may : M
   abbrev dups : List DupRow
   dups = v.dups
 
-  abbrev across : ℕ
-  across = v.knobs.merge_across_nodes
-
   abbrev by_item : Row → Bool
   by_item r = merged_into dup.number r.state
 
@@ -42,26 +39,20 @@ module _ {v : PagesView} {k : KeeperView} {dup : DupRow} {node g : ℕ} (may : M
   item_some : 1 ≤ item_count v.rows dup
   item_some = grind (arith, find_passes)
 
-  stands : dup_numbered dup.number dups ≡ Some dup
-  stands = among (λ d. dup_numbered d.number dups ≡ Some d) (each_has_number _ may.sound.2.dups_rise)
-
   numbers : All (λ e. e.place ≢ dup.place → e.number ≢ dup.number) dups
-  numbers n x lt apart same = grind (arith, each_has_number, stands)
+  numbers n x lt apart same = grind (arith, each_has_number, among (λ d. dup_numbered d.number dups ≡ Some d) (each_has_number _ may.sound.2.dups_rise))
 
   module _ {w : KeeperView} {f : ℕ} (to : Finds k w node f) where
-    abbrev p : Placed sh across w.ledger v.rows v.frame dups None
+    abbrev p : Placed sh v.knobs.merge_across_nodes w.ledger v.rows v.frame dups None
     p = kept k may.laid.same w None
         (λ a rows frame ds. searched_placed node (rw may.laid.same may.exists) to.reaped a
         rows frame ds None) may.laid.placed
 
-    more_spent : spent k.ledger ≤ spent w.ledger
-    more_spent = searched_spends _ to.reaped
-
     abbrev n : Note
     n = frame_at w.ledger g
 
-    dup_fits : DupFits sh across w.ledger dup
-    dup_fits = among (DupFits sh across w.ledger) p.each_dup
+    dup_fits : DupFits sh v.knobs.merge_across_nodes w.ledger dup
+    dup_fits = among (DupFits sh v.knobs.merge_across_nodes w.ledger) p.each_dup
 
     live : Lives w.ledger dups sh v.rows v.frame dup
     live = among (λ d. (item_count v.rows d ≡ 0 → ⊥) → Lives w.ledger dups sh v.rows v.frame d) (lives p) (λ none. omega (arith, item_some))
@@ -116,7 +107,7 @@ module _ {v : PagesView} {k : KeeperView} {dup : DupRow} {node g : ℕ} (may : M
       module _ (other : count_in found ≢ n.base) where
         -- where the exchange found another count than the keeper's references, the dup stays
         pub stays : {X : Type 0} → HasRemounted {X = X} v v k u dup node (Err InUse)
-        stays = grind (arith, more_spent, p, known, item_lies)
+        stays = grind (arith, searched_spends _ to.reaped, p, known, item_lies)
 
       -- it is made where the keeper's references are all
       module _ (all : count_in found ≡ n.base) where
@@ -161,7 +152,7 @@ module _ {v : PagesView} {k : KeeperView} {dup : DupRow} {node g : ℕ} (may : M
             same = grind arith;
             placed = rw ledger_is (remounted p dup among g f on_frame inside lowest.free live.life known.1
                 (grind (arith, dup_fits, on_frame)) numbers);
-            spent = grind (arith, spent_kept, more_spent);
+            spent = grind (arith, spent_kept, searched_spends _ to.reaped);
           })
 
           -- once the new frame is mounted and the items lie there, the dup has moved to a frame of the node

@@ -186,7 +186,5 @@ module _ {p : PagesView} {k : KeeperView} (h : IsLaid p k) (rise : InPageOrder p
       (All-filter (elsewhere d.place) (λ e. ¬ (e.number ≡ d.number)) p.dups (grind arith))
       (grind (arith, filter_passes, eq-eqb)) in
       let ledger : w.ledger ≡ ledger_after w1.table.shape cleared (Publish d.place f) 0 = grind arith in
-      let more : spent (with_frame k.ledger f stable) + spent_on o ≡ spent k.ledger + o.generation =
-      spent_set k.ledger f stable (omega (arith, fits.frame)) in
       let now : spent w.ledger ≡ spent (with_frame k.ledger f stable) = ap spent ledger in
-      grind (arith, with_elsewhere, own, fits)
+      grind (arith, with_elsewhere, own, fits, spent_set)

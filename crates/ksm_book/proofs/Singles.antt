@@ -2,7 +2,7 @@
 use Rattle.ksm_book.proofs.Names.{absent_parts, All, Answer, ap, arith, BookValue, BookView, change_row, comes_before, Command, Done, Drop, Err, false, filter, filter_passes, find_put, FindsNone}
 use Rattle.ksm_book.proofs.Names.{frame_at, frames_of, fresh_row, GuestPage, HasNewFrame, Held, Houses, IfErr, IfSome, if◌then◌else◌, InPageOrder, is_some, IsCarried, IsHeld, IsLaid, IsReadable}
 use Rattle.ksm_book.proofs.Names.{IsSound, IsWritable, KeeperView, leaving, length, lies_on, List, lying, MakesSteps, map_fixed, MayLeave, MovePage, nat_le, NoFrame, None, Ok, on_its_own, Option}
-use Rattle.ksm_book.proofs.Names.{ordered_with, PAGE_WORDS, pages_ordered, PagesView, Placed, Provides, puts, refl, Register, Resettled, Resettles, Result, Row, row_at, same_page, same_page_refl}
+use Rattle.ksm_book.proofs.Names.{ordered_with, PAGE_WORDS, pages_ordered, PagesView, Provides, puts, refl, Register, Resettled, Resettles, Result, Row, row_at, same_page, same_page_refl}
 use Rattle.ksm_book.proofs.Names.{shared_state, Some, sound_after, state_of, stepped, Store, stored, true, view_of, with_row, without_between, without_page, ℕ, [], ◌<◌, ◌==◌, ◌∙◌, ◌∷◌, ◌≡◌}
 use Rattle.ksm_base.specs.declared.row.PageState.TheVariants.{Private}
 use Rattle.ksm_book.proofs.ByPage.{at_changed, change_twice, found_page, lies_again, lies_still, row_of_page}
@@ -51,8 +51,6 @@ settled_then {p} {m} {q} {k} {l} {page} {node} {bytes} {row} h rise found r d ch
     let one = row_of_page _ _ row rise found in
     let rows = change_twice page on_its_own d change p.rows (λ x. refl)
     (λ i x lt at. grind (arith, one i x lt at, to)) in
-    let pages : q ≡ record p { rows = change_row page change p.rows; frame = q.frame; restless = q.restless } =
-    grind (arith, goes, r.pages) in
     let houses : Houses change page node bytes p.rows = record { pages = keeps; row = rw found housed } in
     grind (arith, found_page)
 
@@ -121,12 +119,9 @@ module _ (p : PagesView) (k : KeeperView) (cursor : Option GuestPage) (passes : 
 
 module _ {p : PagesView} {k : KeeperView} (h : IsLaid p k) (rise : InPageOrder p.rows) {page : GuestPage} {row : Row}
     (found : row_at page p.rows ≡ Some row) {left : Option ℕ} (was : left ≡ p.frame page) where
-  gone_hand : Placed p.shape p.knobs.merge_across_nodes k.ledger (without_page page p.rows) (lies_on page None p.frame) p.dups (p.frame page)
-  gone_hand = removed _ row rise found h.placed
-
   -- the frame of a page that goes, if it has one, may be left
   pub drop_may : IfSome left (MayLeave k)
-  drop_may = rw was (may_leave k h.same _ gone_hand)
+  drop_may = rw was (may_leave k h.same _ (removed _ row rise found h.placed))
 
   -- `Drop` is carried out, and all lies lawfully, where the page has left its frame and its row is gone
   pub drop_gone : (cursor : Option GuestPage) (passes : ℕ) (q : PagesView) (l : KeeperView) → q ≡ record p { rows = without_page page p.rows; frame = lies_on page None p.frame } → MakesSteps k l (leaving left)
@@ -135,7 +130,7 @@ module _ {p : PagesView} {k : KeeperView} (h : IsLaid p k) (rise : InPageOrder p
       let leaves = rw was at made in (
         grind (arith, made.after),
         rw goes
-            (laid_rows h l (grind (arith, made.after)) (left_spends _ leaves) (left_placed _ leaves gone_hand)),
+            (laid_rows h l (grind (arith, made.after)) (left_spends _ leaves) (left_placed _ leaves (removed _ row rise found h.placed))),
       )
 
 -- ---------------------------------------------------------------- a page that comes

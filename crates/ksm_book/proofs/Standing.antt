@@ -29,9 +29,8 @@ module _ {sh : Shape} {across : ℕ} {k : Ledger} {rows : List Row} {frame : Fra
       let first = first_found (λ r. merged_into e.number r.state) rows (omega arith) in
       let row = first.0 in
       let into = find_passes (λ r. merged_into e.number r.state) rows row first.1 in
-      let state = state_of_item e.number _ into in
       let served = find_all _ (λ r. IsServed sh k dups r (frame r.page)) _ row first.1 p.each_row in
-      grind (arith, framed)
+      grind (arith, framed, state_of_item)
 
   -- the frames of dups with items differ, and none of them is a page's own
   module _ (rise : InPlaceOrder dups) where

@@ -135,9 +135,6 @@ module _ {p q : PagesView} {k l : KeeperView} {guest : Option ℕ} {count : ℕ}
     abbrev r : Row
     r = cut.row
 
-    met_before : filter (is_shared_of guest) cut.before ≡ met
-    met_before = cut.met (λ x. shared_state x.state)
-
     -- the next page is at home on a node that is there
     pub unsharing_home : {held : Held} → IsHeld q page held → All (λ x. x.home < p.shape.nodes) p.rows → held.home < q.shape.nodes
     unsharing_home h homes =
@@ -147,7 +144,7 @@ module _ {p q : PagesView} {k l : KeeperView} {guest : Option ℕ} {count : ℕ}
     -- once the next page was left too, so many pages more got frames of their own, up to that page
     pub unsharing_next : {v : PagesView} {w : KeeperView} {given : ℕ} → HasLeft q v l w guest page given → FitsPage (Some page)
         → IsUnsharing p v k w guest (count + given) (Some page)
-    unsharing_next {v} h fits = grind (arith, cut, filter-append, met_before, length-append, each_then, further)
+    unsharing_next {v} h fits = grind (arith, cut, filter-append, cut.met (λ x. shared_state x.state), length-append, each_then, further)
 
     -- where no frame was left for the next page, the unsharing stops there, and the shared rows before it are done
     pub unsharing_stop : {v : PagesView} {w : KeeperView} {fault : Fault} → MayNotLeave q v l w page fault
@@ -155,9 +152,9 @@ module _ {p q : PagesView} {k l : KeeperView} {guest : Option ℕ} {count : ℕ}
     unsharing_stop {v} {w} {fault} h = record {
       at = Some r;
       fault = grind (arith, cut.there);
-      stands = grind (arith, cut.whole, filter-append, met_before, seam, cut.there);
+      stands = grind (arith, cut.whole, filter-append, cut.met (λ x. shared_state x.state), seam, cut.there);
       pages = grind (arith, cut.stop);
-      unmerges = grind (arith, cut.whole, filter-append, met_before, cut.there, take-append_seam);
+      unmerges = grind (arith, cut.whole, filter-append, cut.met (λ x. shared_state x.state), cut.there, take-append_seam);
       laid = h.turned.laid;
     }
 
@@ -191,13 +188,10 @@ module _ {p q : PagesView} {guest : ℕ} {last : Option GuestPage} (u : IsMarkin
   -- the next page is there
   module _ (rise : InPageOrder p.rows) {page : GuestPage}
       (told : option_map (λ r. r.page) (find (is_next (Some guest) last) q.rows) ≡ Some page) where
-    at : IsCut (is_of guest) in_scan p.rows q.rows u.done page
-    at = along_cut _ (λ _. refl) u.along rise _ told
-
     -- once the next page of the guest is mergeable too, the guest's pages are so up to that page
     pub marking_next : {v : PagesView} → v ≡ record q { rows = change_row page in_scan q.rows; restless = v.restless }
         → FitsPage (Some page) → IsMarking p v guest (Some page)
-    marking_next {v} goes fits = grind (arith, at)
+    marking_next {v} goes fits = grind (arith, along_cut _ (λ _. refl) u.along rise _ told)
 
   -- where no page of the guest is left, all its rows are mergeable
   pub marking_end : find (is_next (Some guest) last) q.rows ≡ None → q ≡ record p { rows = change_rows (is_of guest) in_scan p.rows; restless = q.restless }
