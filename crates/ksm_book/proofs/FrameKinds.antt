@@ -1,6 +1,6 @@
 -- The sets of the free and of the dying frames follow the keeper's steps.
-use Rattle.ksm_book.proofs.Names.{IsSetOf, AreSets, arith, Bool, cases_lt, cond, did, Dying, dying_kind, frame_at, Free, free_kind, Freeze, get_or-set_other, get_or-set_same, get_or_past, inl, inr}
-use Rattle.ksm_book.proofs.Names.{KeeperView, Kind, Ledger, length-set, List, Marks, MayLeave, Note, Raise, Reap, refl, Stable, Sub, true, with_frame, ℕ, ◌≡◌, ◌≢◌, ◌⊎◌}
+use Rattle.ksm_book.proofs.Names.{ap, AreSets, arith, Bool, cases_lt, cond, did, Dying, dying_kind, frame_at, Free, free_kind, Freeze, get_or-set_other, get_or-set_same, get_or_past, inl, inr}
+use Rattle.ksm_book.proofs.Names.{IsSetOf, KeeperView, Kind, Ledger, length-set, List, Marks, MayLeave, Note, Raise, Reap, refl, Stable, Sub, true, with_frame, ℕ, ◌≡◌, ◌≢◌, ◌⊎◌}
 
 -- a step on one frame leaves the note of another, also where the step found that it could not be made
 pub other_if : (made : Bool) (k : Ledger) (f g : ℕ) (note : Note) → g ≢ f → frame_at (cond made (with_frame k f note) k) g ≡ frame_at k g
@@ -21,7 +21,8 @@ Tracks asked v w frame words words' = Marks words words' frame (asked (note w fr
 -- where no other frame changed, a set that was marked so, or stays so, is right again
 module _ {v w : KeeperView} (frame : ℕ) (table : w.table ≡ v.table)
     (others : (f : ℕ) → f ≢ frame → note w f ≡ note v f) where
-  right : (asked : Kind → Bool) {words words' : List ℕ} → IsSetOf asked v words → Tracks asked v w frame words words' → IsSetOf asked w words'
+  right : (asked : Kind → Bool) {words words' : List ℕ} → IsSetOf asked v words → Tracks asked v w frame words words'
+      → IsSetOf asked w words'
   right asked are follows = grind arith
 
   both : {free dying free' dying' : List ℕ} → AreSets v free dying → Tracks free_kind v w frame free free'
@@ -59,10 +60,11 @@ module _ {v w : KeeperView} (found frame : ℕ) {free dying : List ℕ} (are : A
         → AreSets w free dying'
     sets_taken may none marks =
         let dies : (note w frame).kind ≡ Dying = grind (arith, put_there) in
-        grind (arith, both, get_or-set_other)
+        both frame (rw is) (λ g ne. grind (arith, get_or-set_other)) are (inr (refl, grind arith)) (inl (grind arith))
 
     -- where a frame has lost a reference, and has one left, both sets are right as they are
     pub sets_lowered : (note w frame).base ≢ 0 → AreSets w free dying
     sets_lowered left =
         let kept : (note w frame).kind ≡ (note v frame).kind = grind (arith, put_there) in
-        grind (arith, both, get_or-set_other)
+        both frame (rw is) (λ g ne. grind (arith, get_or-set_other)) are (inr (refl, ap free_kind kept))
+        (inr (refl, ap dying_kind kept))

@@ -73,4 +73,5 @@ module _ {p m : PagesView} {k l : KeeperView} (cursor : Option GuestPage) (passe
         → IsCarried (book p k cursor passes) (book q l None passes) (SetRun 2) (Ok (Unmerged count stop)) × IsLaid q l
     unshare_ends {w} {q} wide goes =
         let there = laid_mapped u.laid unshared (λ r. refl) (grind (arith, unshare_none)) in
-        grind (arith, carried q None, retuned, went, map_mapped)
+        let rows : map unshared m.rows ≡ map unshared p.rows = grind (arith, went, map_mapped) in
+        grind (arith, carried q None, retuned)
