@@ -1,7 +1,7 @@
 -- What the words of a set, and their summary, say of its numbers.
-use Rattle.ksm_tree.proofs.Names.{get_or_default, bit_at_ones, nat_tests, AreSummed, arith, bit_and, bit_at, bit_at_clear_other, bit_at_clear_same, bit_at_set_other, bit_at_set_same, bit_or, Bool}
-use Rattle.ksm_tree.proofs.Names.{false, get_or, get_or-replicate, get_or-set_other, get_or-set_same, get_or_past, has, HasNoBit, HasNone, IsLeast, IsLowestBit, IsSummed, length, length-set, List}
-use Rattle.ksm_tree.proofs.Names.{Marks, MatchOption, not, Option, replicate, set, shr-shr, true, w64, ℕ, ◌%◌, ◌*◌, ◌+◌, ◌-◌, ◌/◌, ◌<◌, ◌==◌, ◌^◌, ◌≡◌, ◌≢◌, ◌≤◌}
+use Rattle.ksm_tree.proofs.Names.{bit_at_ones, AreSummed, arith, bit_and, bit_at, bit_at_clear_other, bit_at_clear_same, bit_at_set_other, bit_at_set_same, bit_or, Bool, false, get_or}
+use Rattle.ksm_tree.proofs.Names.{get_or-replicate, get_or-set_other, get_or-set_same, get_or_past, has, HasNoBit, HasNone, IsLeast, IsLowestBit, IsSummed, length, length-set, List, Marks}
+use Rattle.ksm_tree.proofs.Names.{MatchOption, not, Option, replicate, set, shr-shr, true, w64, ℕ, ◌%◌, ◌*◌, ◌+◌, ◌-◌, ◌/◌, ◌<◌, ◌==◌, ◌^◌, ◌≡◌, ◌≢◌, ◌≤◌}
 use Rattle.std.proofs.lemmas.List.{length-replicate}
 
 module _ (words : List ℕ) where
@@ -62,9 +62,6 @@ bit_of_rest word from i = grind (arith, shr-shr)
 
 pub bit_behind : (word from i : ℕ) → from ≤ i → bit_at word i ≡ bit_at (word / 2 ^ from) (i - from)
 bit_behind word from i behind = grind (arith, bit_of_rest)
-
--- one word is put, and the others stay
-pub ruleset put_there = (nat_tests, get_or_default, get_or-set_same, get_or-set_other, length-set, bit_at_set_same)
 
 -- words that are all alike
 pub ruleset replicated = (all_there, length-replicate, none_there)

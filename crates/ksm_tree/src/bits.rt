@@ -137,7 +137,6 @@ impl<S: Bits, const MOST: usize> Words<S, MOST> {
     }
 
     // Which of the words has a number's bit. Where there is one at most that is known before the program runs.
-    #[tactic(auto, using(crate::proofs::NumberBits::within_named))]
     #[inline(always)]
     fn word_of(&self, number: u32) -> u32
         requires { number < 64 * length self.now }
@@ -166,7 +165,6 @@ impl<S: Bits, const MOST: usize> Words<S, MOST> {
 impl<S: Bits, const MOST: usize> Bits for Words<S, MOST> {
     ghost words = { λ w. w };
 
-    #[tactic(auto, using(crate::proofs::NumberBits::put_there))]
     #[inline(always)]
     fn add(&mut self, number: u32) {
         let at = self.word_of(number);

@@ -5,6 +5,9 @@ use Rattle.ksm_tree.proofs.bits.WordsBits.add.Goals as goal
 pub invariant_of-self : goal.invariant_of-self
 invariant_of-self g c = grind (arith, nat_tests, get_or_default, length-set, summed_put, bit_at_set_same w64)
 
+pub invariant_of-self-else-this-gt1 : goal.invariant_of-self-else-this-gt1
+invariant_of-self-else-this-gt1 g c = grind (arith, length-set)
+
 pub returns-then-this-gt1 : goal.returns-then-this-gt1
 returns-then-this-gt1 g c = grind (arith, get_or_default, marks_more)
 
