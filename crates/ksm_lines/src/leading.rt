@@ -56,8 +56,15 @@ pub fn leading_short_line(text: &[u8]) -> Option<(ShortLine, &[u8])>
         let (visits, left) = number_to(behind_name(text, b"scan ")?, b'\n')?;
         return Some((ShortLine::Scan { visits }, left));
     }
-    let left = behind_name(text, b"stat\n")?;
-    Some((ShortLine::Stat, left))
+    if front == first_four(b"stat\n") {
+        let left = behind_name(text, b"stat\n")?;
+        return Some((ShortLine::Stat, left));
+    }
+    if front == first_four(b"show ") {
+        let (shown, left) = shown_to_newline(behind_name(text, b"show ")?)?;
+        return Some((ShortLine::Show { shown }, left));
+    }
+    None
 }
 
 /// The line with a content at the front of a text, its content, and what is behind its newline.
@@ -89,10 +96,6 @@ pub fn leading_rare_line(text: &[u8]) -> Option<(RareLine, &[u8])>
         return None;
     }
     let front = first_four(text);
-    if front == first_four(b"show ") {
-        let (shown, left) = shown_to_newline(behind_name(text, b"show ")?)?;
-        return Some((RareLine::Show { shown }, left));
-    }
     if front == first_four(b"set ") {
         let (knob, left) = knob_to_space(behind_name(text, b"set ")?)?;
         let (value, left) = number_to(left, b'\n')?;
@@ -266,6 +269,7 @@ fn knob_to_space(text: &[u8]) -> Option<(Knob, &[u8])>
 }
 
 /// What is shown by the name at the front of a text, and what is behind the newline that ends it.
+#[inline(always)]
 fn shown_to_newline(text: &[u8]) -> Option<(Shown, &[u8])>
     ensures { IfSome result (λ r. text.now ≡ shown_name r.0 ++ 10 ∷ r.1.now) }
 {
