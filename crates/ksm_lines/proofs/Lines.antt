@@ -2,7 +2,7 @@
 use Rattle.ksm_lines.proofs.Names.{IfErr, Bool, list_all, ltb, ap, AreWritten, arith, bytes_eq, bytes_eq-Decides, cond, content, Err, Form, form_in, Gives, guest, IfOk, IsLine, IsOf, IsWritten, Kind}
 use Rattle.ksm_lines.proofs.Names.{kind_of, knob, Knob, knob_name, knob_of, left_out, Line, line_at, line_of, LineFault, List, made, MaxPageSharing, MergeAcrossNodes, named_in, None, number, OfKnob}
 use Rattle.ksm_lines.proofs.Names.{Ok, Option, option_map, PagesToScan, Part, read, refl, Result, Run, Shown, shown, shown_name, shown_of, Some, sym, Told, true, false, UseZeroPages, Values, values}
-use Rattle.ksm_lines.proofs.Names.{visits, ZeroPages, ℕ, [], ◌>>=◌, ◌^◌, ◌∙◌, ◌∷◌, ◌≡◌}
+use Rattle.ksm_lines.proofs.Names.{visits, ZeroPages, append-nil, ℕ, [], ◌++◌, ◌>>=◌, ◌^◌, ◌∙◌, ◌∷◌, ◌≡◌, ◌≢◌}
 use Rattle.ksm_lines.proofs.Numbers.{number_takes, number_again}
 
 -- values that are there and equal are equal
@@ -66,6 +66,22 @@ shown_is named word e =
     go : (o : Option Knob) → knob_of word ≡ o → option_map OfKnob o ≡ Some named → word ≡ shown_name named
     go None is h = absurd cc
     go (Some found) is h = knob_is found word is ∙ ap shown_name (some_is (OfKnob found) named h)
+
+-- what no name of a knob begins is read as no knob
+pub no_knob : (word : List ℕ) → ((named : Knob) (left : List ℕ) → word ≢ knob_name named ++ left) → knob_of word ≡ None
+no_knob word none = go (knob_of word) refl
+  where
+    go : (o : Option Knob) → knob_of word ≡ o → o ≡ None
+    go None is = refl
+    go (Some named) is = absurd (none named [] (knob_is named word is ∙ sym (append-nil (knob_name named))))
+
+-- and so of what is shown
+pub no_shown : (word : List ℕ) → ((named : Shown) (left : List ℕ) → word ≢ shown_name named ++ left) → shown_of word ≡ None
+no_shown word none = go (shown_of word) refl
+  where
+    go : (o : Option Shown) → shown_of word ≡ o → o ≡ None
+    go None is = refl
+    go (Some named) is = absurd (none named [] (shown_is named word is ∙ sym (append-nil (shown_name named))))
 
 abbrev pub above_space : ℕ → Bool
 above_space byte = ltb 32 byte

@@ -25,7 +25,7 @@ pub use Rattle.std.proofs.Math.Seq.{take-add}
 pub use Rattle.std.proofs.lemmas.Bool.{and_parts, cases_lt, eqb-true, le-ltb, lt-ltb, ltb-false, ltb-true, ne_eqb}
 pub use Rattle.std.proofs.lemmas.Fmt.{decimal-digits_value, decimal_digit, decimal_nonempty, digits_decimal, digits_value-decimal, first_decimal}
 pub use Rattle.std.proofs.lemmas.Int.Digits.{digits_value_more}
-pub use Rattle.std.proofs.lemmas.List.{get_or-map, get_or-take, get_or_append_left, get_or_past, length-take, length-take-le, map-id, take_all, take_more, take_rest}
+pub use Rattle.std.proofs.lemmas.List.{append-nil, get_or-map, get_or-take, get_or_append_left, get_or_past, length-take, length-take-le, map-id, take_all, take_more, take_rest}
 pub use Rattle.std.proofs.lemmas.List.Edits.{fill_by_more}
 pub use Rattle.std.proofs.lemmas.List.Elements.{All-append, All-cons, All-weaker}
 pub use Rattle.std.proofs.lemmas.List.Folds.{list_all-append, list_all-map, list_all_at, list_all_more}

@@ -1,12 +1,12 @@
 -- Lines at the front of a text, word by word, each with the byte behind it.
 use Rattle.ksm_lines.proofs.Names.{[], All, All-append, All-cons, ap, append_assoc, AreWritten, arith, BeginsWith, Bool, cond, content_of, decimal, decimal-digits_value, digits_decimal, digits_value}
-use Rattle.ksm_lines.proofs.Names.{drop, false, form_in, get_or, get_or-take, is_ascii_digit, is_ascii_hexdigit, IsLine, IsOf, IsReadTo, IsWritten, kind_of, knob_of, length, length-take-le, Line}
-use Rattle.ksm_lines.proofs.Names.{line_at, List, list_all, made, Makes, None, not, OfKnob, Option, Part, refl, Knob, Shown, shown_name, shown_of, GuestPage, slice_split_at, slice_split_none, Some}
+use Rattle.ksm_lines.proofs.Names.{drop, false, form_in, get_or, get_or-take, is_ascii_digit, is_ascii_hexdigit, IsLine, IsOf, IsReadTo, IsWritten, kind_of, knob_name, length, length-take-le, Line}
+use Rattle.ksm_lines.proofs.Names.{line_at, List, list_all, made, Makes, None, not, OfKnob, Option, Part, refl, Knob, Shown, shown_name, GuestPage, slice_split_at, slice_split_none, Some}
 use Rattle.ksm_lines.proofs.Names.{subst, sym, take, Told, true, Values, words_of, ℕ, ◌++◌, ◌+◌, ◌-◌, ◌<◌, ◌^◌, ◌∙◌, ◌∷◌, ◌≡◌, ◌≢◌, ◌≤◌}
 use Rattle.ksm_lines.proofs.Names.parts
 use Rattle.ksm_lines.proofs.Numbers.{own}
 use Rattle.ksm_lines.proofs.Front.{parted_at}
-use Rattle.ksm_lines.proofs.Lines.{above_space, knob_is, line_takes, shown_above, shown_is}
+use Rattle.ksm_lines.proofs.Lines.{above_space, line_takes, shown_above}
 use Rattle.ksm_lines.proofs.Words.{each, is_space, other}
 
 -- a word has neither a space nor a newline
@@ -126,10 +126,8 @@ module _ {text behind rest : List ℕ} {others : List Part} {told : Values other
   guest_more n is fits later = number_more parts.Guest n is (omega arith) (fits, refl) later
 
   -- the name of a knob stands before others
-  pub knob_more : {named : Knob} → (word : List ℕ) × (knob_of word ≡ Some named) × (text ≡ word ++ 32 ∷ behind) → Leads others told behind rest → Leads (parts.Knob ∷ others) (named, told) text rest
-  knob_more {named = named} h later =
-      let is = knob_is named h.0 h.1 in
-      more h.0 _ _ _ (subst IsWord (sym is) (shown_is_word (OfKnob named))) h.2 _ _ later parts.Knob named is
+  pub knob_more : {named : Knob} → text ≡ knob_name named ++ 32 ∷ behind → Leads others told behind rest → Leads (parts.Knob ∷ others) (named, told) text rest
+  knob_more {named = named} is later = more (knob_name named) _ _ _ (shown_is_word (OfKnob named)) is _ _ later parts.Knob named refl
 
 -- the last two words are a page
 pub page_last : {text rest : List ℕ} (page : GuestPage) → text ≡ decimal page.guest ++ 32 ∷ (decimal page.page ++ 10 ∷ rest) → (page.guest < 2 ^ 16) × (page.page < 2 ^ 32)
@@ -137,7 +135,5 @@ pub page_last : {text rest : List ℕ} (page : GuestPage) → text ≡ decimal p
 page_last page is fits = guest_more page.guest is fits.0 (number_last parts.Page page.page refl fits.1 (fits.1, refl))
 
 -- the last word is the name of what is shown
-pub shown_last : {text rest : List ℕ} {named : Shown} → (word : List ℕ) × (shown_of word ≡ Some named) × (text ≡ word ++ 10 ∷ rest) → Leads (parts.Shown ∷ []) (named, tt) text rest
-shown_last {named = named} h =
-    let is = shown_is named h.0 h.1 in
-    last parts.Shown named h.0 _ _ (subst IsWord (sym is) (shown_is_word named)) is h.2
+pub shown_last : {text rest : List ℕ} {named : Shown} → text ≡ shown_name named ++ 10 ∷ rest → Leads (parts.Shown ∷ []) (named, tt) text rest
+shown_last {named = named} is = last parts.Shown named (shown_name named) _ _ (shown_is_word named) refl is

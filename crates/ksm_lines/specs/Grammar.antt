@@ -113,7 +113,7 @@ forms =
     ∷ (codes "move", Guest ∷ Page ∷ Node ∷ [], λ owner page node. lines.Rare (rares.MovePage (at owner page) node))
     ∷ (codes "movedup", Place ∷ Node ∷ [], λ place node. lines.Rare (rares.MoveDup place node))
     ∷ (codes "set", Knob ∷ Value ∷ [], λ named value. lines.Rare (rares.Set named value))
-    ∷ (codes "show", Shown ∷ [], λ named. lines.Rare (rares.Show named))
+    ∷ (codes "show", Shown ∷ [], λ named. lines.Short (shorts.Show named))
     ∷ (codes "stat", [], lines.Short shorts.Stat)
     ∷ (codes "find", Pass ∷ Place ∷ [], λ pass place. lines.Short (shorts.Find pass place))
     ∷ (codes "equal", Pass ∷ Place ∷ Content ∷ [], λ pass place. lines.Page (pages.Equal pass place))

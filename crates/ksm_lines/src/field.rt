@@ -1,6 +1,6 @@
 //! The fields of a line: its words, read one by one.
-ghost use Rattle.std.specs.Prelude.{◌≡◌, ◌+◌, ◌*◌, ◌<◌, ◌≤◌, ◌↔◌, ◌==◌, [], ◌∷◌, ◌++◌, ◌&&◌, map, not, false, true};
-ghost use Rattle.std.specs.Prelude.{length, take, slice_index, None, IsSome, IfSome, IfOk, IfErr, bytes_eq, position};
+ghost use Rattle.std.specs.Prelude.{◌≡◌, ◌≢◌, ◌+◌, ◌*◌, ◌<◌, ◌≤◌, ◌↔◌, ◌==◌, [], ◌∷◌, ◌++◌, ◌&&◌, ℕ, List, map, not};
+ghost use Rattle.std.specs.Prelude.{length, take, slice_index, None, IsSome, IfSome, IfNone, bytes_eq, position, false, true};
 ghost use Rattle.std.specs.Char.{is_ascii_digit, is_ascii_hexdigit};
 ghost use Rattle.std.specs.List.{list_all, range_with_len};
 ghost use Rattle.std.specs.Int.{w32, w64, from_le_bytes, to_le_bytes};
@@ -75,6 +75,23 @@ pub fn behind_name<'a, const N: usize>(text: &'a [u8], name: &[u8; N]) -> Option
         return None;
     }
     for i in 4..N {
+        if text[i] != name[i] {
+            return None;
+        }
+    }
+    Some(&text[N..])
+}
+
+/// What is left of a text behind a name of any length, where it begins with it. The first byte that differs ends it.
+#[inline(always)]
+pub fn behind<'a, const N: usize>(text: &'a [u8], name: &[u8; N]) -> Option<&'a [u8]>
+    ensures some { IfSome result (λ left. text.now ≡ name.now ++ left.now) }
+    ensures none { IfNone result ((left : List ℕ) → text.now ≢ name.now ++ left) }
+{
+    if text.len() < N {
+        return None;
+    }
+    for i in 0..N {
         if text[i] != name[i] {
             return None;
         }

@@ -1,9 +1,11 @@
 //! The knobs by their names.
-ghost use Rattle.std.specs.Prelude.{◌≡◌};
-ghost use Rattle.ksm_lines.specs.Knobs.{setting, value_in, knob_of, shown_of};
+ghost use Rattle.std.specs.Prelude.{◌≡◌, ◌≢◌, ◌++◌, ℕ, List, IfSome, IfNone};
+ghost use Rattle.ksm_lines.specs.declared.knob.Knob as knobs;
+ghost use Rattle.ksm_lines.specs.declared.knob.Shown as showns;
+ghost use Rattle.ksm_lines.specs.Knobs.{setting, value_in, knob_name, knob_of, shown_name, shown_of};
 ghost use Rattle.ksm_lines.specs.Reading.{Gives};
 
-use crate::field::is;
+use crate::field::behind;
 use crate::line::LineFault;
 use ksm_base::{Command, Knobs};
 
@@ -59,26 +61,59 @@ impl Knob {
     }
 }
 
+/// The knob whose name begins a text, and what is behind the name. No name of a knob begins another's.
+#[inline(always)]
+pub fn knob_at(text: &[u8]) -> Option<(Knob, &[u8])>
+    ensures some { IfSome result (λ r. text.now ≡ knob_name r.0 ++ r.1.now) }
+    ensures none { IfNone result ((knob : knobs.Knob) → (left : List ℕ) → text.now ≢ knob_name knob ++ left) }
+{
+    if let Some(left) = behind(text, b"run") {
+        return Some((Knob::Run, left));
+    }
+    if let Some(left) = behind(text, b"pages_to_scan") {
+        return Some((Knob::PagesToScan, left));
+    }
+    if let Some(left) = behind(text, b"merge_across_nodes") {
+        return Some((Knob::MergeAcrossNodes, left));
+    }
+    if let Some(left) = behind(text, b"max_page_sharing") {
+        return Some((Knob::MaxPageSharing, left));
+    }
+    let left = behind(text, b"use_zero_pages")?;
+    Some((Knob::UseZeroPages, left))
+}
+
+/// What is shown by the name that begins a text, and what is behind the name.
+#[inline(always)]
+pub fn shown_at(text: &[u8]) -> Option<(Shown, &[u8])>
+    ensures some { IfSome result (λ r. text.now ≡ shown_name r.0 ++ r.1.now) }
+    ensures none { IfNone result ((shown : showns.Shown) → (left : List ℕ) → text.now ≢ shown_name shown ++ left) }
+{
+    if let Some((knob, left)) = knob_at(text) {
+        return Some((Shown::Knob(knob), left));
+    }
+    let left = behind(text, b"ksm_zero_pages")?;
+    Some((Shown::ZeroPages, left))
+}
+
 /// The knob of a name.
+#[tactic(auto, using(crate::proofs::Lines::no_knob))]
 pub fn knob_named(word: &[u8]) -> Result<Knob, LineFault>
     ensures { Gives result (knob_of word.now) }
 {
-    match word {
-        _ if is(word, b"run") => Ok(Knob::Run),
-        _ if is(word, b"pages_to_scan") => Ok(Knob::PagesToScan),
-        _ if is(word, b"merge_across_nodes") => Ok(Knob::MergeAcrossNodes),
-        _ if is(word, b"max_page_sharing") => Ok(Knob::MaxPageSharing),
-        _ if is(word, b"use_zero_pages") => Ok(Knob::UseZeroPages),
+    match knob_at(word) {
+        Some((knob, [])) => Ok(knob),
         _ => Err(LineFault::Bad),
     }
 }
 
 /// What is shown under a name: a knob's, or a counter's.
+#[tactic(auto, using(crate::proofs::Lines::no_shown))]
 pub fn shown_named(word: &[u8]) -> Result<Shown, LineFault>
     ensures { Gives result (shown_of word.now) }
 {
-    if is(word, b"ksm_zero_pages") {
-        return Ok(Shown::ZeroPages);
+    match shown_at(word) {
+        Some((shown, [])) => Ok(shown),
+        _ => Err(LineFault::Bad),
     }
-    Ok(Shown::Knob(knob_named(word)?))
 }

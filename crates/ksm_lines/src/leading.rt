@@ -5,15 +5,14 @@
 //! line; `read_line` tells.
 ghost use Rattle.std.specs.Prelude.{◌≡◌, ◌<◌, ◌≤◌, ◌^◌, ◌++◌, ◌∷◌, ℕ, List, IfSome, Some, decimal, length};
 ghost use Rattle.ksm_lines.specs.Content.{content_of};
-ghost use Rattle.ksm_lines.specs.Knobs.{knob_of, shown_of};
+ghost use Rattle.ksm_lines.specs.Knobs.{knob_name, shown_name};
 ghost use Rattle.ksm_lines.specs.Leading.{BeginsWith};
 ghost use Rattle.ksm_lines.specs.declared.line.Line.TheVariants as lines;
 
 use crate::field::{PAGE_DIGITS, behind_name, content_in, first_four};
-use crate::knob::{Knob, Shown, knob_named, shown_named};
+use crate::knob::{Knob, Shown, knob_at, shown_at};
 use crate::line::{PageLine, RareLine, ShortLine};
 use ksm_base::{GuestPage, PageBytes};
-use memchr::memchr;
 
 /// With a digit more, a number up to this one fits.
 const MOST_BEFORE_A_DIGIT: u32 = 429_496_728;
@@ -57,8 +56,15 @@ pub fn leading_short_line(text: &[u8]) -> Option<(ShortLine, &[u8])>
         let (visits, left) = number_to(behind_name(text, b"scan ")?, b'\n')?;
         return Some((ShortLine::Scan { visits }, left));
     }
-    let left = behind_name(text, b"stat\n")?;
-    Some((ShortLine::Stat, left))
+    if front == first_four(b"stat\n") {
+        let left = behind_name(text, b"stat\n")?;
+        return Some((ShortLine::Stat, left));
+    }
+    if front == first_four(b"show ") {
+        let (shown, left) = shown_to_newline(behind_name(text, b"show ")?)?;
+        return Some((ShortLine::Show { shown }, left));
+    }
+    None
 }
 
 /// The line with a content at the front of a text, its content, and what is behind its newline.
@@ -90,10 +96,6 @@ pub fn leading_rare_line(text: &[u8]) -> Option<(RareLine, &[u8])>
         return None;
     }
     let front = first_four(text);
-    if front == first_four(b"show ") {
-        let (shown, left) = shown_to_newline(behind_name(text, b"show ")?)?;
-        return Some((RareLine::Show { shown }, left));
-    }
     if front == first_four(b"set ") {
         let (knob, left) = knob_to_space(behind_name(text, b"set ")?)?;
         let (value, left) = number_to(left, b'\n')?;
@@ -255,32 +257,25 @@ fn content_of_length(text: &[u8], digits: usize) -> Option<(PageBytes, &[u8])>
     }
 }
 
-/// What is shown by the name at the front of a text, and what is behind the newline that ends it.
-fn shown_to_newline(text: &[u8]) -> Option<(Shown, &[u8])>
-    ensures { IfSome result (λ r. (word : List ℕ) × (shown_of word ≡ Some r.0) × (text.now ≡ word ++ 10 ∷ r.1.now)) }
-{
-    let (word, left) = word_to(text, b'\n')?;
-    match shown_named(word) {
-        Ok(shown) => Some((shown, left)),
-        Err(_) => None,
-    }
-}
-
 /// The knob whose name is at the front of a text, and what is behind the space that ends it.
 fn knob_to_space(text: &[u8]) -> Option<(Knob, &[u8])>
-    ensures { IfSome result (λ r. (word : List ℕ) × (knob_of word ≡ Some r.0) × (text.now ≡ word ++ 32 ∷ r.1.now)) }
+    ensures { IfSome result (λ r. text.now ≡ knob_name r.0 ++ 32 ∷ r.1.now) }
 {
-    let (word, left) = word_to(text, b' ')?;
-    match knob_named(word) {
-        Ok(knob) => Some((knob, left)),
-        Err(_) => None,
-    }
+    let (knob, left) = knob_at(text)?;
+    let [b' ', left @ ..] = left else {
+        return None;
+    };
+    Some((knob, left))
 }
 
-/// What stands before the first such byte of a text, and what is behind it.
-fn word_to(text: &[u8], end: u8) -> Option<(&[u8], &[u8])>
-    ensures { IfSome result (λ r. text.now ≡ r.0.now ++ end ∷ r.1.now) }
+/// What is shown by the name at the front of a text, and what is behind the newline that ends it.
+#[inline(always)]
+fn shown_to_newline(text: &[u8]) -> Option<(Shown, &[u8])>
+    ensures { IfSome result (λ r. text.now ≡ shown_name r.0 ++ 10 ∷ r.1.now) }
 {
-    let at = memchr(end, text)?;
-    Some((&text[..at], &text[at + 1..]))
+    let (shown, left) = shown_at(text)?;
+    let [b'\n', left @ ..] = left else {
+        return None;
+    };
+    Some((shown, left))
 }

@@ -7,9 +7,9 @@ ghost use Rattle.ksm_lines.specs.Reading.{Gives, words_left, line_at, named_line
 use self::Line::{Page, Rare, Short};
 use self::PageLine::{Equal, Register, Store};
 use self::RareLine::{
-    Audit, Mappers, Mergeable, MoveDup, MovePage, Prune, ScanPages, Set, Show, Unmerge,
+    Audit, Mappers, Mergeable, MoveDup, MovePage, Prune, ScanPages, Set, Unmerge,
 };
-use self::ShortLine::{Find, Get, Leave, Look, Scan, Stat, Ticket};
+use self::ShortLine::{Find, Get, Leave, Look, Scan, Show, Stat, Ticket};
 use crate::field::{
     content_alone, cut, ended, guest, guest_alone, is, knob, number, number_alone, page_alone,
     shown_alone,
@@ -18,12 +18,12 @@ use crate::knob::{Knob, Shown};
 use ksm_base::{GuestPage, PageBytes};
 use thiserror::Error;
 
-/// A line of a script, by how often it comes and whether it has the content of a page (own).
+/// A line of a script, by how it is answered and whether it has the content of a page (own).
 #[derive(Clone, Copy)]
 pub enum Line {
     /// No bytes: nothing is done, and there is no reply.
     Empty,
-    /// One that comes by the million, without a content.
+    /// One without a content that is answered by a call of its own.
     Short(ShortLine),
     /// One with a content, which stands apart.
     Page(PageLine, PageBytes),
@@ -31,7 +31,7 @@ pub enum Line {
     Rare(RareLine),
 }
 
-/// A line without a content that comes by the million.
+/// A line without a content that is answered by a call of its own.
 #[derive(Clone, Copy)]
 pub enum ShortLine {
     /// `get G P`
@@ -48,6 +48,8 @@ pub enum ShortLine {
     Scan { visits: u32 },
     /// `stat`
     Stat,
+    /// `show KNOB`, `show ksm_zero_pages`
+    Show { shown: Shown },
 }
 
 /// A line with the content of a page, without that content.
@@ -82,8 +84,6 @@ pub enum RareLine {
     MoveDup { place: u32, node: u32 },
     /// `set KNOB V`
     Set { knob: Knob, value: u32 },
-    /// `show KNOB`, `show ksm_zero_pages`
-    Show { shown: Shown },
     /// `audit`
     Audit,
 }
@@ -131,7 +131,7 @@ fn named(name: &[u8], left: Option<&[u8]>) -> Result<Line, LineFault>
         _ if is(name, b"move") => move_page(left),
         _ if is(name, b"movedup") => move_dup(left),
         _ if is(name, b"set") => set(left),
-        _ if is(name, b"show") => shown_alone(left).map(|shown| Rare(Show { shown })),
+        _ if is(name, b"show") => shown_alone(left).map(|shown| Short(Show { shown })),
         _ if is(name, b"audit") => ended(left).map(|()| Rare(Audit)),
         _ => Err(LineFault::Bad),
     }

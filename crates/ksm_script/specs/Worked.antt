@@ -127,8 +127,8 @@ pub record ReadingLines (t : TableName) : Type 0 where
   pub not_for_memory : Never (merged t) (lines.Rare (rares.Mappers 1)) (Some (told.Refused (Book Memory)))
   pub no_mappers : Leads (merged t) (lines.Rare (rares.Mappers 1)) (Some (told.Refused (Book UnknownPlace))) (merged t)
   pub not_empty : (pages : Vec GuestPage) → Never (merged t) (lines.Rare (rares.Mappers 1)) (Some (told.Mappers pages))
-  pub value : Leads (merged t) (lines.Rare (rares.Show (OfKnob Run))) (Some (told.Value 1)) (merged t)
-  pub not_zero : Never (merged t) (lines.Rare (rares.Show (OfKnob Run))) (Some (told.Value 0))
+  pub value : Leads (merged t) (lines.Short (shorts.Show (OfKnob Run))) (Some (told.Value 1)) (merged t)
+  pub not_zero : Never (merged t) (lines.Short (shorts.Show (OfKnob Run))) (Some (told.Value 0))
 
 -- the pass 0 holds nothing, and the pass 1 a frame
 abbrev pub one_holds : PassView → HeldView → ScriptState

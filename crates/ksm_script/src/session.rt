@@ -144,8 +144,8 @@ impl<N: Naming> Session<N> {
         self.line.as_slice()
     }
 
-    // Each line that comes by the million has a function of its own, which is not inlined: so the values of the others
-    // are not cleared before it.
+    // Each short line has a function of its own, which is not inlined: so the values of the others are not cleared
+    // before it.
 
     /// Does what a short line says, and hands its reply over.
     #[inline(always)]
@@ -165,6 +165,7 @@ impl<N: Naming> Session<N> {
             ShortLine::Leave { pass } => self.tell_left::<P, S>(pass, to),
             ShortLine::Scan { visits } => self.tell_visits::<P, R, S>(rt, visits, to),
             ShortLine::Stat => self.tell_counters::<P, R, S>(rt, to),
+            ShortLine::Show { shown } => self.tell_value::<P, R, S>(rt, shown, to),
         }
     }
 
@@ -242,7 +243,7 @@ impl<N: Naming> Session<N> {
 
     #[inline(never)]
     fn tell_value<P: Replies<S>, R: Wait, S>(&mut self, rt: &R, shown: Shown, to: &mut S) -> Told
-        ensures answers { IsSaid P.takes (Answers (lines.Rare (rares.Show shown))) self.old self.new
+        ensures answers { IsSaid P.takes (Answers (lines.Short (shorts.Show shown))) self.old self.new
             to.old to.new result }
     {
         let value = match shown {
@@ -296,7 +297,6 @@ impl<N: Naming> Session<N> {
         let command = match line {
             RareLine::Mappers { place } => return tell_any::<P, S>(to, self.mappers(rt, place)),
             RareLine::ScanPages => return self.tell_scanned::<P, R, S>(rt, to),
-            RareLine::Show { shown } => return self.tell_value::<P, R, S>(rt, shown, to),
             RareLine::Audit => return tell_any::<P, S>(to, self.audit(rt)),
             RareLine::Drop { page } => Command::Drop { page },
             RareLine::Prune => Command::Prune,

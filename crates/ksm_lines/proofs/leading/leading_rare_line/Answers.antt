@@ -2,23 +2,20 @@ use Rattle.ksm_lines.proofs.Names.{codes, refl}
 use Rattle.ksm_lines.proofs.Names.parts
 use Rattle.ksm_lines.specs.declared.line.Line.TheVariants.{Rare}
 use Rattle.ksm_lines.specs.declared.line.RareLine.TheVariants.{Audit, Prune, ScanPages}
-use Rattle.ksm_lines.proofs.Parted.{bare, knob_more, line, number_last, shown_last}
+use Rattle.ksm_lines.proofs.Parted.{bare, knob_more, line, number_last}
 use Rattle.ksm_lines.proofs.leading.leading_rare_line.Goals as goal
 
 pub returns-then-front-first_four : goal.returns-then-front-first_four
-returns-then-front-first_four c = line (codes "show") refl refl c.in_ok-behind_name.ensures (shown_last c.in_ok-shown.ensures)
-
-pub returns-then-front-first_four-2 : goal.returns-then-front-first_four-2
-returns-then-front-first_four-2 c =
+returns-then-front-first_four c =
     let value = c.in_ok-value in
-    line (codes "set") refl refl c.in_ok-behind_name-2.ensures
+    line (codes "set") refl refl c.in_ok-behind_name.ensures
     (knob_more c.in_ok-knob.ensures (number_last parts.Value value.value value.ensures.text value.ensures.fits (value.ensures.fits, refl)))
 
+pub returns-then-front-first_four-2 : goal.returns-then-front-first_four-2
+returns-then-front-first_four-2 c = bare (codes "prune") (Rare Prune) refl refl c.in_ok-left.ensures
+
 pub returns-then-front-first_four-3 : goal.returns-then-front-first_four-3
-returns-then-front-first_four-3 c = bare (codes "prune") (Rare Prune) refl refl c.in_ok-left.ensures
+returns-then-front-first_four-3 c = bare (codes "scan") (Rare ScanPages) refl refl c.in_ok-left-2.ensures
 
 pub returns-then-front-first_four-4 : goal.returns-then-front-first_four-4
-returns-then-front-first_four-4 c = bare (codes "scan") (Rare ScanPages) refl refl c.in_ok-left-2.ensures
-
-pub returns-then-front-first_four-5 : goal.returns-then-front-first_four-5
-returns-then-front-first_four-5 c = bare (codes "audit") (Rare Audit) refl refl c.in_ok-left-3.ensures
+returns-then-front-first_four-4 c = bare (codes "audit") (Rare Audit) refl refl c.in_ok-left-3.ensures

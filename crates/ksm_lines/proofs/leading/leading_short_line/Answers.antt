@@ -2,7 +2,7 @@ use Rattle.ksm_lines.proofs.Names.{codes, refl, Some}
 use Rattle.ksm_lines.proofs.Names.parts
 use Rattle.ksm_lines.specs.declared.line.Line.TheVariants.{Short}
 use Rattle.ksm_lines.specs.declared.line.ShortLine.TheVariants.{Stat}
-use Rattle.ksm_lines.proofs.Parted.{bare, line, number_last, number_more, page_last}
+use Rattle.ksm_lines.proofs.Parted.{bare, line, number_last, number_more, page_last, shown_last}
 use Rattle.ksm_lines.proofs.leading.leading_short_line.Goals as goal
 
 pub returns-then-front-first_four : goal.returns-then-front-first_four
@@ -34,5 +34,8 @@ returns-then-front-first_four-7 c =
     let n = c.in_ok-visits in
     line (codes "scan") refl refl c.in_ok-behind_name-6.ensures (number_last parts.Visits (Some n.visits) n.ensures.text n.ensures.fits (n.visits, refl, n.ensures.fits, refl))
 
-pub returns : goal.returns
-returns c = bare (codes "stat") (Short Stat) refl refl c.in_ok-left.ensures
+pub returns-then-front-first_four-8 : goal.returns-then-front-first_four-8
+returns-then-front-first_four-8 c = bare (codes "stat") (Short Stat) refl refl c.in_ok-left.ensures
+
+pub returns-then-front-first_four-9 : goal.returns-then-front-first_four-9
+returns-then-front-first_four-9 c = line (codes "show") refl refl c.in_ok-behind_name-7.ensures (shown_last c.in_ok-shown.ensures)
