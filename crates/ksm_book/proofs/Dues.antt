@@ -1,9 +1,10 @@
 -- The pages that are due, as they are kept: which there are once one came or went, and the first behind a cursor.
-use Rattle.ksm_book.proofs.Names.{after_cursor, All, All-cons, All-map, any-filter_same, any_found, append-nil, AreDue, arith, before_irrefl, BookState, Bool, cases_Bool, comes_before, Err, false}
-use Rattle.ksm_book.proofs.Names.{filter, find, get_or, GuestPage, has_item, inl, inr, is_some, length, List, list_any, map, MatchOption, None, not, not_both, Ok, Option, pages_ordered, pairs_head}
-use Rattle.ksm_book.proofs.Names.{pairs_tail, refl, Result, same_page, same_page_refl, Some, true, [], ◌&&◌, ◌++◌, ◌==◌, ◌||◌, ◌∙◌, ◌∷◌, ◌≡◌}
+use Rattle.ksm_book.proofs.Names.{after_cursor, All, All-map, any-filter_same, any_found, append-nil, AreDue, arith, BookState, Bool, comes_before, Err, false}
+use Rattle.ksm_book.proofs.Names.{filter, find, find_all, find_none, find_passes, get_or, GuestPage, has_item, is_some, length, List, list_any, list_any_at, map, MatchOption, None, not, Ok, Option, pages_ordered}
+use Rattle.ksm_book.proofs.Names.{refl, Result, same_page, same_page_refl, Some, true, [], ◌&&◌, ◌++◌, ◌==◌, ◌||◌, ◌∙◌, ◌∷◌, ◌≡◌}
 use Rattle.std.proofs.lemmas.List.Folds.{list_any-append}
 use Rattle.std.specs.Prelude.{OnErr, OnOk}
+use Rattle.ksm_pages.proofs.Found.{first_found as found_first}
 use Rattle.ksm_pages.specs.Held.{pages_of}
 use Rattle.ksm_pages.specs.declared.named.Named.{Named}
 use Rattle.ksm_pages.specs.declared.row.Spot.{Spot}
@@ -99,41 +100,24 @@ abbrev pub TellsFirst : Option GuestPage → List GuestPage → Option Named →
 TellsFirst cursor pages found =
     MatchOption found (All (λ p. after_cursor cursor p ≡ false) pages) (λ n. IsFirst cursor pages n.page)
 
-module _ (cursor : Option GuestPage) where
-  abbrev behind : Named → Bool
-  behind n = after_cursor cursor n.page
+-- a search in pages in order finds the first page behind the cursor, if there is one
+pub first_found : (cursor : Option GuestPage) (order : List Named) → AreAscending order
+    → TellsFirst cursor (pages_in order) (find (λ n. after_cursor cursor n.page) order)
+first_found cursor order rise = by _ refl
+  where
+    behind : Named → Bool
+    behind n = after_cursor cursor n.page
 
-  module _ (m : Named) (order : List Named) (rise : AreAscending (m ∷ order)) where
-    head : All (λ (n : Named). comes_before m.page n.page ≡ true) order
-    head = pairs_head (λ (a b : Named). comes_before a.page b.page ≡ true) m _ rise
+    there : All (λ m. has_item m.page (pages_in order) ≡ true) order
+    there k d lt =
+        let page = (get_or order k d).page in
+        any_named page order ∙ list_any_at (λ m. same_page m.page page) order k d lt (same_page_refl page)
 
-    later : All (λ p. after_cursor cursor p ≡ true → comes_before p m.page ≡ false) (pages_in order)
-    later =
-        All-map (λ p. after_cursor cursor p ≡ true → comes_before p m.page ≡ false) (λ (n : Named). n.page) order
-        (λ k d lt _. not_both m.page (get_or order k d).page (head k d lt))
-
-    -- a page behind the cursor that stands first is the first there
-    here : after_cursor cursor m.page ≡ true → IsFirst cursor (pages_in (m ∷ order)) m.page
-    here is = (
-      rw (same_page_refl m.page),
-      is,
-      All-cons (λ p. after_cursor cursor p ≡ true → comes_before p m.page ≡ false) m.page (pages_in order)
-          (λ _. before_irrefl m.page) later,
+    by : (o : Option Named) → find behind order ≡ o → TellsFirst cursor (pages_in order) o
+    by None none = All-map (λ p. after_cursor cursor p ≡ false) (λ n. n.page) order (find_none behind order none)
+    by (Some n) found = (
+      find_all behind (λ m. has_item m.page (pages_in order) ≡ true) order n found there,
+      find_passes behind order n found,
+      All-map (λ p. after_cursor cursor p ≡ true → comes_before p n.page ≡ false) (λ m. m.page) order
+          (found_first (λ (m : Named). m.page) behind order n rise found),
     )
-
-    -- one that is not behind it is passed over
-    over : after_cursor cursor m.page ≡ false → (o : Option Named) → TellsFirst cursor (pages_in order) o
-        → TellsFirst cursor (pages_in (m ∷ order)) o
-    over not_yet None none = grind arith
-    over not_yet (Some n) (has, after, first) = grind arith
-
-  -- a search in pages in order finds the first page behind the cursor, if there is one
-  pub first_found : (order : List Named) → AreAscending order → TellsFirst cursor (pages_in order) (find behind order)
-  first_found [] rise = λ k d lt. absurd (omega arith)
-  first_found (m ∷ order) rise = elim (cases_Bool (behind m)) [
-    | inl is ↦
-        grind (arith, here)
-    | inr not_yet ↦
-        rw not_yet (over m order rise not_yet _
-        (first_found order (pairs_tail (λ a b. comes_before a.page b.page ≡ true) m _ rise)))
-  ]

@@ -6,7 +6,7 @@ use Rattle.ksm_pages.specs.declared.pages.Find.TheVariants as finds
 use Rattle.ksm_pages.specs.Paged.{Finds, visited as row_changed}
 use Rattle.ksm_base.specs.declared.row.PageState.TheVariants.{Private}
 use Rattle.ksm_book.proofs.ByPage.{found_page, row_of_page}
-use Rattle.ksm_book.proofs.Doing.{then_idle}
+use Rattle.ksm_book.proofs.Folded.{then_idle}
 use Rattle.ksm_book.proofs.Laying.{laid_changed, LodgesAs}
 use Rattle.ksm_book.proofs.Made.{made_none}
 use Rattle.ksm_book.proofs.RowVisits.{Leads, leads, Meets, restless_own, there_is, visit_comes}

@@ -2,7 +2,7 @@
 use Rattle.ksm_book.proofs.Names.{All, All-contains_itself, ap, arith, Bool, Contains, count_in, did, dup_numbered, DupFits, DupRow, each_has_number, Err, find_all, find_passes, Finds, FindsNone}
 use Rattle.ksm_book.proofs.Names.{frame_at, frames_of, Freeze, get_or-set_other, GuestPage, has_items, HasRemounted, instead, InUse, is_frame, IsInLife, IsLaid, IsLowestFree, item_count, items_on}
 use Rattle.ksm_book.proofs.Names.{KeeperView, length-set, List, list_any, list_any_at, MakesSteps, MayMount, MayMove, merged_into, mounting, NoFrame, None, Note, Ok, once_mounted, PagesView}
-use Rattle.ksm_book.proofs.Names.{place_frame, Placed, Publish, refl, Row, row_at, Shape, Some, spent, Stable, true, with_frame, ℕ, ◌&&◌, ◌<◌, ◌==◌, ◌∙◌, ◌≡◌, ◌≢◌, ◌≤◌}
+use Rattle.ksm_book.proofs.Names.{place_frame, Placed, Publish, refl, Row, row_at, Shape, Some, Stable, true, with_frame, ℕ, ◌&&◌, ◌<◌, ◌==◌, ◌∙◌, ◌≡◌, ◌≢◌, ◌≤◌}
 use Rattle.ksm_book.proofs.ByPage.{found_page, same_frames}
 use Rattle.ksm_book.proofs.Filling.{at_again}
 use Rattle.ksm_book.proofs.Keeping.{searched_placed, searched_spends, spent_kept}

@@ -1,10 +1,14 @@
 -- A scan carried out: what its visits come to is what the command promises.
-use Rattle.ksm_book.proofs.Names.{arith, BookValue, Comes, doing, Done, false, Fault, HasScanned, IsCarried, IsScanned, length, List, list_any, list_any_none, mergeable_pages, None, none_counted, Ok}
-use Rattle.ksm_book.proofs.Names.{Option, Reply, Row, Scan, scan_stopped, Scanned, Some, true, view_of, visits_beside, ℕ, [], ◌∷◌, ◌≡◌, ◌≤◌}
-use Rattle.ksm_book.proofs.Doing.{scanning_is}
+use Rattle.ksm_book.proofs.Names.{arith, BookValue, Comes, doing, Done, false, Fault, HasScanned, IsCarried, IsScanned, length, List, list_any, list_any_none, mergeable_pages, None, none_counted}
+use Rattle.ksm_book.proofs.Names.{Ok, Option, Reply, Row, Scan, scan_stopped, Scanned, Some, true, view_of, visits_beside, ℕ, [], ◌∷◌, ◌≡◌, ◌≤◌, filter, length-filter, length-map, mergeable_count}
+use Rattle.ksm_book.proofs.Names.{◌∙◌}
+use Rattle.ksm_book.proofs.Folded.{scanning_is}
 use Rattle.ksm_book.proofs.Folded.{beside_state}
-use Rattle.ksm_book.proofs.Listed.{some_pages}
 use Rattle.ksm_book.proofs.Reached.{begins, first}
+
+-- scans visit as many pages as there are mergeable rows
+pub some_pages : (rows : List Row) → length (mergeable_pages rows) ≡ mergeable_count rows
+some_pages rows = length-map (filter (λ (r : Row). r.mergeable) rows) (λ (r : Row). r.page) ∙ length-filter (λ (r : Row). r.mergeable) rows
 
 -- ---------------------------------------------------------------- the scan
 

@@ -5,7 +5,7 @@ use Rattle.ksm_tree.proofs.Numbers.{on_err}
 use Rattle.ksm_book.specs.contracts.state.State.{the_view}
 use Rattle.ksm_book.proofs.DueFound.{changed_keeps, comes_as, is_still, less_due, partner_takes, shared_due, shares, stays_as, still_found, Without}
 use Rattle.ksm_book.proofs.Singles.{book}
-use Rattle.ksm_book.proofs.DueVisits.{gone_due, waits_due}
+use Rattle.ksm_book.proofs.DueFound.{gone_due, waits_due}
 use Rattle.ksm_book.proofs.PageVisits.{changed_leads, finds_it, waits_leads}
 use Rattle.ksm_book.proofs.RowVisits.{Meets}
 use Rattle.ksm_book.proofs.state.State.visit_due.Goals as goal

@@ -1,7 +1,7 @@
 use Rattle.ksm_book.proofs.Names.{ap, AreDue, DueView, part_visited, subst, sym, ◌∙◌}
 use Rattle.ksm_book.specs.Scanned.{HasVisited}
 use Rattle.ksm_book.proofs.Dues.{same_due}
-use Rattle.ksm_book.proofs.DueSteps.{begun_cursor, part_stopped, part_visits}
+use Rattle.ksm_book.proofs.DuePasses.{begun_cursor, part_stopped, part_visits}
 use Rattle.ksm_book.proofs.state.State.visit_part.Goals as goal
 use Rattle.ksm_book.proofs.state.State.visit_part.Goals.{In-Ok}
 
