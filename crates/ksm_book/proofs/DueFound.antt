@@ -3,7 +3,7 @@
 use Rattle.ksm_book.proofs.Names.{ap, AreDue, arith, BookState, BookValue, BookView, Bool, change_row, change_rows, Comes, comes_before, Deed, doing, due_visited, Dup, false, Find, find_mapped}
 use Rattle.ksm_book.proofs.Names.{find_passes, FindsAt, GuestPage, has_item, HasStayed, if◌then◌else◌, is_restless, IsDueNoMore, KeeperView, List, MatchOption, Merged, not, not_both, one_before}
 use Rattle.ksm_book.proofs.Names.{Option, PageState, PagesView, paired, Partner, Reached, refl, restless_at, Row, row_at, row_visited, same_page, same_page_refl, shared_state, Some}
-use Rattle.ksm_book.proofs.Names.{sound_row_visited, state_of, StaysBefore, subst, sym, takes_over, TakesOverFrom, true, true≢false, view_of, VisitsPage, waits_for, waits_tells, Zero, ℕ, ◌&&◌, ◌||◌}
+use Rattle.ksm_book.proofs.Names.{sound_row_visited, state_of, subst, sym, takes_over, TakesOverFrom, true, true≢false, view_of, VisitsPage, waits_for, waits_tells, Zero, ℕ, ◌&&◌, ◌||◌}
 use Rattle.ksm_book.proofs.Names.{◌∙◌, ◌∷◌, ◌≡◌, InPageOrder}
 use Rattle.ksm_book.proofs.ByPage.{row_of_page}
 use Rattle.ksm_base.specs.declared.row.PageState.TheVariants.{Private}
@@ -135,23 +135,12 @@ is_still finds.Changed = false
 is_still finds.Waits = false
 is_still _ = true
 
--- the search changed nothing then
-pub still_found : (p q : PagesView) (page : GuestPage) (f : Find) → Finds p q page f → is_still f ≡ true → q ≡ p
-still_found p q page f told is = grind arith
-
 -- ---------------------------------------------------------------- books that look the same
 
-module _ (v m w : BookValue) (same : view_of m ≡ view_of v) where
-  reached_as : (from : BookValue) (s : BookState × Deed) → Reached from v s → Reached from m s
-  reached_as from s before = grind arith
-
-  -- what is reached from a book is reached from one that looks the same
-  pub comes_as : {change : BookState × Deed → BookState × Deed} → Comes m w change → Comes v w change
-  comes_as comes = λ from s before. comes from s (reached_as from s before)
-
-  -- and so is what a refused visit leaves
-  pub stays_as : (page : GuestPage) → StaysBefore page m w → StaysBefore page v w
-  stays_as page stays = λ from s before. stays from s (reached_as from s before)
+-- what was reached with a book was reached with one that looks the same
+pub reached_as : (v m : BookValue) → view_of m ≡ view_of v → (from : BookValue) (s : BookState × Deed) → Reached from v s
+    → Reached from m s
+reached_as v m same from s before = grind arith
 
 -- ---------------------------------------------------------------- a page that waits, or has gone
 

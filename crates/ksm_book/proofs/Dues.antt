@@ -1,5 +1,5 @@
 -- The pages that are due, as they are kept: which there are once one came or went, and the first behind a cursor.
-use Rattle.ksm_book.proofs.Names.{after_cursor, All, All-map, any-filter_same, any_found, append-nil, AreDue, arith, BookState, Bool, comes_before, Err, false}
+use Rattle.ksm_book.proofs.Names.{after_cursor, All, All-map, any-filter_same, any_found, append-nil, arith, Bool, comes_before, Err, false}
 use Rattle.ksm_book.proofs.Names.{filter, find, find_all, find_none, find_passes, get_or, GuestPage, has_item, is_some, length, List, list_any, list_any_at, map, MatchOption, None, not, Ok, Option, pages_ordered}
 use Rattle.ksm_book.proofs.Names.{refl, Result, same_page, same_page_refl, Some, true, [], ◌&&◌, ◌++◌, ◌==◌, ◌||◌, ◌∙◌, ◌∷◌, ◌≡◌}
 use Rattle.std.proofs.lemmas.List.Folds.{list_any-append}
@@ -9,7 +9,7 @@ use Rattle.ksm_pages.specs.Held.{pages_of}
 use Rattle.ksm_pages.specs.declared.named.Named.{Named}
 use Rattle.ksm_pages.specs.declared.row.Spot.{Spot}
 use Rattle.ksm_pages.specs.Ordered.{AreAscending, is_of, with_named, without_named}
-use Rattle.ksm_rmap.proofs.Ordered.{with_rises, without_rises}
+use Rattle.ksm_rmap.proofs.Ordered.{with_rises}
 
 -- the pages that are kept
 abbrev pub pages_in : List Named → List GuestPage
@@ -45,16 +45,6 @@ pub has_taken : (page : GuestPage) (order : List Named) (x : GuestPage)
     → has_item x (pages_in (without_named page order)) ≡ (has_item x (pages_in order) && not (same_page page x))
 has_taken page order x = picked (λ p. not (same_page p page)) x order ∙ (grind arith)
 
--- the pages stay in order with a page taken out
-pub taken_rises : (page : GuestPage) (order : List Named) → AreAscending order
-    → AreAscending (without_named page order)
-taken_rises page order rise = without_rises pages_ordered (λ (m : Named). m.page) page _ rise
-
--- a page that is there is so with itself put in
-pub has_already : (page : GuestPage) (pages : List GuestPage) → has_item page pages ≡ true
-    → (x : GuestPage) → has_item x pages ≡ (same_page page x || has_item x pages)
-has_already page pages has x = grind arith
-
 -- and where one is put in, or memory was refused
 pub inserted_rises : {T E : Type 0} (r : Result T E) (n : Named) (old new : List Named) → AreAscending old
     → OnOk r (new ≡ with_named n old) → OnErr r (new ≡ old) → AreAscending new
@@ -66,10 +56,6 @@ inserted_rises r n old new rise added kept =
 -- of the pages in order and those added behind them one is there where it is among the ones or the others
 pub has_either : (x : GuestPage) (some more : List GuestPage) → has_item x (some ++ more) ≡ (has_item x some || has_item x more)
 has_either x some more = list_any-append (λ q. same_page q x) some more
-
--- a page among those in order is there
-pub has_first : (x : GuestPage) (some more : List GuestPage) → has_item x some ≡ true → has_item x (some ++ more) ≡ true
-has_first x some more is = grind (arith, has_either, is)
 
 -- where one was put in, it is there, and the others as before, with some more behind them
 pub inserted_has : {T E : Type 0} (r : Result T E) (n : Named) (old new : List Named) (more pages : List GuestPage)
@@ -83,11 +69,6 @@ pub none_added : (known : Bool) (order : List Named) (added : List Spot) → (kn
     → pages_in order ++ pages_of added ≡ pages_in order
 none_added known order [] is = append-nil (pages_in order)
 none_added known order (s ∷ added) is = absurd (grind arith)
-
--- where the same pages are there, the same are due
-pub same_due : (b : BookState) (old new : List GuestPage) → ((x : GuestPage) → has_item x new ≡ has_item x old)
-    → AreDue b old → AreDue b new
-same_due b old new same due = grind arith
 
 -- what is told of the first page behind a cursor
 abbrev pub IsFirst : Option GuestPage → List GuestPage → GuestPage → Type 0

@@ -10,18 +10,14 @@ use Rattle.ksm_book.proofs.Reached.{agrees, comes_as, comes_to, value}
 use Rattle.ksm_pages.proofs.Found.{first_found as found_first}
 use Rattle.ksm_pages.proofs.Options.{mapped_some}
 
--- two changes of the row of a page come to the same where they do at each row of that page
-alike_at : (page : GuestPage) (f g : Row → Row) (rows : List Row)
-    → All (λ r. same_page r.page page ≡ true → f r ≡ g r) rows → change_row page f rows ≡ change_row page g rows
-alike_at page f g rows same = grind (arith, map_alike)
-
 -- ---------------------------------------------------------------- a page with a frame of its own
 
 -- it waits no more where it comes to be on its own
 pub alone_settled : (page : GuestPage) (rows : List Row) → InPageOrder rows → IsAlone page rows
     → change_row page on_its_own rows ≡ change_row page settled rows
 alone_settled page rows rise alone =
-    alike_at _ _ _ rows (λ k d lt same. grind (arith, at_own_page page rows rise k d lt, same_page_sym))
+    map_alike (λ r. if same_page r.page page then on_its_own r else r) (λ r. if same_page r.page page then settled r else r)
+    rows (λ k d lt. grind (arith, at_own_page page rows rise k d lt, same_page_sym))
 
 module _ {p q : PagesView} (page : GuestPage) (goes : q ≡ record p { rows = change_row page settled p.rows }) where
   -- the book stays sound where a page waits no more

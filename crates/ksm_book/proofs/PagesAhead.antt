@@ -1,6 +1,6 @@
 -- Ascending lists of pages: their parts before and behind a page, by test and by index.
 use Rattle.ksm_book.proofs.Names.{after_cursor, All, All-filter, All-head, any-filter_same, ap, AreAscending, arith, Bool, cases_Bool, comes_before}
-use Rattle.ksm_book.proofs.Names.{Contains-from_any, false, filter, filter_all, filter_none, get_or_from_slice_get}
+use Rattle.ksm_book.proofs.Names.{Contains-from_any, filter, filter_all, filter_none, get_or_from_slice_get}
 use Rattle.ksm_book.proofs.Names.{GuestPage, has_item, inl, inr, List, not, not_both, Option, pairs_head}
 use Rattle.ksm_book.proofs.Names.{pairs_tail, same_page, same_page_eq, slice_get, slice_get-get_or, slice_get_within, Some, subst, suc, sym, take, true}
 use Rattle.ksm_book.proofs.Names.{zero, ℕ, [], ◌&&◌, ◌∙◌, ◌∷◌, ◌≡◌}
@@ -8,10 +8,6 @@ use Rattle.ksm_book.proofs.Names.{zero, ℕ, [], ◌&&◌, ◌∙◌, ◌∷◌,
 -- the first page comes before the second
 abbrev pub Before : GuestPage → GuestPage → Type 0
 Before p q = comes_before p q ≡ true
-
--- a filter leaves out a first element that fails the test
-pub filter_out : {X : Type 0} (t : X → Bool) (x : X) (xs : List X) → t x ≡ false → filter t (x ∷ xs) ≡ filter t xs
-filter_out t x xs fails = rw fails
 
 -- what comes behind a page that is behind the cursor is behind the cursor
 pub after_later : (cursor : Option GuestPage) (p q : GuestPage) → after_cursor cursor p ≡ true → comes_before p q ≡ true
@@ -30,8 +26,7 @@ behind_first cursor (p ∷ pages) page more rise is =
       | inr before ↦
           let found = sym (grind arith) ∙ is in
           let later = All-head (Before p) page _ (subst (All (Before p)) found (All-filter _ (Before p) _ behind)) in
-          filter_out (after_cursor (Some page)) p pages (not_both p _ later)
-          ∙ behind_first cursor pages page more (pairs_tail Before p _ rise) found
+          rw (not_both p page later) (behind_first cursor pages page more (pairs_tail Before p _ rise) found)
     ]
 
 -- in an ascending list the pages before the one at index n are the first n, those not behind it the first n + 1

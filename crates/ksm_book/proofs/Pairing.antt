@@ -8,7 +8,7 @@ use Rattle.ksm_pages.specs.Paged.{paired as are_paired}
 use Rattle.ksm_book.proofs.Made.{made_one, made_then}
 use Rattle.ksm_book.proofs.Sharing.{laid_found, laid_joined, may_clear, may_found, may_join, may_part, spent_most}
 use Rattle.ksm_book.proofs.ByPage.{at_changed}
-use Rattle.ksm_book.proofs.RowVisits.{at_row, filled_by, Leads, leads, Meets, page_is, restless_own, there_is}
+use Rattle.ksm_book.proofs.RowVisits.{filled_by, Leads, leads, Meets, page_is, restless_own, there_is}
 use Rattle.ksm_book.proofs.Promised.{finds_place}
 
 -- rows of two pages get a state
@@ -148,7 +148,7 @@ module _ (other : GuestPage) {p : PagesView} {k : KeeperView} {cursor : Option G
             (told : MatchOption (row_at one p.rows) (true ≡ false) (λ r. MatchOption (row_at page p.rows) (true ≡ false)
             (λ x. q ≡ are_paired place r x p))) where
           goes : q ≡ are_paired place w row p
-          goes = grind (arith, at_row, waits_one)
+          goes = grind (arith, at.found, waits_one)
 
           steps : MakesSteps k2 l (Add f ∷ leaving (p.frame page))
           steps = rw left (made_then comes leaves)

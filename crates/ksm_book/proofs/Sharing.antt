@@ -12,9 +12,6 @@ use Rattle.ksm_book.proofs.Keeping.{added_placed, added_spends, left_placed, lef
 use Rattle.ksm_book.proofs.Made.{none_made, parts_made, step_made}
 use Rattle.ksm_book.proofs.Withdrawn.{withdrawn}
 
-merged_as : {s : PageState} → merged_state s ≡ true → (n : ℕ) × (s ≡ Merged n)
-merged_as e = grind arith
-
 -- the state of an item of a dup is Merged with the dup's number
 pub state_of_item : (n : ℕ) (s : PageState) → merged_into n s ≡ true → s ≡ Merged n
 state_of_item n s e = grind arith
@@ -37,9 +34,6 @@ module _ {p : PagesView} {k : KeeperView} (h : IsLaid p k) (rise : InPageOrder p
   item_fits : Serves p.shape k.ledger p.dups item g
   item_fits = subst (IsServed p.shape k.ledger p.dups item) there (served_at h.placed _ _ found_item)
 
-  item_stable : (frame_at k.ledger g).kind ≡ Stable
-  item_stable = grind (arith, item_fits)
-
   -- one reference more may come to an item's frame, where its dup has room for one item more
   pub may_join : (d : DupRow) → Contains p.dups d → merged_into d.number item.state ≡ true → item_count p.rows d ≤ MOST_REFERENCES - 1 → May k (Add g)
   may_join d stands into few = grind (arith, item_fits, base_is_items h.placed stands.0 d stands.1)
@@ -50,10 +44,10 @@ module _ {p : PagesView} {k : KeeperView} (h : IsLaid p k) (rise : InPageOrder p
     joined_hand : (w : KeeperView) → MakesSteps k w (Add g ∷ []) → Placed p.shape across w.ledger (change_row page c p.rows)
         (lies_on page (Some g) p.frame) p.dups (p.frame page)
     joined_hand w comes =
-        let q = added_placed comes item_stable item_fits.0.frame h.placed in
+        let q = added_placed comes (grind (arith, item_fits)) item_fits.0.frame h.placed in
         joined _ row _ g c rise found keeps
         (subst (IsServed p.shape w.ledger p.dups item) there (served_at q _ _ found_item)) state bytes
-        (ap shared_state (merged_as merged).1) q
+        (grind arith) q
 
     -- once a reference came to the item's frame, the frame of the page that joins, if it has one, may be left
     pub may_part : (w : KeeperView) → MakesSteps k w (Add g ∷ []) → IfSome (p.frame page) (MayLeave w)

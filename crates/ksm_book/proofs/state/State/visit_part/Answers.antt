@@ -1,6 +1,6 @@
 use Rattle.ksm_book.proofs.Names.{ap, AreDue, DueView, part_visited, subst, sym, ◌∙◌}
 use Rattle.ksm_book.specs.Scanned.{HasVisited}
-use Rattle.ksm_book.proofs.Dues.{same_due}
+use Rattle.ksm_book.proofs.DueKept.{more_due}
 use Rattle.ksm_book.proofs.DuePasses.{begun_cursor, part_stopped, part_visits}
 use Rattle.ksm_book.proofs.state.State.visit_part.Goals as goal
 use Rattle.ksm_book.proofs.state.State.visit_part.Goals.{In-Ok}
@@ -28,4 +28,4 @@ pub pass_over_due-requires-clause-due : goal.pass_over_due-requires-clause-due
 pass_over_due-requires-clause-due c =
     let put = c.put_in_order.ensures in
     let same = put.same (put.known ∙ sym put.ready ∙ c.if-put_in_order.true) in
-    same_due c.args.self.now.state _ _ same.1 (c.requires.due same.0)
+    more_due c.args.self.now.state _ _ (λ p is. same.1 p ∙ is) (c.requires.due same.0)
