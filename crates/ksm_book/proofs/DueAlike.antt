@@ -3,9 +3,9 @@ use Rattle.ksm_book.proofs.Scanned.{restless_mergeable}
 use Rattle.ksm_book.proofs.Names.{after_cursor, All, All-map, ap, AreAscending, arith, before_irrefl, best_dup, BookState, Bool, cases_Bool, change_row, change_rows, comes_before, comes_later}
 use Rattle.ksm_book.proofs.Names.{count_mapped, Deed, doing, due_visited, due_visits, dup_frame, DupRow, each_at_page, false, find_all, find_mapped, find_none, find_nothing, find_passes, Frames}
 use Rattle.ksm_book.proofs.Names.{get_or, get_or_from_slice_get, GuestPage, handled, has_item, HasStayed, hidden_from, if◌then◌else◌, inl, InPageOrder, inr, is_best, is_for_zero, is_no_rival}
-use Rattle.ksm_book.proofs.Names.{is_restless, is_stale, IsSound, item_count, List, made_dup, map_alike, map_mapped, may_join, mergeable_pages, merged_into, new_place, None, not, not_both, one_before}
-use Rattle.ksm_book.proofs.Names.{Option, option_map, page, page_visited, pages_visited, paired, pairs_head, pairs_tail, partner, place_count, refl, restless_at, restless_row, Row, row_at}
-use Rattle.ksm_book.proofs.Names.{row_visiting, same_page, same_page_eq, same_page_refl, settled, settled_calmer, slice_get_within, Some, sound_changed, sound_row_visited, stayed, subst, sym}
+use Rattle.ksm_book.proofs.Names.{is_restless, is_stale, IsSound, item_count, List, made_dup, map_alike, map_mapped, may_join, mergeable_pages, merged_into, new_place, None, not, not_both}
+use Rattle.ksm_book.proofs.Names.{one_before, Option, option_map, page, page_visited, pages_visited, paired, pairs_head, pairs_tail, partner, place_count, refl, restless_at, restless_row, Row}
+use Rattle.ksm_book.proofs.Names.{row_at, row_visiting, same_page, same_page_eq, same_page_refl, settled, settled_calmer, slice_get_within, Some, sound_changed, sound_row_visited, stayed, subst, sym}
 use Rattle.ksm_book.proofs.Names.{taken_over, takes_over, true, true≢false, visited, waiting_state, waits_for, waits_tells, Zero, ℕ, [], ◌&&◌, ◌++◌, ◌+◌, ◌==◌, ◌||◌, ◌∙◌, ◌∷◌, ◌≡◌}
 use Rattle.ksm_base.specs.declared.row.PageState.TheVariants.{Private}
 use Rattle.ksm_book.proofs.Folded.{then_idle}
@@ -77,9 +77,6 @@ module _ (test : Row → Bool) (b : BookState) where
   calmed_at : (page : GuestPage) → row_at page calm_rows ≡ option_map (calmed test) (row_at page b.rows)
   calmed_at page = find_mapped (calmed test) (λ r. same_page r.page page) (λ r. same_page r.page page) b.rows
       (grind arith)
-
-  calmed_goes : Goes b.rows calm_rows
-  calmed_goes = change_goes _ (grind arith) (grind arith)
 
   count_kept : (d : DupRow) → item_count calm_rows d ≡ item_count b.rows d
   count_kept d = grind (arith, count_mapped)
@@ -291,7 +288,7 @@ module _ (b : BookState) (s : IsSound b) (deed : Deed) where
   row_due r found restless = elim (cases_Bool (takes_over b r)) [
     | inl takes ↦
         by_visit r restless (freed b r) (sound_changed b _ _ settled_calmer (λ x home. home) s) (freed_found b r found)
-        (calmed_goes (waits b r) b)
+        (change_goes _ (grind arith) (grind arith))
         (sym (veiled_over (λ q. not (comes_before q r.page)) b (waits b r)
         (λ k d lt is. grind (arith, side b r s _ refl k d lt is, not_both))))
         (λ _ _ _ k d lt. grind (arith, none_waits b r k d lt)) (grind (arith, taken_is b r restless takes deed))

@@ -1,9 +1,9 @@
 -- A page that is stored to while it is merged or Zero, comes or goes: of the others only one that waits in its tree with its
 -- bytes may come to join its dup by that, so no other page becomes due.
 use Rattle.ksm_book.proofs.Names.{All, All-filter, all_changed, all_with_row, Answer, AreDue, arith, BookState, BookView, Bool, bytes_eq, bytes_eq-Decides, change_row, count_with_row}
-use Rattle.ksm_book.proofs.Names.{count_without_page, Drop, dup_of_item, DupRow, Err, false, find_all, find_none, fresh_row, get_or, GuestPage, has_item, IsCarried, IsDupOf, IsSound, item_count}
-use Rattle.ksm_book.proofs.Names.{List, merged_into, merged_state, nat_tests, None, Ok, Option, partner, refl, Register, Row, row_at, same_page, same_page_refl, same_page_sym, Some, stored, sym}
-use Rattle.ksm_book.proofs.Names.{tree_of, true, waiting_state, waits_for, waits_on, with_row, without_page, ℕ, ◌&&◌, ◌==◌, ◌||◌, ◌≡◌, InPageOrder, IsAlone, MatchOption, shared_state}
+use Rattle.ksm_book.proofs.Names.{count_without_page, Drop, dup_of_item, DupRow, Err, false, find_all, find_none, fresh_row, get_or, GuestPage, has_item, InPageOrder, IsAlone, IsCarried, IsDupOf}
+use Rattle.ksm_book.proofs.Names.{IsSound, item_count, List, MatchOption, merged_into, merged_state, nat_tests, None, Ok, Option, partner, refl, Register, Row, row_at, same_page, same_page_refl}
+use Rattle.ksm_book.proofs.Names.{same_page_sym, shared_state, Some, stored, sym, tree_of, true, waiting_state, waits_for, waits_on, with_row, without_page, ℕ, ◌&&◌, ◌==◌, ◌||◌, ◌≡◌}
 use Rattle.ksm_book.proofs.DueKept.{count_kept, more_due, on_still, WaitsElse, own_due}
 use Rattle.ksm_pages.specs.Paged.{IsKnown, page_beside}
 use Rattle.ksm_tree.specs.Waits.{names}

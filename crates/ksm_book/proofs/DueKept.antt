@@ -1,10 +1,10 @@
 -- Passes that visit only the pages that are due: what waits on is left as it is, and what is due stays so.
 use Rattle.ksm_book.proofs.Names.{All, All-cons, All-head, All-tail, all_changed, all_with_dup, ap, AreDue, arith, best_dup, BookState, Bool, bytes_eq, bytes_eq-Decides, cases_Bool, change_row}
-use Rattle.ksm_book.proofs.Names.{change_rows, cond_both, count_by, count_mapped, doing, due_visited, dup_of_row, DupRow, eqb-true, false, find_all, find_none, find_nothing}
-use Rattle.ksm_book.proofs.Names.{find_passes, get_or, GuestPage, handled, has_item, HasStayed, inl, InPageOrder, inr, is_best, is_for_zero, is_restless, IsDueNoMore, IsSound, item_count, Knobs, List}
+use Rattle.ksm_book.proofs.Names.{change_rows, cond_both, count_by, count_mapped, doing, due_visited, dup_of_row, DupRow, eqb-true, false, find_all, find_none, find_nothing, find_passes, get_or}
+use Rattle.ksm_book.proofs.Names.{GuestPage, handled, has_item, HasStayed, inl, InPageOrder, inr, is_best, is_for_zero, is_restless, IsDueNoMore, IsSound, item_count, Knobs, List}
 use Rattle.ksm_book.proofs.Names.{list_all-from_AllPass, made_dup, may_join, Merged, merged_into, merged_state, nat_le, nat_lt, nat_tests, None, not, not_an_item, one_of_each_page, Option}
-use Rattle.ksm_book.proofs.Names.{ordered_change, paired, partner, refl, restless_at, Row, row_at, row_visited, same_page, same_page_refl, same_page_sym, settled, Some, stayed, taken_over, takes_over}
-use Rattle.ksm_book.proofs.Names.{tree_of, true, Waiting, waiting_state, waits_for, waits_on, waits_tells, WaitsFor, with_dup, Zero, ℕ, [], ◌&&◌, ◌+◌, ◌==◌, ◌||◌, ◌∙◌, ◌∷◌, ◌≡◌, ◌⊎◌}
+use Rattle.ksm_book.proofs.Names.{ordered_change, paired, partner, refl, restless_at, Row, row_at, row_visited, same_page, same_page_refl, same_page_sym, settled, Some, stayed, taken_over}
+use Rattle.ksm_book.proofs.Names.{takes_over, tree_of, true, Waiting, waiting_state, waits_for, waits_on, waits_tells, WaitsFor, with_dup, Zero, ℕ, [], ◌&&◌, ◌+◌, ◌==◌, ◌||◌, ◌∙◌, ◌∷◌, ◌≡◌, ◌⊎◌}
 use Rattle.ksm_book.proofs.DueAlike.{at_own_page, by_counts, calm_stays, freed, freed_found, freed_stays, one_waits}
 use Rattle.ksm_base.specs.declared.row.PageState.TheVariants.{Private}
 use Rattle.ksm_book.proofs.ByPage.{row_of_page}

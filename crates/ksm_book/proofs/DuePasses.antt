@@ -1,8 +1,8 @@
 -- A pass over what is due comes to what the pass of the definitions comes to.
-use Rattle.ksm_book.proofs.Names.{after_cursor, All, AllPairs-filter, ap, AreAscending, AreDue, arith, BookState, BookValue, Bool, Comes, comes_before, Deed, doing, due_visited}
-use Rattle.ksm_book.proofs.Names.{due_visits, false, GuestPage, has_item, hidden_from, if◌then◌else◌, is_none, IsSound, IsStill, List, mergeable_pages}
-use Rattle.ksm_book.proofs.Names.{None, not, Option, pages_ahead, pages_visited, part_before, part_visited, pass_begun, Reached, ReachedBefore, refl, restless_at}
-use Rattle.ksm_book.proofs.Names.{StaysBefore, StopsDue, StopsInPart, subst, sym, true, true≢false, with_none_waiting, [], ◌&&◌, ◌∙◌, ◌≡◌}
+use Rattle.ksm_book.proofs.Names.{after_cursor, All, AllPairs-filter, ap, AreAscending, AreDue, arith, BookState, BookValue, Bool, Comes, comes_before, Deed, doing, due_visited, due_visits, false}
+use Rattle.ksm_book.proofs.Names.{GuestPage, has_item, hidden_from, if◌then◌else◌, is_none, IsSound, IsStill, List, mergeable_pages, None, not, Option, pages_ahead, pages_visited, part_before}
+use Rattle.ksm_book.proofs.Names.{part_visited, pass_begun, Reached, ReachedBefore, refl, restless_at, StaysBefore, StopsDue, StopsInPart, subst, sym, true, true≢false, with_none_waiting, [], ◌&&◌}
+use Rattle.ksm_book.proofs.Names.{◌∙◌, ◌≡◌}
 use Rattle.ksm_book.specs.Scanned.{ahead_before, ahead_up_to, HasVisited, StaysStill, StopsBefore, up_to}
 use Rattle.ksm_book.proofs.DueAlike.{all_has, along, calm_stays, one_due, unveiled, veiled}
 use Rattle.ksm_book.proofs.DueKept.{undue_rests}

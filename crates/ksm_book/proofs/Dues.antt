@@ -1,7 +1,7 @@
 -- The pages that are due, as they are kept: which there are once one came or went, and the first behind a cursor.
-use Rattle.ksm_book.proofs.Names.{after_cursor, All, All-map, any-filter_same, any_found, append-nil, arith, Bool, comes_before, Err, false}
-use Rattle.ksm_book.proofs.Names.{filter, find, find_all, find_none, find_passes, get_or, GuestPage, has_item, is_some, length, List, list_any, list_any_at, map, MatchOption, None, not, Ok, Option, pages_ordered}
-use Rattle.ksm_book.proofs.Names.{refl, Result, same_page, same_page_refl, Some, true, [], ◌&&◌, ◌++◌, ◌==◌, ◌||◌, ◌∙◌, ◌∷◌, ◌≡◌}
+use Rattle.ksm_book.proofs.Names.{after_cursor, All, All-map, any-filter_same, any_found, append-nil, arith, Bool, comes_before, Err, false, filter, find, find_all, find_none, find_passes, get_or}
+use Rattle.ksm_book.proofs.Names.{GuestPage, has_item, is_some, length, List, list_any, list_any_at, map, MatchOption, None, not, Ok, Option, pages_ordered, refl, Result, same_page, same_page_refl}
+use Rattle.ksm_book.proofs.Names.{Some, true, [], ◌&&◌, ◌++◌, ◌==◌, ◌||◌, ◌∙◌, ◌∷◌, ◌≡◌}
 use Rattle.std.proofs.lemmas.List.Folds.{list_any-append}
 use Rattle.std.specs.Prelude.{OnErr, OnOk}
 use Rattle.ksm_pages.proofs.Found.{first_found as found_first}

@@ -1,6 +1,6 @@
 -- What is answered where a dup is to move.
-use Rattle.ksm_book.proofs.Names.{Answer, arith, BookState, Done, DupRow, Err, Fault, find_passes, GuestPage, HasRemounted, IsCarried, KeeperView, live_dup_at, MayMove, MoveDup, Ok}
-use Rattle.ksm_book.proofs.Names.{Option, PagesView, Some, state_of, ℕ, ◌≡◌}
+use Rattle.ksm_book.proofs.Names.{Answer, arith, BookState, Done, DupRow, Err, Fault, find_passes, GuestPage, HasRemounted, IsCarried, KeeperView, live_dup_at, MayMove, MoveDup, Ok, Option}
+use Rattle.ksm_book.proofs.Names.{PagesView, Some, state_of, ℕ, ◌≡◌}
 use Rattle.ksm_book.proofs.Singles.{book}
 
 module _ (b : BookState) (place node : ℕ) (dup : DupRow) (found : Some dup ≡ live_dup_at b place) where

@@ -1,9 +1,9 @@
 -- The visits of a pass are a fold over its pages, only restless pages count, and a quiet pass is repeated by those behind it.
-use Rattle.ksm_book.proofs.Names.{after_cursor, AllPairs-filter, and_right, ap, AreAscending, arith, begun, BookState, comes_before, drop, drop_more, each_at_page, filter, filter_all}
-use Rattle.ksm_book.proofs.Names.{find_all, find_passes, get_or_from_slice_get, GuestPage, InPageOrder, is_none, is_restless, IsBeside, IsStill, last_of, List, map, map_mapped}
-use Rattle.ksm_book.proofs.Names.{mergeable_pages, next_row, next_visited, None, not-true, Option, option_map, page_visited, pages_ahead, pages_visited, pairs_mapped, pass_ended_at_last, refl}
-use Rattle.ksm_book.proofs.Names.{Row, row_at, row_visited, rowwise_visits, settled, slice_get, slice_get-get_or, slice_get_within, Some, subst, suc, sym, take, take-append-drop, true}
-use Rattle.ksm_book.proofs.Names.{visit, visit_begun, visit_of, visited, visits, visits_beside, zero, ℕ, [], ⊤, ◌++◌, ◌+◌, ◌∙◌, ◌∷◌, ◌≡◌, append-nil, Deed, doing, Frames, idle, scanning, then_doing}
+use Rattle.ksm_book.proofs.Names.{after_cursor, AllPairs-filter, and_right, ap, append-nil, AreAscending, arith, begun, BookState, comes_before, Deed, doing, drop, drop_more, each_at_page, filter}
+use Rattle.ksm_book.proofs.Names.{filter_all, find_all, find_passes, Frames, get_or_from_slice_get, GuestPage, idle, InPageOrder, is_none, is_restless, IsBeside, IsStill, last_of, List, map}
+use Rattle.ksm_book.proofs.Names.{map_mapped, mergeable_pages, next_row, next_visited, None, not-true, Option, option_map, page_visited, pages_ahead, pages_visited, pairs_mapped, pass_ended_at_last}
+use Rattle.ksm_book.proofs.Names.{refl, Row, row_at, row_visited, rowwise_visits, scanning, settled, slice_get, slice_get-get_or, slice_get_within, Some, subst, suc, sym, take, take-append-drop}
+use Rattle.ksm_book.proofs.Names.{then_doing, true, visit, visit_begun, visit_of, visited, visits, visits_beside, zero, ℕ, [], ⊤, ◌++◌, ◌+◌, ◌∙◌, ◌∷◌, ◌≡◌}
 use Rattle.ksm_book.proofs.Going.{begun_goes, elsewhere, Goes, goes_on, goes_same, mergeable_kept, visited_goes}
 use Rattle.ksm_book.proofs.PagesAhead.{Before, behind_first}
 use Rattle.ksm_pages.proofs.Options.{mapped_some, none_mapped}

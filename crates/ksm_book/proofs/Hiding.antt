@@ -1,10 +1,10 @@
 -- Rows that wait no more: that of a page with a frame of its own, and those from a page on, one after another.
 use Rattle.ksm_book.proofs.DueAlike.{at_own_page, unveiled, veiled, veiled_alike}
-use Rattle.ksm_book.proofs.Names.{after_cursor, All, ap, arith, before_irrefl, BookValue, Bool, cases_Bool, change_row, each_at_page, Comes, comes_before, false, find, find_mapped, find_none, find_passes, get_or, GuestPage, if◌then◌else◌, inl, inr, same_page_eq, waiting_state, InPageOrder, is_next, IsAlone, IsLaid, IsSound, KeeperView}
-use Rattle.ksm_book.proofs.Names.{List, map_alike, map_mapped, None, not, not_both, on_its_own, one_before, Option, option_map, PagesValue, PagesView, refl, Row, row_at, same_page, same_page_sym, seen, settled}
-use Rattle.ksm_book.proofs.Names.{settled_calmer, shared_state, Some, sound_changed, state_of, sym, true, ℕ, ◌&&◌, ◌∙◌, ◌≡◌, ◌⊎◌}
+use Rattle.ksm_book.proofs.Names.{after_cursor, All, ap, arith, before_irrefl, BookValue, Bool, cases_Bool, change_row, Comes, comes_before, each_at_page, false, find, find_mapped, find_none}
+use Rattle.ksm_book.proofs.Names.{find_passes, get_or, GuestPage, if◌then◌else◌, inl, InPageOrder, inr, is_next, IsAlone, KeeperView, List, map_alike, map_mapped, None, not}
+use Rattle.ksm_book.proofs.Names.{not_both, on_its_own, one_before, Option, option_map, PagesValue, refl, Row, row_at, same_page, same_page_eq, same_page_sym, seen, settled}
+use Rattle.ksm_book.proofs.Names.{shared_state, Some, sym, true, waiting_state, ℕ, ◌&&◌, ◌∙◌, ◌≡◌, ◌⊎◌}
 use Rattle.ksm_book.specs.Due.{hidden_from}
-use Rattle.ksm_book.proofs.Laying.{laid_mapped}
 use Rattle.ksm_book.proofs.PagesAhead.{after_later}
 use Rattle.ksm_book.proofs.Reached.{agrees, comes_as, comes_to, value}
 use Rattle.ksm_pages.proofs.Found.{first_found as found_first}
@@ -18,19 +18,6 @@ pub alone_settled : (page : GuestPage) (rows : List Row) → InPageOrder rows �
 alone_settled page rows rise alone =
     map_alike (λ r. if same_page r.page page then on_its_own r else r) (λ r. if same_page r.page page then settled r else r)
     rows (λ k d lt. grind (arith, at_own_page page rows rise k d lt, same_page_sym))
-
-module _ {p q : PagesView} (page : GuestPage) (goes : q ≡ record p { rows = change_row page settled p.rows }) where
-  -- the book stays sound where a page waits no more
-  pub sound_stopped : {cursor : Option GuestPage} {passes : ℕ} → IsSound (state_of p cursor passes)
-      → IsSound (state_of q cursor passes)
-  sound_stopped sound = rw goes (sound_changed _ _ _ settled_calmer (λ r home. home) sound)
-
-  -- and the pages lie as lawfully as they did
-  pub laid_stopped : {k : KeeperView} → IsLaid p k → IsLaid q k
-  laid_stopped laid =
-      rw goes
-      (laid_mapped laid _ (grind arith)
-      (grind arith))
 
 -- that page's row is all that changes in what was reached
 pub stop_comes : (p q : PagesValue) (k : KeeperView) (cursor : Option GuestPage) (passes : ℕ) (page : GuestPage)

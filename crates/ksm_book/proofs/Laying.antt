@@ -1,8 +1,7 @@
 -- What becomes of pages that lie lawfully, where the keeper makes its steps.
 use Rattle.ksm_book.proofs.Names.{All, arith, blank, cases_lt, change_row, cond_both, default_knobs, DupRow, false, find_all, first_ledger, frame_at, Frames, get_or, get_or_past, GuestPage}
-use Rattle.ksm_book.proofs.Names.{HasNewFrame, holding, Houses, inl, InPageOrder, IsLaid, IsServed, IsShape, KeeperView, Keeps, Knobs, Ledger, length, length-replicate, lies_on, List, map}
-use Rattle.ksm_book.proofs.Names.{None, nowhere, Option, PAGE_WORDS, PagesView, Placed, refl, Row, row_at, Shape, shared_state, Some, spent, subst, with_frame, with_row}
-use Rattle.ksm_book.proofs.Names.{ℕ, [], ◌≡◌, ◌≤◌, ◌⊎◌}
+use Rattle.ksm_book.proofs.Names.{HasNewFrame, holding, Houses, inl, InPageOrder, IsLaid, IsServed, IsShape, KeeperView, Keeps, Knobs, Ledger, length, length-replicate, lies_on, List, map, None}
+use Rattle.ksm_book.proofs.Names.{nowhere, Option, PAGE_WORDS, PagesView, Placed, refl, Row, row_at, Shape, shared_state, Some, spent, subst, with_frame, with_row, ℕ, [], ◌≡◌, ◌≤◌, ◌⊎◌}
 use Rattle.ksm_base.specs.declared.row.PageState.TheVariants.{Private as OwnPage}
 use Rattle.ksm_book.proofs.ByPage.{found_page, row_of_page}
 use Rattle.std.proofs.lemmas.List.{get_or-replicate}

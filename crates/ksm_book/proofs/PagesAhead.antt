@@ -1,9 +1,7 @@
 -- Ascending lists of pages: their parts before and behind a page, by test and by index.
-use Rattle.ksm_book.proofs.Names.{after_cursor, All, All-filter, All-head, any-filter_same, ap, AreAscending, arith, Bool, cases_Bool, comes_before}
-use Rattle.ksm_book.proofs.Names.{Contains-from_any, filter, filter_all, filter_none, get_or_from_slice_get}
-use Rattle.ksm_book.proofs.Names.{GuestPage, has_item, inl, inr, List, not, not_both, Option, pairs_head}
-use Rattle.ksm_book.proofs.Names.{pairs_tail, same_page, same_page_eq, slice_get, slice_get-get_or, slice_get_within, Some, subst, suc, sym, take, true}
-use Rattle.ksm_book.proofs.Names.{zero, ℕ, [], ◌&&◌, ◌∙◌, ◌∷◌, ◌≡◌}
+use Rattle.ksm_book.proofs.Names.{after_cursor, All, All-filter, All-head, any-filter_same, ap, AreAscending, arith, Bool, cases_Bool, comes_before, Contains-from_any, filter, filter_all}
+use Rattle.ksm_book.proofs.Names.{filter_none, get_or_from_slice_get, GuestPage, has_item, inl, inr, List, not, not_both, Option, pairs_head, pairs_tail, same_page, same_page_eq, slice_get}
+use Rattle.ksm_book.proofs.Names.{slice_get-get_or, slice_get_within, Some, subst, suc, sym, take, true, zero, ℕ, [], ◌&&◌, ◌∙◌, ◌∷◌, ◌≡◌}
 
 -- the first page comes before the second
 abbrev pub Before : GuestPage → GuestPage → Type 0

@@ -1,7 +1,7 @@
 -- A scan carried out: what its visits come to is what the command promises.
-use Rattle.ksm_book.proofs.Names.{arith, BookValue, Comes, doing, Done, false, Fault, HasScanned, IsCarried, IsScanned, length, List, list_any, list_any_none, mergeable_pages, None, none_counted}
-use Rattle.ksm_book.proofs.Names.{Ok, Option, Reply, Row, Scan, scan_stopped, Scanned, Some, true, view_of, visits_beside, ℕ, [], ◌∷◌, ◌≡◌, ◌≤◌, filter, length-filter, length-map, mergeable_count}
-use Rattle.ksm_book.proofs.Names.{◌∙◌}
+use Rattle.ksm_book.proofs.Names.{arith, BookValue, Comes, doing, Done, false, Fault, filter, HasScanned, IsCarried, IsScanned, length, length-filter, length-map, List, list_any, list_any_none}
+use Rattle.ksm_book.proofs.Names.{mergeable_count, mergeable_pages, None, none_counted, Ok, Option, Reply, Row, Scan, scan_stopped, Scanned, Some, true, view_of, visits_beside, ℕ, [], ◌∙◌, ◌∷◌, ◌≡◌}
+use Rattle.ksm_book.proofs.Names.{◌≤◌}
 use Rattle.ksm_book.proofs.Folded.{scanning_is}
 use Rattle.ksm_book.proofs.Folded.{beside_state}
 use Rattle.ksm_book.proofs.Reached.{begins, first}

@@ -1,8 +1,8 @@
 -- What the parts of a scan come to: the end of a pass, listed pages in the stead of those ahead, visits up to a page, and whole passes.
-use Rattle.ksm_book.proofs.Names.{Ahead, ap, arith, At, begun, BookState, comes_before, drop_more, End, EndsAt, filter, get_or_from_slice_get, GuestPage, has_item, InPageOrder, is_none, is_nowhere}
-use Rattle.ksm_book.proofs.Names.{IsBeside, IsStill, last_of, last_visited, length, length-take-le, List, mergeable_pages, min, next_row, None, Option, option_map, pages_ahead, pass_begun}
-use Rattle.ksm_book.proofs.Names.{pass_ended, restless_at, Row, slice_get, slice_get-get_or, slice_get_within, Some, suc, suc-mul, sym, take, true, true≢false, up_to, visit_begun, visits_beside}
-use Rattle.ksm_book.proofs.Names.{with_none_waiting, zero, ℕ, [], ◌*◌, ◌+◌, ◌-◌, ◌<◌, ◌^◌, ◌∙◌, ◌∷◌, ◌≡◌, ◌≤◌, BookValue, Comes, Deed, pass_ended_at_last, Reached}
+use Rattle.ksm_book.proofs.Names.{Ahead, ap, arith, At, begun, BookState, BookValue, Comes, comes_before, Deed, drop_more, End, EndsAt, filter, get_or_from_slice_get, GuestPage, has_item}
+use Rattle.ksm_book.proofs.Names.{InPageOrder, is_none, is_nowhere, IsBeside, IsStill, last_of, last_visited, length, length-take-le, List, mergeable_pages, min, next_row, None, Option, option_map}
+use Rattle.ksm_book.proofs.Names.{pages_ahead, pass_begun, pass_ended, pass_ended_at_last, Reached, restless_at, Row, slice_get, slice_get-get_or, slice_get_within, Some, suc, suc-mul, sym, take}
+use Rattle.ksm_book.proofs.Names.{true, true≢false, up_to, visit_begun, visits_beside, with_none_waiting, zero, ℕ, [], ◌*◌, ◌+◌, ◌-◌, ◌<◌, ◌^◌, ◌∙◌, ◌∷◌, ◌≡◌, ◌≤◌}
 use Rattle.ksm_book.proofs.PagesAhead.{place_of, place_splits}
 use Rattle.ksm_pages.proofs.Ranked.{last_of_take}
 use Rattle.std.proofs.lemmas.List.{drop_all, take_all}

@@ -2,10 +2,10 @@
 use Rattle.ksm_base.specs.declared.limits.TheConstants.{MOST_FRAMES, MOST_LIVES, MOST_REFERENCES}
 use Rattle.ksm_book.proofs.Names.{Add, All, All-filter, ap, arith, blank, Bool, change_row, Contains, count_by, count_none, did, DupRow, elsewhere, eq-eqb, false, filter, filter_passes, find}
 use Rattle.ksm_book.proofs.Names.{find_all, find_none, find_passes, frame_at, Frames, frames_of, get_or-set_same, get_or_default, GuestPage, IfSome, if◌then◌else◌, InPageOrder, IsInLife, IsLaid}
-use Rattle.ksm_book.proofs.Names.{IsLoose, IsServed, IsVacant, item_count, KeeperView, leaving, Ledger, ledger_after, length, lies_on, Life, life_or, List, list_any, MakesSteps, May}
-use Rattle.ksm_book.proofs.Names.{MayLeave, Merged, merged_into, merged_state, named_at, None, none_found, Note, Option, PageState, PagesView, place_frame, Placed, Private, Publish, refl, Row, row_at}
-use Rattle.ksm_book.proofs.Names.{RowFits, set, set-get_or, settled, Shape, shared_state, Some, spent, spent_on, Stable, subst, sum_by-le, sym, true, with_dup, with_frame, Withdraw, withdrawing, ℕ}
-use Rattle.ksm_book.proofs.Names.{[], ◌*◌, ◌+◌, ◌-◌, ◌<◌, ◌==◌, ◌∙◌, ◌∷◌, ◌≡◌, ◌≢◌, ◌≤◌}
+use Rattle.ksm_book.proofs.Names.{IsLoose, IsServed, IsVacant, item_count, KeeperView, leaving, Ledger, ledger_after, length, lies_on, Life, life_or, List, list_any, MakesSteps, May, MayLeave}
+use Rattle.ksm_book.proofs.Names.{Merged, merged_into, merged_state, named_at, None, none_found, Note, Option, PageState, PagesView, place_frame, Placed, Private, Publish, refl, Row, row_at, RowFits}
+use Rattle.ksm_book.proofs.Names.{set, set-get_or, settled, Shape, shared_state, Some, spent, spent_on, Stable, subst, sum_by-le, sym, true, with_dup, with_frame, Withdraw, withdrawing, ℕ, [], ◌*◌}
+use Rattle.ksm_book.proofs.Names.{◌+◌, ◌-◌, ◌<◌, ◌==◌, ◌∙◌, ◌∷◌, ◌≡◌, ◌≢◌, ◌≤◌}
 use Rattle.ksm_book.proofs.Moves.{base_is_items, joined, published, Serves, stale_is_loose}
 use Rattle.ksm_book.proofs.Laying.{laid_rows, LodgesAs, served_at, shape_same}
 use Rattle.ksm_book.proofs.Keeping.{added_placed, added_spends, left_placed, left_spends, may_leave, spent_set}
@@ -87,13 +87,6 @@ vacant_loose {k = k} {dups = dups} place p vacant = by _ refl
 -- what a vacant place names is withdrawn, and then it names nothing
 module _ {p : PagesView} {k : KeeperView} (w : KeeperView) (h : IsLaid p k) (place : ℕ) (inside : place < frames_of p.shape)
     (vacant : IsVacant place p.rows p.dups) where
-  -- what is named by a place where no dup with items stands may be withdrawn
-  pub may_clear : May k (Withdraw place)
-  may_clear = (
-    rw h.same inside,
-    vacant_loose _ h.placed vacant,
-  )
-
   -- once what a vacant place names is withdrawn, the place names nothing, and the keeper knows the rest as it was
   pub cleared_ledger : MakesSteps k w (withdrawing p.dups place) → w.ledger ≡ record
       { frames = k.ledger.frames; places = set k.ledger.places place None }

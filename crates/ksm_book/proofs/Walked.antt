@@ -2,10 +2,11 @@
 use Rattle.std.proofs.lemmas.List.Sums.{fold-append}
 use Rattle.std.proofs.Math.Seq.{take-suc}
 use Rattle.std.specs.Prelude.{fold}
-use Rattle.ksm_book.proofs.Names.{after_cursor, All, All-cons, All-filter, All-head, All-tail, ap, AreAscending, AreDue, arith, BookState, BookValue, Bool, cases_Bool, Comes, comes_before, Deed, doing}
-use Rattle.ksm_book.proofs.Names.{each_at_page, false, filter, filter_none, filter_passes, find_all, get_or, get_or_from_slice_get, GuestPage, has_item, inl, InPageOrder, inr, is_restless, IsDueNoMore, IsSound, IsStill, List, mergeable_pages, None, not}
-use Rattle.ksm_book.proofs.Names.{one_before, Option, page_visited, pages_ahead, pairs_head, pairs_tail, Reached, refl, restless_at, restless_row, Row, row_at, same_page, same_page_eq, slice_get_within, Some, sound_row_visited, subst, suc, sym, take, true}
-use Rattle.ksm_book.proofs.Names.{true≢false, up_to, if◌then◌else◌, nat_lt, ℕ, [], ◌*◌, ◌++◌, ◌+◌, ◌-◌, ◌<◌, ◌^◌, ◌∙◌, ◌∷◌, ◌≡◌}
+use Rattle.ksm_book.proofs.Names.{after_cursor, All, All-cons, All-filter, All-head, All-tail, ap, AreAscending, AreDue, arith, BookState, BookValue, Bool, cases_Bool, Comes, comes_before, Deed}
+use Rattle.ksm_book.proofs.Names.{doing, each_at_page, false, filter, filter_none, filter_passes, find_all, get_or, get_or_from_slice_get, GuestPage, has_item, if◌then◌else◌, inl, InPageOrder, inr}
+use Rattle.ksm_book.proofs.Names.{is_restless, IsDueNoMore, IsSound, IsStill, List, mergeable_pages, nat_lt, None, not, one_before, Option, page_visited, pages_ahead, pairs_head, pairs_tail, Reached}
+use Rattle.ksm_book.proofs.Names.{refl, restless_at, restless_row, Row, row_at, same_page, same_page_eq, slice_get_within, Some, sound_row_visited, subst, suc, sym, take, true, true≢false, up_to, ℕ}
+use Rattle.ksm_book.proofs.Names.{[], ◌*◌, ◌++◌, ◌+◌, ◌-◌, ◌<◌, ◌^◌, ◌∙◌, ◌∷◌, ◌≡◌}
 use Rattle.ksm_pages.specs.Ahead.{FindsNext}
 use Rattle.ksm_book.specs.Scanned.{ahead_before, ahead_up_to, FindsUpTo, StaysStill}
 use Rattle.ksm_book.proofs.Along.{FitsPage}

@@ -1,5 +1,5 @@
-use Rattle.ksm_book.proofs.Names.{ap, AreDue, arith, BookState, BookValue, Deed, Reached, StaysBefore, Comes, doing, due_visited, Find, FindsAt, GuestPage, inl, inr, IsDueNoMore, IsLaid, IsSound, List, refl, seen, state_of, subst, sym}
-use Rattle.ksm_book.proofs.Names.{true, true≢false, view_of, VisitsPage, ◌∙◌, ◌≡◌}
+use Rattle.ksm_book.proofs.Names.{ap, AreDue, arith, BookState, BookValue, Comes, Deed, doing, due_visited, Find, FindsAt, GuestPage, inl, inr, IsDueNoMore, IsLaid, IsSound, List, Reached, refl}
+use Rattle.ksm_book.proofs.Names.{seen, state_of, StaysBefore, subst, sym, true, true≢false, view_of, VisitsPage, ◌∙◌, ◌≡◌}
 use Rattle.ksm_pages.specs.declared.pages.Find.TheVariants as finds
 use Rattle.ksm_tree.proofs.Numbers.{on_err}
 use Rattle.ksm_book.specs.contracts.state.State.{the_view}
