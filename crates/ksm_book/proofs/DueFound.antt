@@ -84,14 +84,11 @@ module _ (f : Find) (q : PagesView) {p : PagesView} {k : KeeperView} {cursor : O
   none : (r : Row) → row_at page v.state.rows ≡ Some r → takes_over v.state r ≡ false
   none = grind (arith, by)
 
-  comes : Comes v w (λ s. due_visited doing s page)
-  comes from s before = grind (arith, none, shared_comes v w at by.0 q by.1 did from s before)
-
   -- where the row was visited in the book as it was, that is the visit of what is due, and the page is due no longer
   pub shared_due : Comes v w (λ s. due_visited doing s page)
       × ((old new : List GuestPage) → Without page old new → AreDue v.state old → AreDue w.state new)
   shared_due = (
-    comes,
+    λ from s before. grind (arith, none, shared_comes v w at by.0 q by.1 did from s before),
     λ old new gone. less_due page v.state w.state old new gone (λ pages was.
         let b = state_of p cursor passes in
         let now = row_visited b at.row in

@@ -124,13 +124,10 @@ module _ (old : BookValue) (sound : IsSound old.state) (start : old.state.cursor
 
 -- ---------------------------------------------------------------- a part of a pass
 
--- a pass begins where it is to begin, which leaves the cursor
+-- a pass begins where it is to begin
 module _ (old mid : BookValue) (begins_so : Comes old mid (λ s. (pass_begun s.0, s.1))) where
   abbrev begins_as : mid.state ≡ pass_begun old.state
   begins_as = comes_to old mid (λ s. (pass_begun s.0, s.1)) begins_so
-
-  pub begun_cursor : mid.state.cursor ≡ old.state.cursor
-  begun_cursor = grind (arith, begins_as)
 
   -- the visits behind that are those of the part
   pub part_visits : (new : BookValue) (last : Option GuestPage) (quiet : Bool)

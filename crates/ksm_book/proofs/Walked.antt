@@ -252,11 +252,6 @@ pub due_walks : (b : BookState) (reached : Option GuestPage) (page : GuestPage) 
 due_walks b reached page all new found no_more was = no_more _ (λ k d lt restless out.
     was k d lt restless (grind (arith, has_filter, found.1 k d lt restless, one_before, same_page_eq)))
 
--- where no restless page is left behind the page reached, nothing is due
-pub due_ends : (b : BookState) (reached : Option GuestPage) (all : List GuestPage) → FindsUpTo None reached b.rows None
-    → AreDue b (filter (after_cursor reached) all) → AreDue b []
-due_ends b reached all none was k d lt restless out = was k d lt restless (grind (arith, has_filter, none k d lt restless))
-
 -- as a walk begins before all pages, those that scans visit are due
 pub due_begins : (b : BookState) → InPageOrder b.rows → AreDue b (filter (after_cursor None) (mergeable_pages b.rows))
 due_begins b rise k d lt restless out =

@@ -1,8 +1,9 @@
 use Rattle.ksm_book.proofs.Names.{and_parts, arith, BookValue, Comes, doing, GuestPage, IsDueNoMore, IsStill, None, Option, page_visited, refl, subst, sym, ◌∙◌}
 use Rattle.std.proofs.Common.{rules}
 use Rattle.ksm_book.specs.Scanned.{FindsUpTo, StaysStill}
+use Rattle.ksm_book.proofs.PagesAhead.{has_filter}
 use Rattle.ksm_book.proofs.Reached.{comes_as, comes_to}
-use Rattle.ksm_book.proofs.Walked.{before_it, begins_still, begins_walk, due_begins, due_ends, due_walks, is_ahead, less_room, rests_before, rests_up_to, still_walks, visits_page, walk_ends, walks_on}
+use Rattle.ksm_book.proofs.Walked.{before_it, begins_still, begins_walk, due_begins, due_walks, is_ahead, less_room, rests_before, rests_up_to, still_walks, visits_page, walk_ends, walks_on}
 use Rattle.ksm_book.proofs.state.State.visit_up_to.Goals as goal
 
 pub loop-spot-init : goal.loop-spot-init
@@ -58,4 +59,5 @@ pub returns-clause-due : goal.returns-clause-due
 returns-clause-due c = λ quiet start none.
     let left = subst (λ (o : Option GuestPage). FindsUpTo o c.loop-spot.reached c.loop-spot.self.state.rows None) none c.in_default.ensures.next in
     rw (c.drop_over.ensures ∙ c.in_default.ensures.kept)
-    (due_ends c.loop-spot.self.state _ _ left (c.loop-spot.invariant.2 quiet start))
+    (λ k d lt restless out.
+    c.loop-spot.invariant.2 quiet start k d lt restless (grind (arith, has_filter, left k d lt restless)))
