@@ -8,11 +8,12 @@ use Rattle.ksm_base.proofs.Reasons.{has_reason}
 use Rattle.ksm_book.specs.Carried.{StoresTo, TakesSteps}
 use Rattle.std.specs.Prelude.{option_and_then}
 use Rattle.ksm_book.specs.Commands.{IsIdle}
-use Rattle.ksm_book.proofs.Names.{AllocatesOn, Answer, arith, BookState, BookView, Bool, CarriedOut, Err, false, Frames, HasShown, if◌then◌else◌, IsCarried, List, listed, Mapped, mapped, MatchBool}
-use Rattle.ksm_book.proofs.Names.{MatchOption, nodes_got, None, Ok, Option, Performs, pruning, Resettles, rewriting, Row, scanning, shared_state, Some, suc, true, zero, ℕ, []}
+use Rattle.ksm_book.proofs.Names.{AllocatesOn, Answer, arith, BookState, BookView, Bool, CarriedOut, DupRow, Err, false, Frames, HasShown, if◌then◌else◌, IsCarried, List, listed, Mapped, mapped}
+use Rattle.ksm_book.proofs.Names.{MatchBool, MatchOption, nodes_got, None, Ok, Option, Performs, pruning, refl, Resettles, rewriting, Row, scanning, shared_state, Some, suc, true, Withdraw, zero, ℕ}
+use Rattle.ksm_book.proofs.Names.{[]}
 use Rattle.ksm_book.proofs.DupMoves.{place_is}
 use Rattle.ksm_book.proofs.Made.{made_none}
-use Rattle.ksm_book.proofs.Shown.{each_does, GivesNone, lost, moved, none_left, provides_does, quiet_both, quiet_does, quiet_leaving, quiet_puts, quiet_withdraws, resettles_does, unmerges_does}
+use Rattle.ksm_book.proofs.Shown.{each_does, GivesNone, lost, moved, none_left, provides_does, quiet_both, quiet_does, quiet_leaving, quiet_map, quiet_puts, resettles_does, unmerges_does}
 
 -- ---------------------------------------------------------------- visits give no frame
 
@@ -45,7 +46,7 @@ moved_does v w node row false h = resettles_does h
 prune_does : (v w : BookView) (same : Bool)
     → MatchBool same (IsIdle (mapped v) (mapped w)) (Performs (mapped v) (mapped w) (pruning v.state.rows v.state.dups v.frame)) → AllocatesOn v.keeper w.keeper []
 prune_does v w true h = idle_does h
-prune_does v w false h = quiet_does h.made (quiet_withdraws _)
+prune_does v w false h = quiet_does h.made (quiet_map (λ (d : DupRow). Withdraw d.place) (λ d. refl) _)
 
 frames_given : (v w : BookView) (command : Command) (answer : Answer) → TakesSteps v w command answer → AllocatesOn v.keeper w.keeper (nodes_got v.state answer command)
 frames_given v w (Register page node bytes) (Ok Done) h = provides_does h.provides

@@ -3,16 +3,16 @@ use Rattle.ksm_book.proofs.Scanned.{restless_mergeable}
 use Rattle.ksm_book.proofs.Names.{after_cursor, All, All-map, ap, AreAscending, arith, before_irrefl, best_dup, BookState, Bool, cases_Bool, change_row, change_rows, comes_before, comes_later}
 use Rattle.ksm_book.proofs.Names.{count_mapped, Deed, doing, due_visited, due_visits, dup_frame, DupRow, each_at_page, false, find_all, find_mapped, find_none, find_nothing, find_passes, Frames}
 use Rattle.ksm_book.proofs.Names.{get_or, get_or_from_slice_get, GuestPage, handled, has_item, HasStayed, hidden_from, if◌then◌else◌, inl, InPageOrder, inr, is_best, is_for_zero, is_no_rival}
-use Rattle.ksm_book.proofs.Names.{is_restless, is_stale, IsSound, item_count, List, made_dup, map_alike, map_mapped, may_join, mergeable_pages, merged_into, new_place, None, not, not_both, one_before}
-use Rattle.ksm_book.proofs.Names.{Option, option_map, page, page_visited, pages_visited, paired, pairs_head, pairs_tail, partner, place_count, refl, restless_at, restless_row, Row, row_at}
-use Rattle.ksm_book.proofs.Names.{row_visiting, same_page, same_page_eq, same_page_refl, settled, settled_calmer, slice_get_within, Some, sound_changed, sound_row_visited, stayed, subst, sym}
+use Rattle.ksm_book.proofs.Names.{is_restless, is_stale, IsSound, item_count, List, made_dup, map_alike, map_mapped, may_join, mergeable_pages, merged_into, new_place, None, not, not_both}
+use Rattle.ksm_book.proofs.Names.{one_before, Option, option_map, page, page_visited, pages_visited, paired, pairs_head, pairs_tail, partner, place_count, refl, restless_at, restless_row, Row}
+use Rattle.ksm_book.proofs.Names.{row_at, row_visiting, same_page, same_page_eq, same_page_refl, settled, settled_calmer, slice_get_within, Some, sound_changed, sound_row_visited, stayed, subst, sym}
 use Rattle.ksm_book.proofs.Names.{taken_over, takes_over, true, true≢false, visited, waiting_state, waits_for, waits_tells, Zero, ℕ, [], ◌&&◌, ◌++◌, ◌+◌, ◌==◌, ◌||◌, ◌∙◌, ◌∷◌, ◌≡◌}
 use Rattle.ksm_base.specs.declared.row.PageState.TheVariants.{Private}
-use Rattle.ksm_book.proofs.ByPage.{found_page, row_of_page}
-use Rattle.ksm_book.proofs.Doing.{then_idle}
+use Rattle.ksm_book.proofs.Folded.{then_idle}
 use Rattle.ksm_book.proofs.Folded.{pages_go}
 use Rattle.ksm_book.proofs.Going.{change_goes, Goes, goes_on, goes_same}
 use Rattle.ksm_book.proofs.PagesAhead.{after_later, Before, place_of}
+use Rattle.ksm_book.proofs.Walked.{by_row, visits_page}
 use Rattle.std.proofs.lemmas.List.{map-id}
 use Rattle.ksm_base.specs.Visit.{is_no_worse}
 
@@ -31,20 +31,6 @@ pub at_own_page : (page : GuestPage) (rows : List Row) → InPageOrder rows
 at_own_page page rows rise k d lt same = ap (λ q. row_at q rows) (same_page_eq page _ same)
     ∙ each_at_page rows rise k d lt
 
--- what is so of a page whose row no visit may change, and of that of each row that one may, is so of each page
-pub by_row : (P : GuestPage → Type 0) (page : GuestPage) (rows : List Row) → (restless_at page rows ≡ false → P page)
-    → ((r : Row) → row_at r.page rows ≡ Some r → is_restless r ≡ true → P r.page) → P page
-by_row P page rows calm some = by _ refl
-  where
-    by : (o : Option Row) → row_at page rows ≡ o → P page
-    by None found = calm (ap restless_row found)
-    by (Some r) found = elim (cases_Bool (is_restless r)) [
-      | inl restless ↦
-          let at = found_page page rows r found in
-          subst P at (some r (ap (λ q. row_at q rows) at ∙ found) restless)
-      | inr stays ↦ calm (ap restless_row found ∙ stays)
-    ]
-
 -- the row, which waits no more where it passes a test
 abbrev calmed : (Row → Bool) → Row → Row
 calmed test r = if test r then settled r else r
@@ -62,7 +48,7 @@ module _ (t : GuestPage → Bool) (b : BookState) where
   veil = calmed (λ r. t r.page)
 
   -- a test that agrees on each row that waits veils the same
-  veiled_alike : (u : GuestPage → Bool) → All (λ r. waiting_state r.state ≡ true → t r.page ≡ u r.page) b.rows
+  pub veiled_alike : (u : GuestPage → Bool) → All (λ r. waiting_state r.state ≡ true → t r.page ≡ u r.page) b.rows
       → veiled t b ≡ veiled u b
   veiled_alike u same =
       λ i. record b { rows = map_alike veil (calmed (λ r. u r.page)) b.rows (λ k d lt. grind (arith, same k d lt)) i }
@@ -91,9 +77,6 @@ module _ (test : Row → Bool) (b : BookState) where
   calmed_at : (page : GuestPage) → row_at page calm_rows ≡ option_map (calmed test) (row_at page b.rows)
   calmed_at page = find_mapped (calmed test) (λ r. same_page r.page page) (λ r. same_page r.page page) b.rows
       (grind arith)
-
-  calmed_goes : Goes b.rows calm_rows
-  calmed_goes = change_goes _ (grind arith) (grind arith)
 
   count_kept : (d : DupRow) → item_count calm_rows d ≡ item_count b.rows d
   count_kept d = grind (arith, count_mapped)
@@ -293,7 +276,7 @@ module _ (b : BookState) (s : IsSound b) (deed : Deed) where
       let at = calmed_at (is_on o r) o r.page ∙ ap (option_map (cover o r)) found
       ∙ ap (λ z. Some (if not z then settled r else r)) (before_irrefl r.page) in (
         subst (λ (z : BookState × Deed). IsSound z.0) is
-            (rw restless (sound_row_visited o r (grind (arith, row_of_page)) sound)),
+            (rw found at (visits_page.sound o deed r.page sound)),
         subst (λ (z : BookState × Deed). Goes b.rows z.0.rows) is
             (goes_on goes (grind (arith, pages_go doing (r.page ∷ []) (o, deed) sound.rows_rise))),
         ap (λ c. page_visited doing (c, deed) r.page) covers ∙ ap (visited doing (covered o r, deed)) at
@@ -305,7 +288,7 @@ module _ (b : BookState) (s : IsSound b) (deed : Deed) where
   row_due r found restless = elim (cases_Bool (takes_over b r)) [
     | inl takes ↦
         by_visit r restless (freed b r) (sound_changed b _ _ settled_calmer (λ x home. home) s) (freed_found b r found)
-        (calmed_goes (waits b r) b)
+        (change_goes _ (grind arith) (grind arith))
         (sym (veiled_over (λ q. not (comes_before q r.page)) b (waits b r)
         (λ k d lt is. grind (arith, side b r s _ refl k d lt is, not_both))))
         (λ _ _ _ k d lt. grind (arith, none_waits b r k d lt)) (grind (arith, taken_is b r restless takes deed))

@@ -1,14 +1,16 @@
 -- A page that is stored to while it is merged or Zero, comes or goes: of the others only one that waits in its tree with its
 -- bytes may come to join its dup by that, so no other page becomes due.
 use Rattle.ksm_book.proofs.Names.{All, All-filter, all_changed, all_with_row, Answer, AreDue, arith, BookState, BookView, Bool, bytes_eq, bytes_eq-Decides, change_row, count_with_row}
-use Rattle.ksm_book.proofs.Names.{count_without_page, Drop, dup_of_item, DupRow, Err, false, find_all, find_none, fresh_row, get_or, GuestPage, has_item, IsCarried, IsDupOf, IsSound, item_count, List}
-use Rattle.ksm_book.proofs.Names.{merged_into, merged_state, nat_tests, None, Ok, Option, partner, refl, Register, Row, row_at, same_page, same_page_refl, same_page_sym, Some, stored, sym, tree_of}
-use Rattle.ksm_book.proofs.Names.{true, waiting_state, waits_for, waits_on, with_row, without_page, ℕ, ◌&&◌, ◌==◌, ◌||◌, ◌≡◌}
-use Rattle.ksm_book.proofs.DueKept.{count_kept, more_due, on_still, WaitsElse}
+use Rattle.ksm_book.proofs.Names.{count_without_page, Drop, dup_of_item, DupRow, Err, false, find_all, find_none, fresh_row, get_or, GuestPage, has_item, InPageOrder, IsAlone, IsCarried, IsDupOf}
+use Rattle.ksm_book.proofs.Names.{IsSound, item_count, List, MatchOption, merged_into, merged_state, nat_tests, None, Ok, Option, partner, refl, Register, Row, row_at, same_page, same_page_refl}
+use Rattle.ksm_book.proofs.Names.{same_page_sym, shared_state, Some, stored, sym, tree_of, true, waiting_state, waits_for, waits_on, with_row, without_page, ℕ, ◌&&◌, ◌==◌, ◌||◌, ◌≡◌}
+use Rattle.ksm_book.proofs.DueKept.{count_kept, more_due, on_still, WaitsElse, own_due}
 use Rattle.ksm_pages.specs.Paged.{IsKnown, page_beside}
 use Rattle.ksm_tree.specs.Waits.{names}
 use Rattle.ksm_book.proofs.ByPage.{found_page, row_of_page}
 use Rattle.ksm_book.proofs.DueAlike.{one_waits}
+use Rattle.ksm_book.proofs.RowVisits.{filled_by}
+use Rattle.ksm_pages.proofs.Joined.{own_not_merged}
 
 -- ---------------------------------------------------------------- the row of a page leaves its dup
 
@@ -137,3 +139,32 @@ gone_due v w page (Ok reply) pages carried kept gone =
     let at = known_row v.state.rows page (grind arith) in
     rw carried.state (gone at.0 at.1)
 gone_due v w page (Err fault) pages carried kept gone = rw carried.state kept
+
+-- ---------------------------------------------------------------- a page with a frame of its own is stored to
+
+-- where the page is due, if its row waits, what is due stays so
+stored_due : (b : BookState) (page : GuestPage) (bytes : List ℕ) (pages : List GuestPage) → InPageOrder b.rows
+    → IsAlone page b.rows
+    → AreDue b pages → MatchOption (row_at page b.rows) (true ≡ false)
+    (λ r. waiting_state r.state ≡ true → has_item page pages ≡ true)
+    → AreDue (record b { rows = change_row page (stored bytes) b.rows }) pages
+stored_due b page bytes pages rise alone was waits =
+    let own = filled_by (λ r. shared_state r.state ≡ false) alone in
+    let on = find_all (λ r. same_page r.page page) (WaitsElse b pages) b.rows own.0 own.1 was in
+    own_due b page (stored bytes) own.0 rise own.1 (own_not_merged _ own.2, refl) pages pages
+    (λ restless out. grind (arith, on, found_page page b.rows own.0 own.1, own, waits)) (λ p _ is. is) was
+
+-- where the page does not wait, what is due stays so
+pub stored_calm : (b : BookState) (page : GuestPage) (pages : List GuestPage) (waits : Bool) → InPageOrder b.rows → IsAlone page b.rows
+    → AreDue b pages → MatchOption (row_at page b.rows) (waits ≡ false) (λ r. waits ≡ waiting_state r.state) → waits ≡ false
+    → (bytes : List ℕ) → AreDue (record b { rows = change_row page (stored bytes) b.rows }) pages
+stored_calm b page pages waits rise alone was told none bytes =
+    stored_due b page bytes pages rise alone was (grind arith)
+
+-- where the page is due beside what was, that is so once bytes are stored to it
+pub stored_added : (b : BookState) (page : GuestPage) (old new : List GuestPage) → InPageOrder b.rows → IsAlone page b.rows
+    → AreDue b old → ((p : GuestPage) → has_item p new ≡ (same_page page p || has_item p old))
+    → (bytes : List ℕ) → AreDue (record b { rows = change_row page (stored bytes) b.rows }) new
+stored_added b page old new rise alone was added bytes =
+    stored_due b page bytes new rise alone (more_due b old new (λ p is. grind arith) was)
+    (grind (arith, same_page_refl))

@@ -1,18 +1,19 @@
 -- The visit of a page that is due, by what was found of it: it takes over from none, but where a row further on waits
 -- for it; and which pages are due then.
 use Rattle.ksm_book.proofs.Names.{ap, AreDue, arith, BookState, BookValue, BookView, Bool, change_row, change_rows, Comes, comes_before, Deed, doing, due_visited, Dup, false, Find, find_mapped}
-use Rattle.ksm_book.proofs.Names.{find_passes, FindsAt, GuestPage, has_item, HasStayed, if◌then◌else◌, is_restless, IsDueNoMore, KeeperView, List, MatchOption, Merged, not, not_both, one_before}
-use Rattle.ksm_book.proofs.Names.{Option, PageState, PagesView, paired, Partner, Reached, refl, restless_at, Row, row_at, row_visited, same_page, same_page_refl, shared_state, Some, sound_row_visited}
-use Rattle.ksm_book.proofs.Names.{state_of, StaysBefore, subst, sym, takes_over, TakesOverFrom, true, true≢false, view_of, VisitsPage, waits_for, waits_tells, Zero, ℕ, ◌&&◌, ◌||◌, ◌∙◌, ◌∷◌, ◌≡◌}
+use Rattle.ksm_book.proofs.Names.{find_passes, FindsAt, GuestPage, has_item, HasStayed, if◌then◌else◌, InPageOrder, is_restless, IsDueNoMore, KeeperView, List, MatchOption, Merged, not, not_both}
+use Rattle.ksm_book.proofs.Names.{one_before, Option, PageState, PagesView, paired, Partner, Reached, refl, restless_at, Row, row_at, row_visited, same_page, same_page_refl, shared_state, Some}
+use Rattle.ksm_book.proofs.Names.{sound_row_visited, state_of, subst, sym, takes_over, TakesOverFrom, true, true≢false, view_of, VisitsPage, waits_for, waits_tells, Zero, ℕ, ◌&&◌, ◌||◌, ◌∙◌, ◌∷◌}
+use Rattle.ksm_book.proofs.Names.{◌≡◌}
 use Rattle.ksm_book.proofs.ByPage.{row_of_page}
 use Rattle.ksm_base.specs.declared.row.PageState.TheVariants.{Private}
-use Rattle.ksm_pages.specs.declared.pages.Find.TheVariants as finds
 use Rattle.ksm_pages.specs.Paged.{Finds}
-use Rattle.ksm_book.proofs.DueKept.{calm_undue, more_due, own_due, row_due}
+use Rattle.ksm_book.proofs.DueKept.{calm_undue, more_due, own_due, row_due, waits_undue}
 use Rattle.ksm_book.proofs.PageVisits.{shared_comes}
 use Rattle.ksm_book.proofs.RowVisits.{filled_by, Meets, page_is, restless_own, stayed_is, there_is, visited_by}
 use Rattle.ksm_book.proofs.Singles.{book}
 use Rattle.ksm_pages.proofs.Joined.{own_not_merged}
+use Rattle.ksm_pages.specs.declared.pages.Find.TheVariants as finds
 
 -- ---------------------------------------------------------------- what is due but for one page
 
@@ -83,14 +84,11 @@ module _ (f : Find) (q : PagesView) {p : PagesView} {k : KeeperView} {cursor : O
   none : (r : Row) → row_at page v.state.rows ≡ Some r → takes_over v.state r ≡ false
   none = grind (arith, by)
 
-  comes : Comes v w (λ s. due_visited doing s page)
-  comes from s before = grind (arith, none, shared_comes v w at by.0 q by.1 did from s before)
-
   -- where the row was visited in the book as it was, that is the visit of what is due, and the page is due no longer
   pub shared_due : Comes v w (λ s. due_visited doing s page)
       × ((old new : List GuestPage) → Without page old new → AreDue v.state old → AreDue w.state new)
   shared_due = (
-    comes,
+    λ from s before. grind (arith, none, shared_comes v w at by.0 q by.1 did from s before),
     λ old new gone. less_due page v.state w.state old new gone (λ pages was.
         let b = state_of p cursor passes in
         let now = row_visited b at.row in
@@ -134,20 +132,28 @@ is_still finds.Changed = false
 is_still finds.Waits = false
 is_still _ = true
 
--- the search changed nothing then
-pub still_found : (p q : PagesView) (page : GuestPage) (f : Find) → Finds p q page f → is_still f ≡ true → q ≡ p
-still_found p q page f told is = grind arith
-
 -- ---------------------------------------------------------------- books that look the same
 
-module _ (v m w : BookValue) (same : view_of m ≡ view_of v) where
-  reached_as : (from : BookValue) (s : BookState × Deed) → Reached from v s → Reached from m s
-  reached_as from s before = grind arith
+-- what was reached with a book was reached with one that looks the same
+pub reached_as : (v m : BookValue) → view_of m ≡ view_of v → (from : BookValue) (s : BookState × Deed) → Reached from v s
+    → Reached from m s
+reached_as v m same from s before = grind arith
 
-  -- what is reached from a book is reached from one that looks the same
-  pub comes_as : {change : BookState × Deed → BookState × Deed} → Comes m w change → Comes v w change
-  comes_as comes = λ from s before. comes from s (reached_as from s before)
+-- ---------------------------------------------------------------- a page that waits, or has gone
 
-  -- and so is what a refused visit leaves
-  pub stays_as : (page : GuestPage) → StaysBefore page m w → StaysBefore page v w
-  stays_as page stays = λ from s before. stays from s (reached_as from s before)
+-- a page found to wait is due no longer
+pub waits_due : {p q : PagesView} {k : KeeperView} {cursor : Option GuestPage} {passes : ℕ} {v : BookView} {page : GuestPage}
+    → Meets (λ _ r. FindsAt p q r finds.Waits) p k cursor passes v page → IsDueNoMore page v.state (state_of q cursor passes)
+waits_due {p} {cursor = cursor} {passes} {page = page} at pages was =
+    let so = at.so in
+    rw so.5
+    (waits_undue (state_of p cursor passes) _ (there_is at) at.sound.rows_rise (grind arith) pages
+    (rw (page_is at) (subst (λ (x : BookView). AreDue x.state (page ∷ pages)) (sym at.is) was)))
+
+-- a page found gone is not due
+pub gone_due : (p q : PagesView) (cursor : Option GuestPage) (passes : ℕ) (page : GuestPage) → InPageOrder p.rows
+    → Finds p q page finds.Gone → IsDueNoMore page (state_of p cursor passes) (state_of q cursor passes)
+gone_due p q cursor passes page rise is =
+    let same : q ≡ p = grind arith in
+    let calm : restless_at page p.rows ≡ false = grind arith in
+    rw same (calm_undue (state_of p cursor passes) page rise calm)

@@ -1,16 +1,17 @@
 -- Passes that visit only the pages that are due: what waits on is left as it is, and what is due stays so.
 use Rattle.ksm_book.proofs.Names.{All, All-cons, All-head, All-tail, all_changed, all_with_dup, ap, AreDue, arith, best_dup, BookState, Bool, bytes_eq, bytes_eq-Decides, cases_Bool, change_row}
-use Rattle.ksm_book.proofs.Names.{change_rows, cond_both, count_by, count_mapped, Deed, doing, due_visited, due_visits, dup_of_row, DupRow, eqb-true, false, find_all, find_none, find_nothing}
-use Rattle.ksm_book.proofs.Names.{find_passes, get_or, GuestPage, handled, has_item, HasStayed, inl, InPageOrder, inr, is_best, is_for_zero, is_restless, IsDueNoMore, IsSound, item_count, Knobs, List}
+use Rattle.ksm_book.proofs.Names.{change_rows, cond_both, count_by, count_mapped, doing, due_visited, dup_of_row, DupRow, eqb-true, false, find_all, find_none, find_nothing, find_passes, get_or}
+use Rattle.ksm_book.proofs.Names.{GuestPage, handled, has_item, HasStayed, inl, InPageOrder, inr, is_best, is_for_zero, is_restless, IsDueNoMore, IsSound, item_count, Knobs, List}
 use Rattle.ksm_book.proofs.Names.{list_all-from_AllPass, made_dup, may_join, Merged, merged_into, merged_state, nat_le, nat_lt, nat_tests, None, not, not_an_item, one_of_each_page, Option}
-use Rattle.ksm_book.proofs.Names.{ordered_change, paired, partner, refl, restless_at, Row, row_at, row_visited, same_page, same_page_refl, same_page_sym, settled, Some, stayed, taken_over, takes_over}
-use Rattle.ksm_book.proofs.Names.{tree_of, true, Waiting, waiting_state, waits_for, waits_on, waits_tells, WaitsFor, with_dup, Zero, ℕ, [], ◌&&◌, ◌+◌, ◌==◌, ◌||◌, ◌∙◌, ◌∷◌, ◌≡◌, ◌⊎◌}
-use Rattle.ksm_book.proofs.DueAlike.{at_own_page, by_counts, by_row, calm_stays, freed, freed_found, freed_stays, one_waits}
+use Rattle.ksm_book.proofs.Names.{ordered_change, paired, partner, refl, restless_at, Row, row_at, row_visited, same_page, same_page_refl, same_page_sym, settled, Some, stayed, taken_over}
+use Rattle.ksm_book.proofs.Names.{takes_over, tree_of, true, Waiting, waiting_state, waits_for, waits_on, waits_tells, WaitsFor, with_dup, Zero, ℕ, [], ◌&&◌, ◌+◌, ◌==◌, ◌||◌, ◌∙◌, ◌∷◌, ◌≡◌, ◌⊎◌}
+use Rattle.ksm_book.proofs.DueAlike.{at_own_page, by_counts, calm_stays, freed, freed_found, freed_stays, one_waits}
 use Rattle.ksm_base.specs.declared.row.PageState.TheVariants.{Private}
 use Rattle.ksm_book.proofs.ByPage.{row_of_page}
-use Rattle.ksm_book.proofs.Doing.{then_idle}
+use Rattle.ksm_book.proofs.Folded.{then_idle}
 use Rattle.ksm_book.proofs.RowVisits.{restless_own}
 use Rattle.ksm_book.proofs.Singles.{change_still}
+use Rattle.ksm_book.proofs.Walked.{by_row, Rests}
 use Rattle.ksm_pages.proofs.Joined.{own_not_merged}
 
 -- ---------------------------------------------------------------- the dups that a row may join
@@ -263,29 +264,26 @@ module _ (b : BookState) (sound : IsSound b) (row : Row) (found : row_at row.pag
     pub row_due : Due (row_visited b row)
     row_due = grind (arith, handled_due)
 
--- ---------------------------------------------------------------- visits of pages that are not due
+-- ---------------------------------------------------------------- a page that is not due
 
--- visits of pages of which none is due change nothing
-pub undue_stay : (pages : List GuestPage) (s : BookState × Deed) (due : List GuestPage) → IsSound s.0 → AreDue s.0 due
-    → All (λ p. has_item p due ≡ false) pages → due_visits doing s pages ≡ s
-undue_stay [] s due sound are out = refl
-undue_stay (page ∷ pages) s due sound are out =
-    rw (by_row (λ p. has_item p due ≡ false → due_visited doing s p ≡ s) page s.0.rows
-    (λ calm _. calm_stays s page calm) on_stays
-    (All-head (λ p. has_item p due ≡ false) page pages out))
-    (undue_stay pages s due sound are (All-tail (λ p. has_item p due ≡ false) page pages out))
+-- the visit of a page that is not due does nothing
+pub undue_rests : (b : BookState) (due : List GuestPage) → IsSound b → AreDue b due → (page : GuestPage) → has_item page due ≡ false
+    → Rests (due_visited doing) b page
+undue_rests b due sound are page =
+    by_row (λ p. has_item p due ≡ false → Rests (due_visited doing) b p) page b.rows
+    (λ calm _ deed. calm_stays (b, deed) page calm) on_stays
   where
     -- the visit of a page that waits on changes nothing
-    on_stays : (r : Row) → row_at r.page s.0.rows ≡ Some r → is_restless r ≡ true → has_item r.page due ≡ false
-        → due_visited doing s r.page ≡ s
-    on_stays r found restless out =
-        let among = λ (P : Row → Type 0). find_all (λ x. same_page x.page r.page) P s.0.rows r found in
-        let on : waits_on s.0 r ≡ true =
-        among (WaitsElse s.0 due) are restless out in
-        let alone : partner s.0.knobs s.0.rows r ≡ None =
-        among (λ x. waiting_state x.state ≡ true → partner s.0.knobs s.0.rows x ≡ None) sound.waiting (grind arith) in
-        let still : change_row r.page (λ x. record x { state = Waiting }) s.0.rows ≡ s.0.rows =
-        change_still _ _ _ (grind (arith, row_of_page r.page s.0.rows r sound.rows_rise found)) in
+    on_stays : (r : Row) → row_at r.page b.rows ≡ Some r → is_restless r ≡ true → has_item r.page due ≡ false
+        → Rests (due_visited doing) b r.page
+    on_stays r found restless out deed =
+        let among = λ (P : Row → Type 0). find_all (λ x. same_page x.page r.page) P b.rows r found in
+        let on : waits_on b r ≡ true =
+        among (WaitsElse b due) are restless out in
+        let alone : partner b.knobs b.rows r ≡ None =
+        among (λ x. waiting_state x.state ≡ true → partner b.knobs b.rows x ≡ None) sound.waiting (grind arith) in
+        let still : change_row r.page (λ x. record x { state = Waiting }) b.rows ≡ b.rows =
+        change_still _ _ _ (grind (arith, row_of_page r.page b.rows r sound.rows_rise found)) in
         grind (arith, then_idle)
 
 -- ---------------------------------------------------------------- a row that begins to wait

@@ -1,14 +1,15 @@
 -- The pages that are due, as they are kept: which there are once one came or went, and the first behind a cursor.
-use Rattle.ksm_book.proofs.Names.{after_cursor, All, All-cons, All-map, any-filter_same, any_found, append-nil, AreDue, arith, before_irrefl, BookState, Bool, cases_Bool, comes_before, Err, false}
-use Rattle.ksm_book.proofs.Names.{filter, find, get_or, GuestPage, has_item, inl, inr, is_some, length, List, list_any, map, MatchOption, None, not, not_both, Ok, Option, pages_ordered, pairs_head}
-use Rattle.ksm_book.proofs.Names.{pairs_tail, refl, Result, same_page, same_page_refl, Some, true, [], ◌&&◌, ◌++◌, ◌==◌, ◌||◌, ◌∙◌, ◌∷◌, ◌≡◌}
+use Rattle.ksm_book.proofs.Names.{after_cursor, All, All-map, any-filter_same, any_found, append-nil, arith, Bool, comes_before, Err, false, filter, find, find_all, find_none, find_passes, get_or}
+use Rattle.ksm_book.proofs.Names.{GuestPage, has_item, is_some, length, List, list_any, list_any_at, map, MatchOption, None, not, Ok, Option, pages_ordered, refl, Result, same_page, same_page_refl}
+use Rattle.ksm_book.proofs.Names.{Some, true, [], ◌&&◌, ◌++◌, ◌==◌, ◌||◌, ◌∙◌, ◌∷◌, ◌≡◌}
 use Rattle.std.proofs.lemmas.List.Folds.{list_any-append}
 use Rattle.std.specs.Prelude.{OnErr, OnOk}
+use Rattle.ksm_pages.proofs.Found.{first_found as found_first}
 use Rattle.ksm_pages.specs.Held.{pages_of}
 use Rattle.ksm_pages.specs.declared.named.Named.{Named}
 use Rattle.ksm_pages.specs.declared.row.Spot.{Spot}
 use Rattle.ksm_pages.specs.Ordered.{AreAscending, is_of, with_named, without_named}
-use Rattle.ksm_rmap.proofs.Ordered.{with_rises, without_rises}
+use Rattle.ksm_rmap.proofs.Ordered.{with_rises}
 
 -- the pages that are kept
 abbrev pub pages_in : List Named → List GuestPage
@@ -44,16 +45,6 @@ pub has_taken : (page : GuestPage) (order : List Named) (x : GuestPage)
     → has_item x (pages_in (without_named page order)) ≡ (has_item x (pages_in order) && not (same_page page x))
 has_taken page order x = picked (λ p. not (same_page p page)) x order ∙ (grind arith)
 
--- the pages stay in order with a page taken out
-pub taken_rises : (page : GuestPage) (order : List Named) → AreAscending order
-    → AreAscending (without_named page order)
-taken_rises page order rise = without_rises pages_ordered (λ (m : Named). m.page) page _ rise
-
--- a page that is there is so with itself put in
-pub has_already : (page : GuestPage) (pages : List GuestPage) → has_item page pages ≡ true
-    → (x : GuestPage) → has_item x pages ≡ (same_page page x || has_item x pages)
-has_already page pages has x = grind arith
-
 -- and where one is put in, or memory was refused
 pub inserted_rises : {T E : Type 0} (r : Result T E) (n : Named) (old new : List Named) → AreAscending old
     → OnOk r (new ≡ with_named n old) → OnErr r (new ≡ old) → AreAscending new
@@ -65,10 +56,6 @@ inserted_rises r n old new rise added kept =
 -- of the pages in order and those added behind them one is there where it is among the ones or the others
 pub has_either : (x : GuestPage) (some more : List GuestPage) → has_item x (some ++ more) ≡ (has_item x some || has_item x more)
 has_either x some more = list_any-append (λ q. same_page q x) some more
-
--- a page among those in order is there
-pub has_first : (x : GuestPage) (some more : List GuestPage) → has_item x some ≡ true → has_item x (some ++ more) ≡ true
-has_first x some more is = grind (arith, has_either, is)
 
 -- where one was put in, it is there, and the others as before, with some more behind them
 pub inserted_has : {T E : Type 0} (r : Result T E) (n : Named) (old new : List Named) (more pages : List GuestPage)
@@ -83,11 +70,6 @@ pub none_added : (known : Bool) (order : List Named) (added : List Spot) → (kn
 none_added known order [] is = append-nil (pages_in order)
 none_added known order (s ∷ added) is = absurd (grind arith)
 
--- where the same pages are there, the same are due
-pub same_due : (b : BookState) (old new : List GuestPage) → ((x : GuestPage) → has_item x new ≡ has_item x old)
-    → AreDue b old → AreDue b new
-same_due b old new same due = grind arith
-
 -- what is told of the first page behind a cursor
 abbrev pub IsFirst : Option GuestPage → List GuestPage → GuestPage → Type 0
 IsFirst cursor pages page =
@@ -99,41 +81,24 @@ abbrev pub TellsFirst : Option GuestPage → List GuestPage → Option Named →
 TellsFirst cursor pages found =
     MatchOption found (All (λ p. after_cursor cursor p ≡ false) pages) (λ n. IsFirst cursor pages n.page)
 
-module _ (cursor : Option GuestPage) where
-  abbrev behind : Named → Bool
-  behind n = after_cursor cursor n.page
+-- a search in pages in order finds the first page behind the cursor, if there is one
+pub first_found : (cursor : Option GuestPage) (order : List Named) → AreAscending order
+    → TellsFirst cursor (pages_in order) (find (λ n. after_cursor cursor n.page) order)
+first_found cursor order rise = by _ refl
+  where
+    behind : Named → Bool
+    behind n = after_cursor cursor n.page
 
-  module _ (m : Named) (order : List Named) (rise : AreAscending (m ∷ order)) where
-    head : All (λ (n : Named). comes_before m.page n.page ≡ true) order
-    head = pairs_head (λ (a b : Named). comes_before a.page b.page ≡ true) m _ rise
+    there : All (λ m. has_item m.page (pages_in order) ≡ true) order
+    there k d lt =
+        let page = (get_or order k d).page in
+        any_named page order ∙ list_any_at (λ m. same_page m.page page) order k d lt (same_page_refl page)
 
-    later : All (λ p. after_cursor cursor p ≡ true → comes_before p m.page ≡ false) (pages_in order)
-    later =
-        All-map (λ p. after_cursor cursor p ≡ true → comes_before p m.page ≡ false) (λ (n : Named). n.page) order
-        (λ k d lt _. not_both m.page (get_or order k d).page (head k d lt))
-
-    -- a page behind the cursor that stands first is the first there
-    here : after_cursor cursor m.page ≡ true → IsFirst cursor (pages_in (m ∷ order)) m.page
-    here is = (
-      rw (same_page_refl m.page),
-      is,
-      All-cons (λ p. after_cursor cursor p ≡ true → comes_before p m.page ≡ false) m.page (pages_in order)
-          (λ _. before_irrefl m.page) later,
+    by : (o : Option Named) → find behind order ≡ o → TellsFirst cursor (pages_in order) o
+    by None none = All-map (λ p. after_cursor cursor p ≡ false) (λ n. n.page) order (find_none behind order none)
+    by (Some n) found = (
+      find_all behind (λ m. has_item m.page (pages_in order) ≡ true) order n found there,
+      find_passes behind order n found,
+      All-map (λ p. after_cursor cursor p ≡ true → comes_before p n.page ≡ false) (λ m. m.page) order
+          (found_first (λ (m : Named). m.page) behind order n rise found),
     )
-
-    -- one that is not behind it is passed over
-    over : after_cursor cursor m.page ≡ false → (o : Option Named) → TellsFirst cursor (pages_in order) o
-        → TellsFirst cursor (pages_in (m ∷ order)) o
-    over not_yet None none = grind arith
-    over not_yet (Some n) (has, after, first) = grind arith
-
-  -- a search in pages in order finds the first page behind the cursor, if there is one
-  pub first_found : (order : List Named) → AreAscending order → TellsFirst cursor (pages_in order) (find behind order)
-  first_found [] rise = λ k d lt. absurd (omega arith)
-  first_found (m ∷ order) rise = elim (cases_Bool (behind m)) [
-    | inl is ↦
-        grind (arith, here)
-    | inr not_yet ↦
-        rw not_yet (over m order rise not_yet _
-        (first_found order (pairs_tail (λ a b. comes_before a.page b.page ≡ true) m _ rise)))
-  ]

@@ -1,16 +1,12 @@
 -- What is answered where a dup is to move.
-use Rattle.ksm_book.proofs.Names.{Answer, arith, BookState, Done, DupRow, Err, Fault, find, find_passes, GuestPage, has_items, HasRemounted, IsCarried, KeeperView, live_dup_at, MayMove, MoveDup, Ok}
-use Rattle.ksm_book.proofs.Names.{Option, PagesView, Some, state_of, ℕ, ◌&&◌, ◌==◌, ◌≡◌}
+use Rattle.ksm_book.proofs.Names.{Answer, arith, BookState, Done, DupRow, Err, Fault, find_passes, GuestPage, HasRemounted, IsCarried, KeeperView, live_dup_at, MayMove, MoveDup, Ok, Option}
+use Rattle.ksm_book.proofs.Names.{PagesView, Some, state_of, ℕ, ◌≡◌}
 use Rattle.ksm_book.proofs.Singles.{book}
 
 module _ (b : BookState) (place node : ℕ) (dup : DupRow) (found : Some dup ≡ live_dup_at b place) where
   -- the dup that was found stands at the place that was asked for
   pub place_is : dup.place ≡ place
   place_is = grind (arith, find_passes)
-
-  -- the dup with items at its place is the dup
-  pub live_there : find (λ d. d.place == dup.place && has_items b.rows d) b.dups ≡ Some dup
-  live_there = grind (arith, place_is)
 
 -- the command is carried out where the dup moved to a frame of the node, or stayed, as it answers
 module _ (p q : PagesView) (k l : KeeperView) (cursor : Option GuestPage) (passes place node : ℕ) (dup : DupRow)

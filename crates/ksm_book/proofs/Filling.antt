@@ -1,16 +1,12 @@
 -- Frames written, read, found and filled, and a dup's place that comes to name another frame.
-use Rattle.ksm_book.proofs.Names.{Add, ap, arith, blank, did, Dying, Finds, frame_at, frames_of, Free, get_or-set_other, get_or-set_same, HasNewFrame, IsLawful, KeeperView, Kind, Ledger, length}
-use Rattle.ksm_book.proofs.Names.{length-set, List, loads, MakesSteps, mounting, None, Note, Open, PAGE_WORDS, Placed, Private, Provides, Publish, puts, Raise, raised, replicate}
-use Rattle.ksm_book.proofs.Names.{replicate-append-replicate, set-get_or, set-set, spent, spent_on, stepped, with_frame, ℕ, ◌+◌, ◌-◌, ◌<◌, ◌∙◌, ◌≡◌}
+use Rattle.ksm_book.proofs.Names.{Add, ap, arith, did, Dying, Finds, frame_at, frames_of, Free, get_or-set_other, get_or-set_same, HasNewFrame, IsLawful, KeeperView, Kind, Ledger, length, length-set}
+use Rattle.ksm_book.proofs.Names.{List, loads, MakesSteps, mounting, None, Note, Open, PAGE_WORDS, Placed, Private, Provides, Publish, puts, Raise, raised, replicate, replicate-append-replicate}
+use Rattle.ksm_book.proofs.Names.{set-set, spent, spent_on, stepped, with_frame, ℕ, ◌+◌, ◌-◌, ◌<◌, ◌∙◌, ◌≡◌}
 use Rattle.ksm_book.proofs.Keeping.{searched_placed, searched_spends, spent_kept}
 use Rattle.ksm_book.proofs.Made.{made_one, made_part, made_then}
 use Rattle.ksm_book.proofs.Noted.{noted}
 
 -- ---------------------------------------------------------------- one frame's note
-
--- what the keeper knows with a frame written as it was
-pub as_it_was : (k : Ledger) (g : ℕ) → with_frame k g (frame_at k g) ≡ k
-as_it_was k g = grind (arith, set-get_or k.frames g blank)
 
 module _ (k : Ledger) (g : ℕ) (lt : g < length k.frames) where
   -- the frame has the note that it got

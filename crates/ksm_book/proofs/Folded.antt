@@ -1,11 +1,11 @@
 -- The visits of a pass are a fold over its pages, only restless pages count, and a quiet pass is repeated by those behind it.
-use Rattle.ksm_book.proofs.Names.{after_cursor, AllPairs-filter, and_right, ap, AreAscending, arith, begun, BookState, Bool, comes_before, drop, drop_more, each_at_page, false, filter, filter_all}
-use Rattle.ksm_book.proofs.Names.{find_all, find_passes, get_or_from_slice_get, GuestPage, has_item, InPageOrder, is_none, is_restless, IsBeside, IsStill, last_of, List, map, map_mapped}
-use Rattle.ksm_book.proofs.Names.{mergeable_pages, next_row, next_visited, None, not-true, Option, option_map, page_visited, pages_ahead, pages_visited, pairs_mapped, pass_ended_at_last, refl}
-use Rattle.ksm_book.proofs.Names.{restless_at, Row, row_at, row_visited, rowwise_visits, settled, slice_get, slice_get-get_or, slice_get_within, Some, subst, suc, sym, take, take-append-drop, true}
-use Rattle.ksm_book.proofs.Names.{visit, visit_begun, visit_of, visited, visits, visits_beside, zero, ℕ, [], ⊤, ◌++◌, ◌+◌, ◌∙◌, ◌∷◌, ◌≡◌}
+use Rattle.ksm_book.proofs.Names.{after_cursor, AllPairs-filter, and_right, ap, append-nil, AreAscending, arith, begun, BookState, comes_before, Deed, doing, drop, drop_more, each_at_page, filter}
+use Rattle.ksm_book.proofs.Names.{filter_all, find_all, find_passes, Frames, get_or_from_slice_get, GuestPage, idle, InPageOrder, is_none, is_restless, IsBeside, IsStill, last_of, List, map}
+use Rattle.ksm_book.proofs.Names.{map_mapped, mergeable_pages, next_row, next_visited, None, not-true, Option, option_map, page_visited, pages_ahead, pages_visited, pairs_mapped, pass_ended_at_last}
+use Rattle.ksm_book.proofs.Names.{refl, Row, row_at, row_visited, rowwise_visits, scanning, settled, slice_get, slice_get-get_or, slice_get_within, Some, subst, suc, sym, take, take-append-drop}
+use Rattle.ksm_book.proofs.Names.{then_doing, true, visit, visit_begun, visit_of, visited, visits, visits_beside, zero, ℕ, [], ⊤, ◌++◌, ◌+◌, ◌∙◌, ◌∷◌, ◌≡◌}
 use Rattle.ksm_book.proofs.Going.{begun_goes, elsewhere, Goes, goes_on, goes_same, mergeable_kept, visited_goes}
-use Rattle.ksm_book.proofs.PagesAhead.{Before, behind_first, has_filter, same_pages}
+use Rattle.ksm_book.proofs.PagesAhead.{Before, behind_first}
 use Rattle.ksm_pages.proofs.Options.{mapped_some, none_mapped}
 use Rattle.ksm_pages.proofs.Ranked.{last_of_take}
 use Rattle.std.proofs.Math.Seq.{take-suc}
@@ -112,28 +112,6 @@ module _ {X : Type 0} (step : BookState → X → Row → X) where
   visited_more [] s page = refl
   visited_more (p ∷ pages) s page = visited_more pages (page_visited step s p) page
 
-  -- pages that are not restless may be left out
-  pub settled_out : (t : GuestPage → Bool) (pages : List GuestPage) (s : BookState × X) → InPageOrder s.0.rows
-      → ((p : GuestPage) → t p ≡ false → restless_at p s.0.rows ≡ false)
-      → pages_visited step s (filter t pages) ≡ pages_visited step s pages
-  settled_out t [] s rise calm = refl
-  settled_out t (page ∷ pages) s rise calm =
-      let first = page_goes s page rise in
-      let others =
-      settled_out t pages (page_visited step s page) (first.order rise) (λ p off. first.calm p (calm p off)) in
-      grind (arith, calm page, settled_out t pages s rise calm)
-
-  -- visits of two ascending lists of pages with the same restless pages come to the same
-  pub same_restless : (ps qs : List GuestPage) (s : BookState × X) → InPageOrder s.0.rows → AreAscending ps → AreAscending qs
-      → ((page : GuestPage) → restless_at page s.0.rows ≡ true → has_item page ps ≡ has_item page qs)
-      → pages_visited step s ps ≡ pages_visited step s qs
-  same_restless ps qs s rise first second same =
-      let t : GuestPage → Bool = λ page. restless_at page s.0.rows in
-      let alike = same_pages (filter t ps) (filter t qs) (AllPairs-filter Before t ps first)
-      (AllPairs-filter Before t qs second) (λ x. grind (arith, has_filter, same x)) in
-      sym (settled_out t ps s rise (λ p off. off)) ∙ ap (pages_visited step s) alike ∙ settled_out t qs s rise
-      (λ p off. off)
-
   module _ (beside : IsBeside step) where
     -- the visit of the next row is that of its page
     next_is_page : (s : BookState × X) (row : Row) → InPageOrder s.0.rows → next_row s.0.cursor s.0.rows ≡ Some row
@@ -238,3 +216,18 @@ module _ {X : Type 0} (step : BookState → X → Row → X) where
       pub visits_folded : (n : ℕ) (page : GuestPage) → slice_get ahead n ≡ Some page
           → visits_beside step (suc n) s ≡ (pass_ended_at_last (stood (suc n)).0, (stood (suc n)).1)
       visits_folded n page at = one_more n page at (begun_folded n page at)
+
+-- ---------------------------------------------------------------- what is done beside
+
+-- a deed and then no step is that deed alone
+pub then_idle : (deed : Deed) → then_doing deed (idle deed.frame) ≡ deed
+then_idle deed = grind (arith, append-nil deed.steps)
+
+-- what visits do to the frames is nothing at a shared row, and the same wherever the cursor stands
+pub doing_beside : IsBeside doing
+doing_beside = record { shared = λ b deed row is. grind (arith, then_idle); alike = λ b deed row cursor passes. grind arith }
+
+-- what n visits do to the frames is the deed that n visits come to, each with its deed beside it
+pub scanning_is : (n : ℕ) (b : BookState) (frame : Frames) → scanning n b frame ≡ (visits_beside doing n (b, idle frame)).1
+scanning_is zero b frame = refl
+scanning_is (suc n) b frame = grind (arith, scanning_is n b frame, beside_state, then_idle)

@@ -96,10 +96,6 @@ reaps_spend (f ∷ fs) v w m =
     let first = first_made m in
     grind (arith, spent_kept, reaps_spend fs (did v (Reap f) first.0) w first.1)
 
--- the frames of a node end at the end of the table or before it
-pub node_end : (node nodes size : ℕ) → node < nodes → node * size + size ≤ nodes * size
-node_end node nodes size lt = grind arith
-
 -- the dying frames of a node were reaped: rows and dups lie lawfully
 pub searched_placed : {v w : KeeperView} (node : ℕ) → node < v.table.shape.nodes → MakesSteps v w (map Reap (dying_on v.table.shape v.ledger node))
     → (across : ℕ) (rows : List Row) (frame : Frames) (dups : List DupRow) (hand : Option ℕ) → Placed v.table.shape across v.ledger rows frame dups hand
@@ -107,7 +103,7 @@ pub searched_placed : {v w : KeeperView} (node : ℕ) → node < v.table.shape.n
 searched_placed {v} {w} node less m across rows frame dups hand p =
     let sh = v.table.shape in
     let size = sh.frames_per_node in
-    let end = node_end _ _ size less in
+    let end : node * size + size ≤ sh.nodes * size = grind arith in
     let inside : All (λ f. f < frames_of sh) (range_with_len (node * size) size) =
     λ i d lt. grind (arith, length-range_with_len, get_or-range_with_len) in
     reaps_placed _ v w m

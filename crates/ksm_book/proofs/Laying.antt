@@ -1,8 +1,7 @@
 -- What becomes of pages that lie lawfully, where the keeper makes its steps.
 use Rattle.ksm_book.proofs.Names.{All, arith, blank, cases_lt, change_row, cond_both, default_knobs, DupRow, false, find_all, first_ledger, frame_at, Frames, get_or, get_or_past, GuestPage}
-use Rattle.ksm_book.proofs.Names.{HasNewFrame, holding, Houses, inl, InPageOrder, IsLaid, IsServed, IsShape, KeeperView, Keeps, Knobs, Ledger, length, length-replicate, lies_on, List, map}
-use Rattle.ksm_book.proofs.Names.{None, nowhere, Option, PAGE_WORDS, PageState, PagesView, Placed, refl, Row, row_at, Shape, shared_state, Some, spent, subst, true, with_frame, with_row, zero_state}
-use Rattle.ksm_book.proofs.Names.{ℕ, [], ◌≡◌, ◌≤◌, ◌⊎◌}
+use Rattle.ksm_book.proofs.Names.{HasNewFrame, holding, Houses, inl, InPageOrder, IsLaid, IsServed, IsShape, KeeperView, Keeps, Knobs, Ledger, length, length-replicate, lies_on, List, map, None}
+use Rattle.ksm_book.proofs.Names.{nowhere, Option, PAGE_WORDS, PagesView, Placed, refl, Row, row_at, Shape, shared_state, Some, spent, subst, with_frame, with_row, ℕ, [], ◌≡◌, ◌≤◌, ◌⊎◌}
 use Rattle.ksm_base.specs.declared.row.PageState.TheVariants.{Private as OwnPage}
 use Rattle.ksm_book.proofs.ByPage.{found_page, row_of_page}
 use Rattle.std.proofs.lemmas.List.{get_or-replicate}
@@ -37,19 +36,11 @@ module _ {sh : Shape} {across : ℕ} {v w : KeeperView} {rows : List Row} {frame
   pub come_there : (r : Row) → row_at r.page rows ≡ None → r.state ≡ OwnPage → r.home ≡ node → r.bytes ≡ bytes → Placed sh across w.ledger (with_row r rows) (lies_on r.page (Some g) frame) dups None
   come_there r absent own home content = inserted _ r absent in_new_hand (serves r own home content)
 
--- a row that is not shared is not Zero
-pub own_framed : (s : PageState) → shared_state s ≡ false → zero_state s ≡ false
-own_framed s e = grind arith
-
 -- a row may stand in the stead of another on its frame: same home and bytes, and the same state, or neither is shared
 abbrev pub LodgesAs : Row → Row → Type 0
 LodgesAs row r = (row.home ≡ r.home) × (row.bytes ≡ r.bytes) × ((row.state ≡ r.state) ⊎ ((shared_state r.state ≡ false) × (shared_state row.state ≡ false)))
 
 module _ {sh : Shape} {across : ℕ} {k : Ledger} {rows : List Row} {frame : Frames} {dups : List DupRow} {hand : Option ℕ} (p : Placed sh across k rows frame dups hand) where
-  -- a row that may stand in the stead of another is served by its frame
-  lodged_as : (old r : Row) (o : Option ℕ) → LodgesAs r old → IsServed sh k dups old o → IsServed sh k dups r o
-  lodged_as old r o lodges served = grind arith
-
   -- the row of a page is served by its frame
   pub served_at : (page : GuestPage) (row : Row) → row_at page rows ≡ Some row → IsServed sh k dups row (frame page)
   served_at page row found = subst (λ q. IsServed sh k dups row (frame q)) (found_page _ _ row found) (find_all _ (λ r. IsServed sh k dups r (frame r.page)) _ row found p.each_row)
@@ -73,7 +64,7 @@ module _ {p : PagesView} {k : KeeperView} (h : IsLaid p k) where
   -- pages lie lawfully where each row changes into one that may stand in its stead on its frame
   pub laid_mapped : (c : Row → Row) → ((r : Row) → (c r).page ≡ r.page) → All (λ r. LodgesAs (c r) r) p.rows → IsLaid (record p { rows = map c p.rows }) k
   laid_mapped c keeps lodges =
-      laid_rows k refl (omega arith) (remapped None c keeps h.placed (grind (arith, lodged_as h.placed)))
+      laid_rows k refl (omega arith) (remapped None c keeps h.placed (grind arith))
 
   -- pages lie lawfully where the row of a page changes into one that may stand in its stead on its frame
   pub laid_changed : (page : GuestPage) (row : Row) (c : Row → Row) → InPageOrder p.rows → row_at page p.rows ≡ Some row
@@ -83,9 +74,9 @@ module _ {p : PagesView} {k : KeeperView} (h : IsLaid p k) where
       (λ i d lt. let r = get_or p.rows i d in cond_both _ (c r) r (λ x. LodgesAs x r)
       (grind (arith, row_of_page)) (λ _. (refl, refl, inl refl)))
 
-  -- a row that is not Zero lies on a frame that serves it
-  pub has_frame : {page : GuestPage} {row : Row} → row_at page p.rows ≡ Some row → zero_state row.state ≡ false → (f : ℕ) × (p.frame page ≡ Some f) × Serves sh k.ledger p.dups row f
-  has_frame {row = row} found other = framed sh _ _ row _ other (served_at h.placed _ row found)
+  -- a row that is not shared lies on a frame that serves it
+  pub has_frame : {page : GuestPage} {row : Row} → row_at page p.rows ≡ Some row → shared_state row.state ≡ false → (f : ℕ) × (p.frame page ≡ Some f) × Serves sh k.ledger p.dups row f
+  has_frame {row = row} found alone = framed sh _ _ row _ (grind arith) (served_at h.placed _ row found)
 
   -- pages lie lawfully where the row of a page with a frame of its own gets new bytes, and the frame holds them
   pub laid_written : (page : GuestPage) (row : Row) (c : Row → Row) (w : KeeperView) (g : ℕ) → InPageOrder p.rows → row_at page p.rows ≡ Some row → ((r : Row) → (c r).page ≡ r.page) → p.frame page ≡ Some g

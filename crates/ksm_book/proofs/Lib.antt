@@ -19,7 +19,6 @@ pub mod DueAlike
 pub mod Shown
 pub mod Resettled
 pub mod Singles
-pub mod DueStored
 pub mod DueBroken
 pub mod Along
 pub mod Hiding
@@ -32,16 +31,11 @@ pub mod Examples
 pub mod Going
 pub mod PagesAhead
 pub mod Folded
-pub mod Doing
 pub mod Scanned
 pub mod DuePasses
-pub mod DueSteps
 pub mod Reached
-pub mod PartBegun
 pub mod RowVisits
 pub mod PageVisits
-pub mod DueVisits
-pub mod Listed
 pub mod Pairing
 pub mod TakingOver
 pub mod DueFound

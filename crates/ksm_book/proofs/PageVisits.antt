@@ -6,10 +6,10 @@ use Rattle.ksm_pages.specs.declared.pages.Find.TheVariants as finds
 use Rattle.ksm_pages.specs.Paged.{Finds, visited as row_changed}
 use Rattle.ksm_base.specs.declared.row.PageState.TheVariants.{Private}
 use Rattle.ksm_book.proofs.ByPage.{found_page, row_of_page}
-use Rattle.ksm_book.proofs.Doing.{then_idle}
+use Rattle.ksm_book.proofs.Folded.{then_idle}
 use Rattle.ksm_book.proofs.Laying.{laid_changed, LodgesAs}
-use Rattle.ksm_book.proofs.Made.{made_none}
-use Rattle.ksm_book.proofs.RowVisits.{Leads, leads, Meets, restless_own, there_is, visit_comes}
+use Rattle.ksm_book.proofs.Made.{made_none, made_then}
+use Rattle.ksm_book.proofs.RowVisits.{Leads, leads, Meets, restless_own, there_is}
 use Rattle.ksm_book.proofs.Singles.{book}
 
 -- ---------------------------------------------------------------- what was found
@@ -28,7 +28,7 @@ pub shared_comes : {P : BookState → Row → Type 0} {p : PagesView} {k : Keepe
     (v w : BookValue)
     {page : GuestPage} (at : Meets P p k cursor passes (view_of v) page) → is_restless at.row ≡ true → (q : PagesView) → q ≡ p
     → VisitsPage (book q k cursor passes) (view_of w) page → Comes v w (λ s. page_visited doing s page)
-shared_comes v w at restless q same did = grind (arith, restless, visit_comes)
+shared_comes v w at restless q same did = grind (arith, restless, made_then)
 
 waiting_settles : (page : GuestPage) (rows : List Row) → All (λ r. same_page r.page page ≡ true → shared_state r.state ≡ false) rows
     → map settled (change_row page (λ r. record r { state = Waiting }) rows) ≡ map settled rows

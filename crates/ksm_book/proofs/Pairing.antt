@@ -6,9 +6,9 @@ use Rattle.ksm_book.proofs.Names.{MOST_REFERENCES, new_place, new_place_free, ne
 use Rattle.ksm_book.proofs.Names.{shared_state, Some, state_of, Sub, subst, sym, true, waits_tells, WaitsFor, with_dup, Withdraw, withdrawing, ℕ, [], ◌+◌, ◌-◌, ◌<◌, ◌==◌, ◌||◌, ◌∙◌, ◌∷◌, ◌≡◌, ◌≤◌}
 use Rattle.ksm_pages.specs.Paged.{paired as are_paired}
 use Rattle.ksm_book.proofs.Made.{made_one, made_then}
-use Rattle.ksm_book.proofs.Sharing.{laid_found, laid_joined, may_clear, may_found, may_join, may_part, spent_most}
+use Rattle.ksm_book.proofs.Sharing.{laid_found, laid_joined, may_found, may_join, may_part, spent_most, vacant_loose}
 use Rattle.ksm_book.proofs.ByPage.{at_changed}
-use Rattle.ksm_book.proofs.RowVisits.{at_row, filled_by, Leads, leads, Meets, page_is, restless_own, there_is}
+use Rattle.ksm_book.proofs.RowVisits.{filled_by, Leads, leads, Meets, page_is, restless_own, there_is}
 use Rattle.ksm_book.proofs.Promised.{finds_place}
 
 -- rows of two pages get a state
@@ -79,7 +79,7 @@ module _ (other : GuestPage) {p : PagesView} {k : KeeperView} {cursor : Option G
 
   -- what the place of the new dup names may be withdrawn
   pub may_withdraw : May k (Withdraw place)
-  may_withdraw = may_clear k h _ inside vacant
+  may_withdraw = (rw h.same inside, vacant_loose _ h.placed vacant)
 
   -- and at the page that was told
   pub waits_one : row_at one p.rows ≡ Some w
@@ -148,7 +148,7 @@ module _ (other : GuestPage) {p : PagesView} {k : KeeperView} {cursor : Option G
             (told : MatchOption (row_at one p.rows) (true ≡ false) (λ r. MatchOption (row_at page p.rows) (true ≡ false)
             (λ x. q ≡ are_paired place r x p))) where
           goes : q ≡ are_paired place w row p
-          goes = grind (arith, at_row, waits_one)
+          goes = grind (arith, at.found, waits_one)
 
           steps : MakesSteps k2 l (Add f ∷ leaving (p.frame page))
           steps = rw left (made_then comes leaves)

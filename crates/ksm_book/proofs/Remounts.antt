@@ -1,23 +1,15 @@
 -- A dup with items, and where its pages lie before and after it moves.
-use Rattle.ksm_book.proofs.Names.{All, All-contains_itself, ap, arith, Bool, Contains, count_in, did, dup_numbered, DupFits, DupRow, each_has_number, Err, find_all, find_passes, Finds, FindsNone}
+use Rattle.ksm_book.proofs.Names.{All, All-contains_itself, ap, arith, Bool, Contains, count_in, did, dup_numbered, DupFits, DupRow, each_has_number, Err, find_all, find_passes, Finds}
 use Rattle.ksm_book.proofs.Names.{frame_at, frames_of, Freeze, get_or-set_other, GuestPage, has_items, HasRemounted, instead, InUse, is_frame, IsInLife, IsLaid, IsLowestFree, item_count, items_on}
-use Rattle.ksm_book.proofs.Names.{KeeperView, length-set, List, list_any, list_any_at, MakesSteps, MayMount, MayMove, merged_into, mounting, NoFrame, None, Note, Ok, once_mounted, PagesView}
-use Rattle.ksm_book.proofs.Names.{place_frame, Placed, Publish, refl, Row, row_at, Shape, Some, spent, Stable, true, with_frame, ℕ, ◌&&◌, ◌<◌, ◌==◌, ◌∙◌, ◌≡◌, ◌≢◌, ◌≤◌}
+use Rattle.ksm_book.proofs.Names.{KeeperView, length-set, List, list_any, list_any_at, MakesSteps, MayMount, MayMove, merged_into, mounting, None, Note, Ok, once_mounted, PagesView}
+use Rattle.ksm_book.proofs.Names.{place_frame, Placed, Publish, refl, Row, row_at, Shape, Some, Stable, true, with_frame, ℕ, ◌&&◌, ◌<◌, ◌==◌, ◌∙◌, ◌≡◌, ◌≢◌, ◌≤◌}
 use Rattle.ksm_book.proofs.ByPage.{found_page, same_frames}
 use Rattle.ksm_book.proofs.Filling.{at_again}
 use Rattle.ksm_book.proofs.Keeping.{searched_placed, searched_spends, spent_kept}
 use Rattle.ksm_book.proofs.Laying.{kept}
 use Rattle.ksm_book.proofs.Moves.{base_is_items, lies_as_item}
 use Rattle.ksm_book.proofs.Remounted.{dead, next, remounted}
-use Rattle.ksm_book.proofs.Resettled.{turned}
 use Rattle.ksm_book.proofs.Standing.{Lives, lives}
-
--- where no frame of the node is left, the dup stays
-pub turned_away : {X : Type 0} {p : PagesView} {k l : KeeperView} {dup : DupRow} {node : ℕ} → MayMove p k dup node → FindsNone k l node
-    → HasRemounted {X = X} p p k l dup node (Err (NoFrame node))
-turned_away may none =
-    let away = turned may.laid may.exists none in
-    grind arith
 
 -- a dup may move to a frame of the node, each item of a dup at its place lies on frame g, and a page without a row on none
 module _ {v : PagesView} {k : KeeperView} {dup : DupRow} {node g : ℕ} (may : MayMove v k dup node)

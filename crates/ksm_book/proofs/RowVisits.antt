@@ -1,9 +1,9 @@
 -- The visit of a row, by what is found: what becomes of the book, and what is done to the frames.
-use Rattle.ksm_book.proofs.Names.{Add, All, All-contains_itself, arith, Best, best_dup, best_dup_has_room, BookState, BookValue, BookView, Bool, change_row, Comes, Contains, doing, DupRow}
+use Rattle.ksm_book.proofs.Names.{Add, All, All-contains_itself, arith, Best, best_dup, best_dup_has_room, BookState, BookView, Bool, change_row, Contains, DupRow}
 use Rattle.ksm_book.proofs.Names.{each_at_page, emptying, false, find_all, find_passes, Frames, GuestPage, handled, handling, HasRoom, HasStayed, IfSome, if◌then◌else◌, is_best, is_restless, IsDupOf}
-use Rattle.ksm_book.proofs.Names.{IsForZero, IsJoined, IsLaid, IsSound, item_count, KeeperStep, KeeperView, leaving, lies_on, List, lying, MakesSteps, mapped, MatchOption, May, MayJoin, MayLeave}
-use Rattle.ksm_book.proofs.Names.{Merged, merged_into, merged_state, MOST_REFERENCES, None, Option, page_visited, PagesView, paired, pairing, partner, Performs, Placed, refl, Row, row_at, row_visited}
-use Rattle.ksm_book.proofs.Names.{row_visiting, shared_state, Some, sound_row_visited, state_of, Sub, subst, sym, true, view_of, VisitsPage, Zero, ℕ, [], ◌-◌, ◌∷◌, ◌≡◌, ◌≤◌}
+use Rattle.ksm_book.proofs.Names.{IsForZero, IsJoined, IsLaid, IsSound, item_count, KeeperStep, KeeperView, leaving, lies_on, lying, MakesSteps, MatchOption, May, MayJoin, MayLeave, Merged}
+use Rattle.ksm_book.proofs.Names.{merged_into, merged_state, MOST_REFERENCES, None, Option, PagesView, paired, pairing, partner, Performs, Placed, refl, Row, row_at, row_visited}
+use Rattle.ksm_book.proofs.Names.{row_visiting, shared_state, Some, sound_row_visited, state_of, Sub, subst, sym, true, VisitsPage, Zero, ℕ, [], ◌-◌, ◌∷◌, ◌≡◌, ◌≤◌}
 use Rattle.frame_table.specs.Kept.{Did}
 use Rattle.ksm_book.proofs.ByPage.{found_page, row_of_page}
 use Rattle.ksm_book.proofs.Keeping.{left_placed, left_spends, may_leave}
@@ -36,11 +36,6 @@ pub stayed_is : (b : BookState) (frame : Frames) (row : Row) (zeroes : Bool) →
 stayed_is b frame row zeroes stays = grind arith
 
 -- ---------------------------------------------------------------- what the visit of a page comes to
-
--- what is so of the row of a page is so of the row that was found
-pub at_row : (P : Row → Type 0) (page : GuestPage) (rows : List Row) (row : Row) → row_at page rows ≡ Some row → MatchOption
-    (row_at page rows) (true ≡ false) P → P row
-at_row P page rows row found is = grind arith
 
 -- a step of the keeper was made, as its call says
 pub made_by : {v w : KeeperView} {e : KeeperStep} → Did v e w → MakesSteps v w (e ∷ [])
@@ -96,13 +91,6 @@ module _ {P : BookState → Row → Type 0} {p : PagesView} {k : KeeperView} {cu
     );
     visits = grind arith;
   }
-
--- where the row of a page was visited, with what that does to the frames, the visit of the page was reached
-pub visit_comes : (v w : BookValue) (page : GuestPage) (row : Row) → row_at page v.state.rows ≡ Some row → is_restless row ≡ true → w.state
-    ≡ row_visited v.state row
-    → Performs (mapped (view_of v)) (mapped (view_of w)) (row_visiting v.state (view_of v).frame row) → Comes v w
-    (λ s. page_visited doing s page)
-visit_comes v w page row found restless state does = grind (arith, made_then)
 
 -- ---------------------------------------------------------------- a page joins a dup
 

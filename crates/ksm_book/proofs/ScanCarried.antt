@@ -1,10 +1,14 @@
 -- A scan carried out: what its visits come to is what the command promises.
-use Rattle.ksm_book.proofs.Names.{arith, BookValue, Comes, doing, Done, false, Fault, HasScanned, IsCarried, IsScanned, length, List, list_any, list_any_none, mergeable_pages, None, none_counted, Ok}
-use Rattle.ksm_book.proofs.Names.{Option, Reply, Row, Scan, scan_stopped, Scanned, Some, true, view_of, visits_beside, ℕ, [], ◌∷◌, ◌≡◌, ◌≤◌}
-use Rattle.ksm_book.proofs.Doing.{scanning_is}
+use Rattle.ksm_book.proofs.Names.{arith, BookValue, Comes, doing, Done, Fault, filter, HasScanned, IsCarried, IsScanned, length, length-filter, length-map, List, list_any}
+use Rattle.ksm_book.proofs.Names.{mergeable_count, mergeable_pages, None, Ok, Option, Reply, Row, Scan, scan_stopped, Scanned, Some, true, view_of, visits_beside, ℕ, [], ◌∙◌, ◌∷◌, ◌≡◌}
+use Rattle.ksm_book.proofs.Names.{◌≤◌}
+use Rattle.ksm_book.proofs.Folded.{scanning_is}
 use Rattle.ksm_book.proofs.Folded.{beside_state}
-use Rattle.ksm_book.proofs.Listed.{some_pages}
 use Rattle.ksm_book.proofs.Reached.{begins, first}
+
+-- scans visit as many pages as there are mergeable rows
+pub some_pages : (rows : List Row) → length (mergeable_pages rows) ≡ mergeable_count rows
+some_pages rows = length-map (filter (λ (r : Row). r.mergeable) rows) (λ (r : Row). r.page) ∙ length-filter (λ (r : Row). r.mergeable) rows
 
 -- ---------------------------------------------------------------- the scan
 
@@ -12,10 +16,6 @@ use Rattle.ksm_book.proofs.Reached.{begins, first}
 any_some : (rows : List Row) → 1 ≤ length (mergeable_pages rows) → list_any (λ r. r.mergeable) rows ≡ true
 any_some [] some = absurd (omega arith)
 any_some (r ∷ rows) some = grind (arith, any_some rows)
-
--- where no page is mergeable, no row is
-pub any_none : (rows : List Row) → length (mergeable_pages rows) ≡ 0 → list_any (λ r. r.mergeable) rows ≡ false
-any_none rows none = grind (arith, list_any_none, none_counted, some_pages)
 
 module _ (v w : BookValue) (count : ℕ) (running : v.state.knobs.run ≡ 1) (table : w.keeper.table ≡ v.keeper.table) where
   -- `Scan` is carried out where visits were made and then the scan stopped, or did not, as it answers

@@ -1,15 +1,14 @@
 -- What the parts of a scan come to: the end of a pass, listed pages in the stead of those ahead, visits up to a page, and whole passes.
-use Rattle.ksm_book.proofs.Names.{Ahead, ap, arith, At, begun, BookState, comes_before, drop_more, End, EndsAt, filter}
-use Rattle.ksm_book.proofs.Names.{get_or_from_slice_get, GuestPage, has_item, InPageOrder, is_none, is_nowhere, IsBeside, IsStill, last_of, last_visited, length, length-take-le, List, mergeable_pages}
-use Rattle.ksm_book.proofs.Names.{min, next_row, None, Option, option_map, pages_ahead, pass_begun, pass_ended, restless_at, Row, slice_get, slice_get-get_or, slice_get_within}
-use Rattle.ksm_book.proofs.Names.{Some, suc, suc-mul, sym, take, true, true≢false, up_to, visit_begun, visits_beside, with_none_waiting, zero, ℕ, [], ◌*◌, ◌+◌, ◌-◌, ◌<◌, ◌^◌, ◌∙◌, ◌∷◌}
-use Rattle.ksm_book.proofs.Names.{◌≡◌, ◌≤◌}
+use Rattle.ksm_book.proofs.Names.{Ahead, ap, arith, At, begun, BookState, BookValue, Comes, comes_before, Deed, drop_more, End, EndsAt, filter, get_or_from_slice_get, GuestPage, has_item}
+use Rattle.ksm_book.proofs.Names.{InPageOrder, is_none, is_nowhere, IsBeside, IsStill, last_of, last_visited, length, length-take-le, List, mergeable_pages, min, next_row, None, Option, option_map}
+use Rattle.ksm_book.proofs.Names.{pages_ahead, pass_begun, pass_ended, pass_ended_at_last, Reached, restless_at, Row, slice_get, slice_get-get_or, slice_get_within, Some, suc, suc-mul, sym, take}
+use Rattle.ksm_book.proofs.Names.{true, true≢false, up_to, visit_begun, visits_beside, with_none_waiting, zero, ℕ, [], ◌*◌, ◌+◌, ◌-◌, ◌<◌, ◌^◌, ◌∙◌, ◌∷◌, ◌≡◌, ◌≤◌}
 use Rattle.ksm_book.proofs.PagesAhead.{place_of, place_splits}
 use Rattle.ksm_pages.proofs.Ranked.{last_of_take}
 use Rattle.std.proofs.lemmas.List.{drop_all, take_all}
 use Rattle.ksm_book.proofs.Going.{begun_goes, elsewhere, settled_goes}
-use Rattle.ksm_book.proofs.Folded.{after, ahead, ahead_then, ascending, begun_folded, beside_on, every_page, next_first, none_next, pages_alike, pages_go, pages_stay, pass_goes_on}
-use Rattle.ksm_book.proofs.Folded.{settled_twice, stood, visits_folded}
+use Rattle.ksm_book.proofs.Folded.{after, ahead, ahead_then, ascending, begun_folded, beside_on, every_page, next_first, none_next, pages_alike, pages_go, pages_stay, pass_goes_on, settled_twice}
+use Rattle.ksm_book.proofs.Folded.{stood, visits_folded}
 
 -- ---------------------------------------------------------------- the beginning of a visit
 
@@ -179,3 +178,30 @@ module _ {X : Type 0} (step : BookState → X → Row → X) (beside : IsBeside 
         let order = ascending step beside s rise (most - 1) place page in
         grind (arith, many, stands, get_or_from_slice_get, slice_get_within (pages s rise) place page stands)
     stopped_fewer (End made) some comes passes = omega (arith, many, slice_get_within (pages s rise) place page stands)
+
+-- ---------------------------------------------------------------- as a pass begins
+
+-- as a pass begins nothing changes but which rows wait
+pub begins_still : {X : Type 0} (s : BookState × X) → IsStill s (pass_begun s.0, s.1)
+begins_still {X} s = grind (arith, settled_twice)
+
+-- what changed only which rows wait changed no more once a pass begins
+pub begun_still : {X : Type 0} (b : BookState) (x : X) (new : BookState × X) → IsStill (b, x) new → IsStill (pass_begun b, x) new
+begun_still {X} b x new still = grind (arith, settled_twice)
+
+-- the book where the pass was ended, if it had gone through all pages, and what a visit finds as it begins
+pub record Closes (w : BookValue) (b : BookState) : Type 0 where
+  -- the rows are in order
+  pub order : InPageOrder b.rows
+  -- the book is where that pass was ended
+  pub state : w.state ≡ pass_ended_at_last b
+  -- the pages ahead are those once a visit begins
+  pub ahead : pages_ahead w.state ≡ pages_ahead (visit_begun b)
+
+-- so it is where that was reached
+pub closed : (v w : BookValue) → InPageOrder v.state.rows → Comes v w (λ s. (pass_ended_at_last s.0, s.1))
+    → (from : BookValue) (s : BookState × Deed) → Reached from v s → Closes w s.0
+closed v w rise comes from s before =
+    let order : InPageOrder s.0.rows = rw (← before.0) rise in
+    let state = (comes from s before).0 in
+    grind (arith, begun_ahead)

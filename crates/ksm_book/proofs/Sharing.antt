@@ -2,18 +2,15 @@
 use Rattle.ksm_base.specs.declared.limits.TheConstants.{MOST_FRAMES, MOST_LIVES, MOST_REFERENCES}
 use Rattle.ksm_book.proofs.Names.{Add, All, All-filter, ap, arith, blank, Bool, change_row, Contains, count_by, count_none, did, DupRow, elsewhere, eq-eqb, false, filter, filter_passes, find}
 use Rattle.ksm_book.proofs.Names.{find_all, find_none, find_passes, frame_at, Frames, frames_of, get_or-set_same, get_or_default, GuestPage, IfSome, if◌then◌else◌, InPageOrder, IsInLife, IsLaid}
-use Rattle.ksm_book.proofs.Names.{IsLoose, IsServed, IsVacant, item_count, KeeperView, leaving, Ledger, ledger_after, length, lies_on, Life, life_or, List, list_any, MakesSteps, May}
-use Rattle.ksm_book.proofs.Names.{MayLeave, Merged, merged_into, merged_state, named_at, None, none_found, Note, Option, PageState, PagesView, place_frame, Placed, Private, Publish, refl, Row, row_at}
-use Rattle.ksm_book.proofs.Names.{RowFits, set, set-get_or, settled, Shape, shared_state, Some, spent, spent_on, Stable, subst, sum_by-le, sym, true, with_dup, with_frame, Withdraw, withdrawing, ℕ}
-use Rattle.ksm_book.proofs.Names.{[], ◌*◌, ◌+◌, ◌-◌, ◌<◌, ◌==◌, ◌∙◌, ◌∷◌, ◌≡◌, ◌≢◌, ◌≤◌}
+use Rattle.ksm_book.proofs.Names.{IsLoose, IsServed, IsVacant, item_count, KeeperView, leaving, Ledger, ledger_after, length, lies_on, Life, life_or, List, list_any, MakesSteps, May, MayLeave}
+use Rattle.ksm_book.proofs.Names.{Merged, merged_into, merged_state, named_at, None, none_found, Note, Option, PageState, PagesView, place_frame, Placed, Private, Publish, refl, Row, row_at, RowFits}
+use Rattle.ksm_book.proofs.Names.{set, set-get_or, settled, Shape, shared_state, Some, spent, spent_on, Stable, subst, sum_by-le, sym, true, with_dup, with_frame, Withdraw, withdrawing, ℕ, [], ◌*◌}
+use Rattle.ksm_book.proofs.Names.{◌+◌, ◌-◌, ◌<◌, ◌==◌, ◌∙◌, ◌∷◌, ◌≡◌, ◌≢◌, ◌≤◌}
 use Rattle.ksm_book.proofs.Moves.{base_is_items, joined, published, Serves, stale_is_loose}
 use Rattle.ksm_book.proofs.Laying.{laid_rows, LodgesAs, served_at, shape_same}
 use Rattle.ksm_book.proofs.Keeping.{added_placed, added_spends, left_placed, left_spends, may_leave, spent_set}
 use Rattle.ksm_book.proofs.Made.{none_made, parts_made, step_made}
 use Rattle.ksm_book.proofs.Withdrawn.{withdrawn}
-
-merged_as : {s : PageState} → merged_state s ≡ true → (n : ℕ) × (s ≡ Merged n)
-merged_as e = grind arith
 
 -- the state of an item of a dup is Merged with the dup's number
 pub state_of_item : (n : ℕ) (s : PageState) → merged_into n s ≡ true → s ≡ Merged n
@@ -37,9 +34,6 @@ module _ {p : PagesView} {k : KeeperView} (h : IsLaid p k) (rise : InPageOrder p
   item_fits : Serves p.shape k.ledger p.dups item g
   item_fits = subst (IsServed p.shape k.ledger p.dups item) there (served_at h.placed _ _ found_item)
 
-  item_stable : (frame_at k.ledger g).kind ≡ Stable
-  item_stable = grind (arith, item_fits)
-
   -- one reference more may come to an item's frame, where its dup has room for one item more
   pub may_join : (d : DupRow) → Contains p.dups d → merged_into d.number item.state ≡ true → item_count p.rows d ≤ MOST_REFERENCES - 1 → May k (Add g)
   may_join d stands into few = grind (arith, item_fits, base_is_items h.placed stands.0 d stands.1)
@@ -50,10 +44,10 @@ module _ {p : PagesView} {k : KeeperView} (h : IsLaid p k) (rise : InPageOrder p
     joined_hand : (w : KeeperView) → MakesSteps k w (Add g ∷ []) → Placed p.shape across w.ledger (change_row page c p.rows)
         (lies_on page (Some g) p.frame) p.dups (p.frame page)
     joined_hand w comes =
-        let q = added_placed comes item_stable item_fits.0.frame h.placed in
+        let q = added_placed comes (grind (arith, item_fits)) item_fits.0.frame h.placed in
         joined _ row _ g c rise found keeps
         (subst (IsServed p.shape w.ledger p.dups item) there (served_at q _ _ found_item)) state bytes
-        (ap shared_state (merged_as merged).1) q
+        (grind arith) q
 
     -- once a reference came to the item's frame, the frame of the page that joins, if it has one, may be left
     pub may_part : (w : KeeperView) → MakesSteps k w (Add g ∷ []) → IfSome (p.frame page) (MayLeave w)
@@ -93,13 +87,6 @@ vacant_loose {k = k} {dups = dups} place p vacant = by _ refl
 -- what a vacant place names is withdrawn, and then it names nothing
 module _ {p : PagesView} {k : KeeperView} (w : KeeperView) (h : IsLaid p k) (place : ℕ) (inside : place < frames_of p.shape)
     (vacant : IsVacant place p.rows p.dups) where
-  -- what is named by a place where no dup with items stands may be withdrawn
-  pub may_clear : May k (Withdraw place)
-  may_clear = (
-    rw h.same inside,
-    vacant_loose _ h.placed vacant,
-  )
-
   -- once what a vacant place names is withdrawn, the place names nothing, and the keeper knows the rest as it was
   pub cleared_ledger : MakesSteps k w (withdrawing p.dups place) → w.ledger ≡ record
       { frames = k.ledger.frames; places = set k.ledger.places place None }

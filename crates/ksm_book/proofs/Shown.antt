@@ -2,9 +2,9 @@
 use Rattle.ksm_book.proofs.Names.{Add, Allocates, AllocatesOn, ap, append-nil, append_cancel_left, arith, blank, Bool, cases_Bool, cond, Contains, Contains-append_right, Contains-push, count_in, did}
 use Rattle.ksm_book.proofs.Names.{drop, dup_frame, DupRow, Dying, dying_kind, dying_on, false, Fault, FindsHeld, FindsNone, frame_at, free_kind, Freeze, frozen, get_or, get_or-range_with_len}
 use Rattle.ksm_book.proofs.Names.{get_or-set_other, get_or-set_same, get_or_past, given_by, Gives, GuestPage, HasLost, HasMoved, inl, inr, IsLowestFree, item_count, KeeperStep, KeeperView, leaving}
-use Rattle.ksm_book.proofs.Names.{Ledger, ledger_after, length, length-append, length-range_with_len, length-set, List, loads, Log, MakesSteps, map, Mapped, Moves, NoFrame, None, NoneLeft, Note, Open}
-use Rattle.ksm_book.proofs.Names.{Option, Provides, Publish, puts, Raise, Reap, reaped, refl, replicate, Resettles, ResettlesEach, Row, set, Shape, Some, Stable, stepped, steps_of, subst, suc, sym}
-use Rattle.ksm_book.proofs.Names.{UnmergesTo, with_frame, Withdraw, zero, ℕ, [], ◌*◌, ◌++◌, ◌+◌, ◌-◌, ◌<◌, ◌==◌, ◌∙◌, ◌∷◌, ◌≡◌, ◌≢◌, ◌≤◌}
+use Rattle.ksm_book.proofs.Names.{Ledger, ledger_after, length, length-append, length-range_with_len, length-set, List, loads, Log, MakesSteps, map, Mapped, Moves, NoFrame, None, NoneLeft, Note}
+use Rattle.ksm_book.proofs.Names.{Open, Option, Provides, Publish, puts, Raise, Reap, reaped, refl, replicate, Resettles, ResettlesEach, Row, set, Shape, Some, Stable, stepped, steps_of, subst, suc}
+use Rattle.ksm_book.proofs.Names.{sym, UnmergesTo, with_frame, zero, ℕ, [], ◌*◌, ◌++◌, ◌+◌, ◌-◌, ◌<◌, ◌==◌, ◌∙◌, ◌∷◌, ◌≡◌, ◌≢◌, ◌≤◌}
 use Rattle.ksm_book.proofs.Keeping.{set_holds}
 use Rattle.ksm_book.proofs.Made.{chained, first_made, made_none, made_then, none_made, step_made, stepped_then}
 use Rattle.ksm_base.proofs.Changes.{contains_filter}
@@ -30,7 +30,7 @@ quiet_loads f i [] = tt
 quiet_loads f i (w ∷ ws) = (refl, quiet_loads f (i + 1) ws)
 
 -- steps made of a list, each of which gives no frame, give none
-quiet_map : {X : Type 0} (make : X → KeeperStep) → ((x : X) → given_by (make x) ≡ None) → (xs : List X)
+pub quiet_map : {X : Type 0} (make : X → KeeperStep) → ((x : X) → given_by (make x) ≡ None) → (xs : List X)
     → GivesNone (map make xs)
 quiet_map make none [] = tt
 quiet_map make none (x ∷ xs) = (none x, quiet_map make none xs)
@@ -39,10 +39,6 @@ quiet_map make none (x ∷ xs) = (none x, quiet_map make none xs)
 pub quiet_adds : (n f : ℕ) → GivesNone (replicate n (Add f))
 quiet_adds zero f = tt
 quiet_adds (suc n) f = (refl, quiet_adds n f)
-
--- the withdrawing of dups from their places gives no frame
-pub quiet_withdraws : (ds : List DupRow) → GivesNone (map (λ d. Withdraw d.place) ds)
-quiet_withdraws ds = grind (arith, quiet_map)
 
 -- a page that leaves its frame, if it has one, makes no step that gives a frame
 pub quiet_leaving : (o : Option ℕ) → GivesNone (leaving o)

@@ -1,8 +1,8 @@
 -- A page waits in the stead of one further on: what becomes of the book, and which pages are due then.
-use Rattle.ksm_book.proofs.Names.{All, ap, AreDue, arith, before_differs, BookState, BookValue, Bool, change_row, change_rows, Comes, comes_before, Deed, doing, due_visited, each_at_page, false}
-use Rattle.ksm_book.proofs.Names.{find_all, find_passes, GuestPage, has_item, hidden_from, idle, is_restless, IsAlone, IsSound, List, map_alike, MatchOption, not, not_both, page_visited, partner}
-use Rattle.ksm_book.proofs.Names.{Reached, Row, row_at, same_page, same_page_eq, same_page_refl, same_page_sym, settled, Some, StaysBefore, subst, sym, taken_over, takes_over, TakesOverFrom, true}
-use Rattle.ksm_book.proofs.Names.{view_of, waits_for, waits_tells, WaitsFor, ◌&&◌, ◌||◌, ◌∙◌, ◌∷◌, ◌≡◌}
+use Rattle.ksm_book.proofs.Names.{All, ap, AreDue, arith, before_differs, BookState, BookValue, Bool, change_row, change_rows, Comes, comes_before, Deed, doing, due_visited, each_at_page, find_all}
+use Rattle.ksm_book.proofs.Names.{find_passes, GuestPage, has_item, hidden_from, idle, is_restless, IsAlone, IsSound, List, map_alike, not, not_both, page_visited, partner, Reached, Row, row_at}
+use Rattle.ksm_book.proofs.Names.{same_page, same_page_eq, same_page_refl, same_page_sym, settled, Some, StaysBefore, subst, sym, taken_over, takes_over, true, view_of, waits_for, waits_tells}
+use Rattle.ksm_book.proofs.Names.{WaitsFor, ◌&&◌, ◌||◌, ◌∙◌, ◌∷◌, ◌≡◌}
 use Rattle.ksm_book.proofs.DueAlike.{freed_found, one_waits, taken_is, veiled_over}
 use Rattle.ksm_book.proofs.ByPage.{found_page, row_of_page}
 use Rattle.ksm_book.proofs.DueKept.{more_due, taken_due}
@@ -20,11 +20,6 @@ pub record Takes (b : BookState) (page other : GuestPage) : Type 0 where
   pub waiter : Row
   pub waits : partner b.knobs b.rows row ≡ Some waiter
   pub is : other ≡ waiter.page
-
--- where that is told of the row of a page, it is so
-pub takes_from : {b : BookState} {page other : GuestPage} → IsSound b
-    → MatchOption (row_at page b.rows) (true ≡ false) (TakesOverFrom b other) → Takes b page other
-takes_from sound told = grind arith
 
 same_tests : (p q : Bool) → (p ≡ true → q ≡ true) → (q ≡ true → p ≡ true) → p ≡ q
 same_tests p q to from = grind arith

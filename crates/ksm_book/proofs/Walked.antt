@@ -1,74 +1,118 @@
--- A walk from one page that a visit may change to the next comes to the visits of all pages ahead.
+-- A walk from one page that is visited to the next comes to the visits of all pages ahead, where visits of those passed over do nothing.
 use Rattle.std.proofs.lemmas.List.Sums.{fold-append}
-use Rattle.ksm_book.proofs.Names.{after_cursor, All, All-filter, AllPairs-filter, ap, AreAscending, AreDue, arith, before_irrefl, BookState, BookValue, Bool, Comes, comes_before, Deed, doing}
-use Rattle.ksm_book.proofs.Names.{each_at_page, false, filter, filter_passes, find_all, get_or, GuestPage, has_item, InPageOrder, is_restless, IsDueNoMore, IsStill, List, mergeable_pages, None, not}
-use Rattle.ksm_book.proofs.Names.{one_before, Option, page_visited, pages_ahead, pages_visited, Reached, refl, restless_at, restless_row, Row, row_at, same_page, same_page_eq, Some, subst, sym, true}
-use Rattle.ksm_book.proofs.Names.{true≢false, up_to, [], ◌&&◌, ◌++◌, ◌∙◌, ◌∷◌, ◌≡◌}
+use Rattle.std.proofs.Math.Seq.{take-suc}
+use Rattle.std.specs.Prelude.{fold}
+use Rattle.ksm_book.proofs.Names.{after_cursor, All, All-cons, All-filter, All-head, All-tail, ap, AreAscending, AreDue, arith, BookState, BookValue, Bool, cases_Bool, Comes, comes_before, Deed}
+use Rattle.ksm_book.proofs.Names.{doing, each_at_page, false, filter, filter_none, filter_passes, find_all, get_or, get_or_from_slice_get, GuestPage, has_item, if◌then◌else◌, inl, InPageOrder, inr}
+use Rattle.ksm_book.proofs.Names.{is_restless, IsDueNoMore, IsSound, IsStill, List, mergeable_pages, nat_lt, None, not, one_before, Option, page_visited, pages_ahead, pairs_head, pairs_tail, Reached}
+use Rattle.ksm_book.proofs.Names.{refl, restless_at, restless_row, Row, row_at, same_page, same_page_eq, slice_get_within, Some, sound_row_visited, subst, suc, sym, take, true, true≢false, up_to, ℕ}
+use Rattle.ksm_book.proofs.Names.{[], ◌*◌, ◌++◌, ◌+◌, ◌-◌, ◌<◌, ◌^◌, ◌∙◌, ◌∷◌, ◌≡◌}
 use Rattle.ksm_pages.specs.Ahead.{FindsNext}
-use Rattle.ksm_book.specs.Scanned.{ahead_up_to, FindsUpTo, StaysStill, StopsBefore}
-use Rattle.ksm_book.proofs.ByPage.{found_page}
-use Rattle.ksm_book.proofs.Folded.{ascending_ahead, pages_go, same_restless, still_on}
-use Rattle.ksm_book.proofs.Going.{Goes}
-use Rattle.ksm_book.proofs.PagesAhead.{after_later, Before, cursor_down, has_filter, parted, passing}
-use Rattle.ksm_book.proofs.Reached.{begins, comes_to, first as at_first}
+use Rattle.ksm_book.specs.Scanned.{ahead_before, ahead_up_to, FindsUpTo, StaysStill}
+use Rattle.ksm_book.proofs.Along.{FitsPage}
+use Rattle.ksm_book.proofs.ByPage.{found_page, row_of_page}
+use Rattle.ksm_book.proofs.Folded.{ascending_ahead, pages_go, still_on}
+use Rattle.ksm_book.proofs.PagesAhead.{after_later, Before, has_filter, place_of, place_splits}
+use Rattle.ksm_book.proofs.Reached.{Agree, agree, comes_to}
 use Rattle.ksm_book.proofs.Scanned.{restless_mergeable}
 
--- what is so of the page of each row that a visit may change is so of each page whose row one may
-all_restless : (P : GuestPage → Type 0) (rows : List Row) → All (λ r. is_restless r ≡ true → P r.page) rows
-    → (page : GuestPage)
-    → restless_at page rows ≡ true → P page
-all_restless P rows each page is = by _ refl is
-  where
-    by : (o : Option Row) → row_at page rows ≡ o → restless_row o ≡ true → P page
-    by None found is = absurd (true≢false (sym is))
-    by (Some r) found is =
-        subst P (found_page page rows r found)
-        (find_all (λ s. same_page s.page page) (λ s. is_restless s ≡ true → P s.page) rows r found each is)
+-- the visit of a page, with what it does beside
+abbrev pub Visit : Type 0
+Visit = BookState × Deed → GuestPage → BookState × Deed
+
+-- the visit of a page does nothing to a book
+abbrev pub Rests : Visit → BookState → GuestPage → Type 0
+Rests visit b page = (deed : Deed) → visit (b, deed) page ≡ (b, deed)
+
+-- a visit keeps a book sound, and which pages scans visit; and does nothing where the page has no row that a visit may change
+pub record IsVisit (visit : Visit) : Type 0 where
+  pub sound : (b : BookState) (deed : Deed) (page : GuestPage) → IsSound b → IsSound (visit (b, deed) page).0
+  pub mergeable : (b : BookState) (deed : Deed) (page : GuestPage) → IsSound b
+      → mergeable_pages (visit (b, deed) page).0.rows ≡ mergeable_pages b.rows
+  pub calm : (b : BookState) (page : GuestPage) → restless_at page b.rows ≡ false → Rests visit b page
 
 -- the pages ahead that are not behind a cursor were visited
-abbrev pub walked_to : Option GuestPage → BookState × Deed → BookState × Deed
-walked_to reached s = pages_visited doing s (filter (λ p. not (after_cursor reached p)) (pages_ahead s.0))
+abbrev pub walked_to : Visit → Option GuestPage → BookState × Deed → BookState × Deed
+walked_to visit reached s = fold visit s (filter (λ p. not (after_cursor reached p)) (pages_ahead s.0))
 
--- a cursor that comes not before that of the book
-module _ (s : BookState × Deed) (rise : InPageOrder s.0.rows) (reached : Option GuestPage)
-    (behind : (p : GuestPage) → after_cursor reached p ≡ true → after_cursor s.0.cursor p ≡ true) where
-  abbrev all : List GuestPage
-  all = pages_ahead s.0
+-- ---------------------------------------------------------------- visits of some pages
 
-  abbrev passed : GuestPage → Bool
-  passed p = not (after_cursor reached p)
+module _ (visit : Visit) where
+  -- visits that do nothing
+  pub resting : (pages : List GuestPage) (s : BookState × Deed) → All (Rests visit s.0) pages → fold visit s pages ≡ s
+  resting [] s rest = refl
+  resting (page ∷ pages) s rest =
+      ap (λ z. fold visit z pages) (All-head (Rests visit s.0) page pages rest s.1)
+      ∙ resting pages s (All-tail (Rests visit s.0) page pages rest)
 
-  rises : AreAscending all
-  rises = ascending_ahead s.0 rise
+  module _ (reached : Option GuestPage) where
+    abbrev passed : GuestPage → Bool
+    passed p = not (after_cursor reached p)
 
-  went : Goes s.0.rows (walked_to reached s).0.rows
-  went = pages_go doing (filter passed all) s rise
+    -- visits of more pages come to the same, where those of pages behind the cursor do nothing then
+    more : (t : GuestPage → Bool) (pages : List GuestPage) (s c : BookState × Deed) → fold visit s (filter passed pages) ≡ c
+        → AreAscending pages → All (λ q. passed q ≡ true → t q ≡ true) pages
+        → ((q : GuestPage) → after_cursor reached q ≡ true → t q ≡ true → Rests visit c.0 q) → fold visit s (filter t pages) ≡ c
+    more t [] s c came rise near rest = came
+    more t (p ∷ pages) s c came rise near rest = elim (cases_Bool (after_cursor reached p)) [
+      | inl here ↦
+          let behind = All-cons (λ q. after_cursor reached q ≡ true) p pages here
+          (λ k d lt. after_later reached p (get_or pages k d) here (pairs_head Before p pages rise k d lt)) in
+          let same : s ≡ c = ap (fold visit s) (sym (filter_none passed (p ∷ pages) (grind (arith, behind)))) ∙ came in
+          resting (filter t (p ∷ pages)) s (λ k d lt. subst (λ z. Rests visit z.0 (get_or (filter t (p ∷ pages)) k d)) (sym same)
+          (rest _ (All-filter t (λ q. after_cursor reached q ≡ true) (p ∷ pages) behind k d lt)
+          (filter_passes t (p ∷ pages) k d lt)))
+          ∙ same
+      | inr over ↦
+          rw (near 0 p (omega arith) (ap not over))
+          (more t pages (visit s p) c (rw over at came) (pairs_tail Before p pages rise)
+          (λ k d lt. near (suc k) d (omega arith)) rest)
+    ]
 
-  -- of the restless pages those are ahead that come behind the book's cursor
-  there : (x : GuestPage) → restless_at x (walked_to reached s).0.rows ≡ true
-      → has_item x all ≡ after_cursor s.0.cursor x
-  there x is = grind (arith, has_filter, restless_mergeable x (walked_to reached s).0.rows is, went.mergeable)
+    -- of pages in order those were visited that are not behind the cursor
+    module _ (s : BookState × Deed) (pages : List GuestPage) (rise : AreAscending pages) where
+      abbrev came : BookState × Deed
+      came = fold visit s (filter passed pages)
 
-  -- the visits of the pages ahead that pass a test go on with those of any pages that have the same restless ones
-  walk_on : (t : GuestPage → Bool) (pages : List GuestPage) → AreAscending pages
-      → ((q : GuestPage) → after_cursor s.0.cursor q ≡ true → after_cursor reached q ≡ false → t q ≡ true)
-      → ((x : GuestPage) → restless_at x (walked_to reached s).0.rows ≡ true → has_item x pages ≡ (after_cursor reached x && t x))
-      → pages_visited doing s (filter t all) ≡ pages_visited doing (walked_to reached s) pages
-  walk_on t pages rising more same =
-      let rest = filter (λ p. not (passed p)) (filter t all) in
-      let within : All (λ q. passed q ≡ true → t q ≡ true) all =
-      λ k d lt is. more _ (filter_passes (after_cursor s.0.cursor) _ k d lt) (grind arith) in
-      ap (pages_visited doing s) (parted passed (cursor_down reached) (filter t all) (AllPairs-filter Before t all rises)
-      ∙ ap (λ l. l ++ rest) (passing t passed all within))
-      ∙ fold-append (page_visited doing) s (filter passed all) rest
-      ∙ same_restless doing rest pages (walked_to reached s) (went.order rise)
-      (AllPairs-filter Before _ _ (AllPairs-filter Before t all rises)) rising
-      (λ x is. grind (arith, has_filter, there x is, same x is, behind x))
+      -- visits of pages between the cursor and one behind it do nothing
+      module _ (page : GuestPage) (behind : after_cursor reached page ≡ true)
+          (between : (q : GuestPage) → after_cursor reached q ≡ true → comes_before q page ≡ true → Rests visit came.0 q) where
+        before : fold visit s (filter (λ p. comes_before p page) pages) ≡ came
+        before = more (λ p. comes_before p page) pages s came refl rise (λ k d lt out. grind arith) between
+
+        next : (has_item page pages ≡ false → Rests visit came.0 page)
+            → fold visit s (filter (λ p. not (comes_before page p)) pages) ≡ visit came page
+        next out = elim (cases_Bool (has_item page pages)) [
+          | inl there ↦
+              let at = place_of page pages there in
+              let splits = place_splits pages at.0 page rise at.1 in
+              ap (fold visit s) (splits.1 ∙ take-suc pages at.0 page (slice_get_within pages at.0 page at.1)
+              ∙ ap (λ p. take at.0 pages ++ p ∷ []) (get_or_from_slice_get pages at.0 page page at.1)
+              ∙ ap (λ l. l ++ page ∷ []) (sym splits.0))
+              ∙ fold-append visit s (filter (λ p. comes_before p page) pages) (page ∷ [])
+              ∙ ap (λ z. visit z page) before
+          | inr off ↦
+              more (λ p. not (comes_before page p)) pages s came refl rise
+              (λ k d lt out. grind (arith, after_later reached page (get_or pages k d) behind))
+              (λ q after up. elim (cases_Bool (comes_before q page)) [
+                | inl low ↦ between q after low
+                | inr high ↦
+                    subst (Rests visit came.0) (same_page_eq page q (grind (arith, one_before page q))) (out off)
+              ])
+              ∙ sym (out off came.1)
+        ]
+
+-- ---------------------------------------------------------------- a walk
 
 -- a walk up to the last page has reached a page
-pub record IsWalking (last : Option GuestPage) (old now : BookValue) (reached : Option GuestPage) : Type 0 where
+pub record IsWalking (visit : Visit) (last : Option GuestPage) (old now : BookValue) (reached : Option GuestPage) : Type 0 where
+  -- the book was sound, and is so
+  pub began : IsSound old.state
+  pub sound : IsSound now.state
+  -- scans visit the same pages
+  pub mergeable : mergeable_pages now.state.rows ≡ mergeable_pages old.state.rows
   -- the pages ahead up to there were visited
-  pub comes : Comes old now (walked_to reached)
+  pub comes : Comes old now (walked_to visit reached)
   -- it is not before the cursor
   pub behind : (p : GuestPage) → after_cursor reached p ≡ true → after_cursor old.state.cursor p ≡ true
   -- nor behind the last page
@@ -76,103 +120,137 @@ pub record IsWalking (last : Option GuestPage) (old now : BookValue) (reached : 
       → up_to last p ≡ true
 
 -- up to the book's cursor no page ahead was visited
-none_walked : (s : BookState × Deed) → walked_to s.0.cursor s ≡ s
-none_walked s = ap (pages_visited doing s) (none s.0.cursor (mergeable_pages s.0.rows))
-  where
-    none : (cursor : Option GuestPage) (pages : List GuestPage)
-        → filter (λ p. not (after_cursor cursor p)) (filter (after_cursor cursor) pages) ≡ []
-    none cursor [] = refl
-    none cursor (p ∷ pages) = grind (arith, none cursor pages)
+none_walked : (visit : Visit) (s : BookState × Deed) → walked_to visit s.0.cursor s ≡ s
+none_walked visit s =
+    let pages = mergeable_pages s.0.rows in
+    ap (fold visit s) (filter_none (λ p. not (after_cursor s.0.cursor p)) (filter (after_cursor s.0.cursor) pages)
+    (grind (arith, filter_passes (after_cursor s.0.cursor) pages)))
 
--- a walk begins at the book's cursor
-pub begins_walk : (last : Option GuestPage) (v : BookValue) (reached : Option GuestPage) → reached ≡ v.state.cursor
-    → IsWalking last v v reached
-begins_walk last v reached at = record {
-  comes = λ from s before. grind (arith, none_walked s);
-  behind = λ p is. grind arith;
-  within = λ p is out. absurd (true≢false (sym is ∙ (λ i. after_cursor (sym at i) p) ∙ out));
-}
+module _ (visit : Visit) (v : BookValue) (reached : Option GuestPage) (at : reached ≡ v.state.cursor) where
+  -- a walk begins at the book's cursor
+  pub begins_walk : (last : Option GuestPage) → IsSound v.state → IsWalking visit last v v reached
+  begins_walk last sound = record {
+    began = sound;
+    sound = sound;
+    mergeable = refl;
+    comes = λ from s before. grind (arith, none_walked visit s);
+    behind = λ p is. grind arith;
+    within = λ p is out. absurd (true≢false (sym is ∙ (λ i. after_cursor (sym at i) p) ∙ out));
+  }
 
--- and has changed nothing then
-pub begins_still : (v : BookValue) (reached : Option GuestPage) → reached ≡ v.state.cursor
-    → StaysStill v (walked_to reached)
-begins_still v reached at from s before = grind (arith, none_walked s)
+  -- and has changed nothing then
+  pub begins_still : StaysStill v (walked_to visit reached)
+  begins_still from s before = grind (arith, none_walked visit s)
 
-module _ {last : Option GuestPage} {old mid : BookValue} (rise : InPageOrder old.state.rows) {reached : Option GuestPage}
-    (w : IsWalking last old mid reached) where
-  -- what the walk comes to, where these pages are left of those that pass a test
-  left : (t : GuestPage → Bool) (pages : List GuestPage) → AreAscending pages
-      → ((q : GuestPage) → after_cursor old.state.cursor q ≡ true → after_cursor reached q ≡ false → t q ≡ true)
-      → ((x : GuestPage) → restless_at x mid.state.rows ≡ true → has_item x pages ≡ (after_cursor reached x && t x))
-      → (from : BookValue) (s : BookState × Deed) → Reached from old s
-      → pages_visited doing s (filter t (pages_ahead s.0)) ≡ pages_visited doing (walked_to reached s) pages
-  left t pages rising more same from s before =
-      let is = (w.comes from s before).0 in
-      walk_on s (rw (← before.0) rise) reached (rw (← before.0) w.behind) t pages rising (rw (← before.0) more) (rw (← is) same)
+module _ {visit : Visit} (is : IsVisit visit) {last : Option GuestPage} {old mid : BookValue} {reached : Option GuestPage}
+    (w : IsWalking visit last old mid reached) where
+  abbrev pages : List GuestPage
+  pages = pages_ahead old.state
 
-  -- where no restless page is left up to the last, all pages ahead up to it were visited
-  pub walk_ends : FindsUpTo last reached mid.state.rows None → (from : BookValue) (s : BookState × Deed)
-      → Reached from old s
-      → walked_to reached s ≡ pages_visited doing s (ahead_up_to last s.0)
-  walk_ends none from s before = sym (left (up_to last) [] (λ i j d less lt. absurd (omega arith)) w.within
-      (λ x is. grind (arith, all_restless (λ p. after_cursor reached p ≡ true → up_to last p ≡ false) mid.state.rows none x is)) from s before)
+  rises : AreAscending pages
+  rises = ascending_ahead old.state w.began.rows_rise
 
-  module _ (page : GuestPage) (next : FindsNext reached mid.state.rows (Some page)) where
-    -- a restless page behind the one reached does not come before the next
-    not_before : (x : GuestPage) → restless_at x mid.state.rows ≡ true → after_cursor reached x ≡ true
-        → comes_before x page ≡ false
-    not_before = all_restless (λ p. after_cursor reached p ≡ true → comes_before p page ≡ false) mid.state.rows next.1
+  -- where visits of the pages left up to the last do nothing, all pages ahead up to it were visited
+  pub walk_ends : ((q : GuestPage) → after_cursor reached q ≡ true → up_to last q ≡ true → Rests visit mid.state q)
+      → Agree old (walked_to visit reached) (λ s. fold visit s (ahead_up_to last s.0))
+  walk_ends rest = agree old mid (walked_to visit reached) w.comes (λ deed at. sym (more visit reached (up_to last) pages (old.state, deed) _ refl rises
+      (λ k d lt out. w.within (get_or pages k d)
+      (filter_passes (after_cursor old.state.cursor) (mergeable_pages old.state.rows) k d lt) (grind arith))
+      (λ q after inside. subst (λ (b : BookState). Rests visit b q) at (rest q after inside))))
 
-    -- with the visit of the next page the pages ahead up to it were visited
-    step : (from : BookValue) (s : BookState × Deed) → Reached from old s
-        → walked_to (Some page) s ≡ page_visited doing (walked_to reached s) page
-    step from s before = left (λ p. not (comes_before page p)) (page ∷ []) (λ i j d less lt. absurd (omega arith))
-        (λ q _ out. grind (arith, after_later reached page q next.0))
-        (λ x is. grind (arith, not_before x is, one_before, before_irrefl, same_page_eq page x, next.0)) from s before
+  -- so they do up to a page behind the one reached
+  module _ (page : GuestPage) (behind : after_cursor reached page ≡ true)
+      (between : (q : GuestPage) → after_cursor reached q ≡ true → comes_before q page ≡ true → Rests visit mid.state q) where
+    -- where a visit may change its row, it is one of those ahead
+    pub is_ahead : restless_at page mid.state.rows ≡ true → has_item page pages ≡ true
+    is_ahead restless =
+        grind (arith, has_filter, restless_mergeable page mid.state.rows restless, w.mergeable, w.behind page behind)
+
+    -- the pages ahead before it were visited
+    pub before_it : Agree old (walked_to visit reached) (λ s. fold visit s (ahead_before page s.0))
+    before_it = agree old mid (walked_to visit reached) w.comes (λ deed at. sym (before visit reached (old.state, deed) pages rises page behind
+        (λ q after low. subst (λ (b : BookState). Rests visit b q) at (between q after low))))
+
+    -- with its visit the pages ahead up to it were visited
+    step : Agree old (walked_to visit (Some page)) (λ s. visit (walked_to visit reached s) page)
+    step = agree old mid (walked_to visit reached) w.comes (λ deed at. next visit reached (old.state, deed) pages rises page behind
+        (λ q after low. subst (λ (b : BookState). Rests visit b q) at (between q after low))
+        (λ off. subst (λ (b : BookState). Rests visit b page) at (is.calm mid.state page (grind (arith, is_ahead)))))
 
     -- the walk has reached that page once it was visited
-    pub walks_on : up_to last page ≡ true → {new : BookValue} → Comes mid new (λ s. page_visited doing s page)
-        → IsWalking last old new (Some page)
-    walks_on inside {new} visit = record {
-      comes = λ from s before. subst (Reached from new) (sym (step from s before)) (visit from _ (w.comes from s before));
-      behind = λ p is. w.behind p (after_later reached page p next.0 is);
-      within = λ p _ out. grind (arith, up_to);
-    }
+    pub walks_on : up_to last page ≡ true → {new : BookValue} → Comes mid new (λ s. visit s page)
+        → IsWalking visit last old new (Some page)
+    walks_on inside {new} visits =
+        let state = comes_to mid new (λ s. visit s page) visits in
+        record {
+          began = w.began;
+          sound = rw state (is.sound mid.state _ page w.sound);
+          mergeable = rw state (is.mergeable mid.state _ page w.sound ∙ w.mergeable);
+          comes = λ from s before.
+              subst (Reached from new) (sym (step.same from s before)) (visits from _ (w.comes from s before));
+          behind = λ p after. w.behind p (after_later reached page p behind after);
+          within = λ p _ out. grind (arith, up_to);
+        }
 
     -- and nothing has changed but which rows wait, if the visit changed no more
-    pub still_walks : StaysStill old (walked_to reached) → StaysStill mid (λ s. page_visited doing s page)
-        → StaysStill old (walked_to (Some page))
-    still_walks still visit from s before = subst (IsStill s) (sym (step from s before))
-        (still_on s _ _ (still from s before) (visit from _ (w.comes from s before)))
+    pub still_walks : StaysStill old (walked_to visit reached) → StaysStill mid (λ s. visit s page)
+        → StaysStill old (walked_to visit (Some page))
+    still_walks still visits from s before = subst (IsStill s) (sym (step.same from s before))
+        (still_on s _ _ (still from s before) (visits from _ (w.comes from s before)))
 
-    -- where that page was not visited, those before it were
-    pub walk_stops : up_to last page ≡ true → {new : BookValue} → Comes mid new (λ s. s)
-        → restless_at page new.state.rows ≡ true
-        → StopsBefore old new last page
-    walk_stops inside {new} stays restless = record {
-      within = inside;
-      ahead =
-          let s = at_first old in
-          let same = (w.comes old s (begins old)).0 in
-          let is : restless_at page (walked_to reached s).0.rows ≡ true =
-          subst (λ (b : BookState). restless_at page b.rows ≡ true) (comes_to mid new (λ s. s) stays ∙ same) restless in
-          there s rise reached w.behind page is ∙ w.behind page next.0;
-      comes = λ from s before. subst (Reached from new)
-          (sym (left (λ p. comes_before p page) [] (λ i j d less lt. absurd (omega arith))
-          (λ q _ out. grind (arith, next.0)) (λ x is. grind (arith, not_before x is)) from s before))
-          (stays from _ (w.comes from s before));
-    }
+-- ---------------------------------------------------------------- visits of the definitions
 
-    -- the pages behind it are due, if those behind the page reached were, and it is due no more
-    pub due_walks : (pages : List GuestPage) (new : BookState) → IsDueNoMore page mid.state new
-        → AreDue mid.state (filter (after_cursor reached) pages) → AreDue new (filter (after_cursor (Some page)) pages)
-    due_walks pages new no_more was = no_more _ (λ k d lt restless out.
-        was k d lt restless (grind (arith, has_filter, next.1 k d lt restless, one_before, same_page_eq)))
+-- what is so of a page whose row no visit may change, and of that of each row that one may, is so of each page
+pub by_row : (P : GuestPage → Type 0) (page : GuestPage) (rows : List Row) → (restless_at page rows ≡ false → P page)
+    → ((r : Row) → row_at r.page rows ≡ Some r → is_restless r ≡ true → P r.page) → P page
+by_row P page rows calm some = by _ refl
+  where
+    by : (o : Option Row) → row_at page rows ≡ o → P page
+    by None found = calm (ap restless_row found)
+    by (Some r) found = elim (cases_Bool (is_restless r)) [
+      | inl restless ↦
+          let at = found_page page rows r found in
+          subst P at (some r (ap (λ q. row_at q rows) at ∙ found) restless)
+      | inr stays ↦ calm (ap restless_row found ∙ stays)
+    ]
 
-  -- where no restless page is left behind it, nothing is due
-  pub due_ends : (pages : List GuestPage) → FindsUpTo None reached mid.state.rows None
-      → AreDue mid.state (filter (after_cursor reached) pages) → AreDue mid.state []
-  due_ends pages none was k d lt restless out = was k d lt restless (grind (arith, has_filter, none k d lt restless))
+-- so is the visit of a page by the definitions
+pub visits_page : IsVisit (page_visited doing)
+visits_page = record {
+  sound = λ b deed page sound. by_row (λ p. IsSound (page_visited doing (b, deed) p).0) page b.rows (grind arith)
+      (λ r found restless. rw (found, restless) (sound_row_visited b r (grind (arith, row_of_page)) sound));
+  mergeable = λ b deed page sound. (pages_go doing (page ∷ []) (b, deed) sound.rows_rise).mergeable;
+  calm = λ b page calm deed. grind arith;
+}
+
+-- what is so of the page of each row that a visit may change is so of each page whose row one may
+all_restless : (P : GuestPage → Type 0) (rows : List Row) → All (λ r. is_restless r ≡ true → P r.page) rows
+    → (page : GuestPage) → restless_at page rows ≡ true → P page
+all_restless P rows each page is =
+    by_row (λ q. restless_at q rows ≡ true → P q) page rows (λ calm restless. absurd (true≢false (sym restless ∙ calm)))
+    (λ r found restless _.
+    find_all (λ s. same_page s.page r.page) (λ s. is_restless s ≡ true → P s.page) rows r found each restless) is
+
+-- where a search finds none, visits of pages up to the last do nothing
+pub rests_up_to : (b : BookState) (last reached : Option GuestPage) → FindsUpTo last reached b.rows None → (q : GuestPage)
+    → after_cursor reached q ≡ true → up_to last q ≡ true → Rests (page_visited doing) b q
+rests_up_to b last reached none q after inside = visits_page.calm b q
+    (grind (arith, all_restless (λ p. after_cursor reached p ≡ true → up_to last p ≡ false) b.rows none q))
+
+-- and so do those of pages before the one that it finds
+pub rests_before : (b : BookState) (reached : Option GuestPage) (page : GuestPage) → FindsNext reached b.rows (Some page)
+    → (q : GuestPage) → after_cursor reached q ≡ true → comes_before q page ≡ true → Rests (page_visited doing) b q
+rests_before b reached page found q after low = visits_page.calm b q
+    (grind (arith, all_restless (λ p. after_cursor reached p ≡ true → comes_before p page ≡ false) b.rows found.1 q))
+
+-- ---------------------------------------------------------------- what is due
+
+-- the pages behind a page that was visited are due, if those behind the page reached were, and it is due no more
+pub due_walks : (b : BookState) (reached : Option GuestPage) (page : GuestPage) (all : List GuestPage) (new : BookState)
+    → FindsNext reached b.rows (Some page) → IsDueNoMore page b new
+    → AreDue b (filter (after_cursor reached) all) → AreDue new (filter (after_cursor (Some page)) all)
+due_walks b reached page all new found no_more was = no_more _ (λ k d lt restless out.
+    was k d lt restless (grind (arith, has_filter, found.1 k d lt restless, one_before, same_page_eq)))
 
 -- as a walk begins before all pages, those that scans visit are due
 pub due_begins : (b : BookState) → InPageOrder b.rows → AreDue b (filter (after_cursor None) (mergeable_pages b.rows))
@@ -181,3 +259,19 @@ due_begins b rise k d lt restless out =
     let there : has_item page (mergeable_pages b.rows) ≡ true =
     restless_mergeable page b.rows (grind (arith, each_at_page b.rows rise k d lt)) in
     absurd (grind (arith, has_filter))
+
+-- ---------------------------------------------------------------- how far a walk can go
+
+-- a page's number in its guest, or the greatest there is
+abbrev page_in : ℕ → ℕ
+page_in page = if nat_lt page (2 ^ 32) then page else 2 ^ 32 - 1
+
+-- how many pages there may be behind a cursor
+abbrev pub room_behind : Option GuestPage → ℕ
+room_behind None = 2 ^ 48 + 1
+room_behind (Some p) = 2 ^ 48 - (p.guest * 2 ^ 32 + page_in p.page)
+
+-- there are fewer behind a page that is behind the cursor
+pub less_room : (cursor : Option GuestPage) (page : GuestPage) → FitsPage (Some page) → after_cursor cursor page ≡ true
+    → room_behind (Some page) < room_behind cursor
+less_room cursor page h2 behind = grind arith

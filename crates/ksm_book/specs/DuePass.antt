@@ -9,7 +9,7 @@ use Rattle.ksm_base.specs.Visit.{partner, pass_begun}
 use Rattle.ksm_pages.specs.Paged.{is_restless}
 use Rattle.ksm_book.specs.Due.{due_visits, hidden_from, takes_over}
 use Rattle.ksm_book.specs.Folded.{pages_ahead, pages_visited}
-use Rattle.ksm_book.specs.Scanned.{Comes, Reached, ahead_before, ahead_up_to, doing, up_to}
+use Rattle.ksm_book.specs.Scanned.{Reached, Stops, ahead_before, ahead_up_to, doing}
 use Rattle.ksm_book.specs.Whole.{BookValue, mapped, view_of}
 
 -- from the one to the other it came to this book, but for which rows from a page on wait, and this was done to the frames
@@ -26,12 +26,8 @@ abbrev pub part_before : GuestPage → BookState × Deed → BookState × Deed
 part_before page s = let t : BookState × Deed = (pass_begun s.0, s.1) in pages_visited doing t (ahead_before page t.0)
 
 -- the visits of such a part stopped before a page
-pub record StopsInPart (old new : BookValue) (last : Option GuestPage) (page : GuestPage) : Type 0 where
-  -- it is one of them
-  pub within : up_to last page ≡ true
-  pub ahead : has_item page (pages_ahead old.state) ≡ true
-  -- those before it were visited
-  pub comes : Comes old new (part_before page)
+abbrev pub StopsInPart : BookValue → BookValue → Option GuestPage → GuestPage → Type 0
+StopsInPart old new last page = Stops old new last page (part_before page)
 
 -- whatever was reached before, nothing changed but which rows from a page on wait
 abbrev pub StaysBefore : GuestPage → BookValue → BookValue → Type 0

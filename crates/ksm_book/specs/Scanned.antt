@@ -112,12 +112,16 @@ is_quiet Shared = false
 is_quiet Gone = true
 
 -- the visits of the pages ahead up to the last one, or of all of them, stopped before a page
-pub record StopsBefore (old new : BookValue) (last : Option GuestPage) (page : GuestPage) : Type 0 where
+pub record Stops (old new : BookValue) (last : Option GuestPage) (page : GuestPage)
+    (visits : BookState × Deed → BookState × Deed) : Type 0 where
   -- it is one of them
   pub within : up_to last page ≡ true
   pub ahead : has_item page (pages_ahead old.state) ≡ true
   -- those before it were visited
-  pub comes : Comes old new (λ s. pages_visited doing s (ahead_before page s.0))
+  pub comes : Comes old new visits
+
+abbrev pub StopsBefore : BookValue → BookValue → Option GuestPage → GuestPage → Type 0
+StopsBefore old new last page = Stops old new last page (λ s. pages_visited doing s (ahead_before page s.0))
 
 -- so many visits were made
 pub record GoesOn (old new : BookValue) (most made : ℕ) : Type 0 where

@@ -12,8 +12,8 @@ ghost use Rattle.ksm_pages.specs.Paged.{IsAlone};
 ghost use Rattle.ksm_book.specs.Due.{AreDue, due_visited, due_visits, hidden_from};
 ghost use Rattle.ksm_book.specs.DuePass.{StaysBefore, StopsDue, StopsInPart, TakesOverFrom};
 ghost use Rattle.ksm_book.specs.DuePass.{part_visited};
-ghost use Rattle.ksm_book.specs.Folded.{pages_ahead, restless_at};
-ghost use Rattle.ksm_book.specs.Scanned.{Comes, HasVisited, doing};
+ghost use Rattle.ksm_book.specs.Folded.{restless_at};
+ghost use Rattle.ksm_book.specs.Scanned.{Comes, HasVisited, ahead_up_to, doing};
 
 use crate::due::Due;
 use crate::state::State;
@@ -54,7 +54,7 @@ impl State {
         requires start { self.old.state.cursor ≡ None }
         ensures own { self.new.keeper.table ≡ self.old.keeper.table }
         ensures ready { due.new.ready ≡ true }
-        ensures visited { OnOk result (Comes self.old self.new (λ s. due_visits doing s (pages_ahead s.0))) }
+        ensures visited { OnOk result (Comes self.old self.new (λ s. due_visits doing s (ahead_up_to None s.0))) }
         ensures due { OnOk result (AreDue self.new.state due.new.pages) }
         ensures stopped { IfErr result (λ page. StopsDue self.old self.new page) }
     {

@@ -5,7 +5,6 @@
 //! repeat it are counted and not made; from then on a whole pass visits only what is due (`due_pass.rt`).
 
 ghost use Rattle.std.specs.Prelude.{◌≡◌, ◌&&◌, ◌≤◌, [], true, None, Some, IfOk, IfErr, length, option_map};
-ghost use Rattle.ksm_base.specs.Rows.{InPageOrder};
 ghost use Rattle.ksm_base.specs.State.{with_none_waiting};
 ghost use Rattle.ksm_base.specs.Visit.{pass_begun, pass_ended_at_last};
 ghost use Rattle.ksm_pages.specs.Ahead.{EndsAt, last_of, mergeable_pages};
@@ -73,13 +72,6 @@ impl Made {
 }
 
 impl State {
-    // A law: the rows are in the order of their pages.
-    fn lies_in_order(&self)
-        ensures { InPageOrder self.now.state.rows }
-    {
-        self.pages.lie_in_order();
-    }
-
     fn set_cursor(&mut self, cursor: Option<GuestPage>)
         ensures own { self.new.keeper.table ≡ self.old.keeper.table }
         ensures comes { Comes self.old self.new (λ s. (record s.0 { cursor = cursor }, s.1)) }
@@ -163,7 +155,7 @@ impl State {
             → AreDue self.new.state []) }
         ensures stopped { IfErr result (λ page. StopsBefore self.old self.new last page) }
     {
-        self.lies_in_order();
+        self.lies_lawfully();
         let mut made = Made {
             quiet: true,
             over: false,
@@ -260,7 +252,7 @@ impl State {
         ensures made { IfOk result (λ made. GoesOn self.old self.new most made) }
         ensures stopped { IfErr result (λ made. StopsShort self.old self.new most made) }
     {
-        self.lies_in_order();
+        self.lies_lawfully();
         let ahead = self.close_pass(most);
         let whole = self.cursor().is_none();
         match self.visit_part(table, due, last(ahead)) {

@@ -1,5 +1,5 @@
-use Rattle.ksm_book.proofs.Names.{added, ap, arith, frame_at, refl, sym, with_frame, ◌+◌, ◌∙◌, ◌≡◌}
-use Rattle.ksm_book.proofs.Filling.{add_more, as_it_was, at_again, follow}
+use Rattle.ksm_book.proofs.Names.{added, ap, arith, blank, frame_at, refl, set-get_or, with_frame, ◌+◌, ◌∙◌, ◌≡◌}
+use Rattle.ksm_book.proofs.Filling.{add_more, at_again, follow}
 use Rattle.ksm_book.proofs.Made.{made_none}
 use Rattle.ksm_book.proofs.mounting.add_times.Goals as goal
 use Rattle.ksm_book.proofs.Keeping.{held_within}
@@ -11,7 +11,7 @@ loop-done-init c =
     let same : n.base ≡ n.base + 0 = omega arith in
     record {
       made = made_none refl;
-      ledger = rw (← same) (sym (as_it_was k _));
+      ledger = rw (← same) (grind (arith, set-get_or k.frames c.args.frame blank));
       base = same;
     }
 

@@ -1,9 +1,12 @@
 use Rattle.ksm_book.proofs.Names.{arith, find_all, has_items, items_on, refl, seen, ◌&&◌, ◌==◌, ◌≡◌}
-use Rattle.ksm_book.proofs.Remounts.{has_remounted, may_freeze, may_mount, stays, taken_place, turned_away}
+use Rattle.ksm_book.proofs.Remounts.{has_remounted, may_freeze, may_mount, stays, taken_place}
+use Rattle.ksm_book.proofs.Resettled.{turned}
 use Rattle.ksm_book.proofs.moving.remount.Goals as goal
 
 pub returns-in_default-clause-remounted : goal.returns-in_default-clause-remounted
-returns-in_default-clause-remounted c = turned_away c.requires.may c.in_default.ensures
+returns-in_default-clause-remounted c =
+    let away = turned c.requires.may.laid c.requires.may.exists c.in_default.ensures in
+    grind arith
 
 pub freeze-requires-clause-may : goal.freeze-requires-clause-may
 freeze-requires-clause-may c =

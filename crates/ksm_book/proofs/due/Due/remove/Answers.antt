@@ -1,5 +1,7 @@
-use Rattle.ksm_book.proofs.Names.{ap, arith, DueView, has_item, not, same_page, sym, ◌&&◌, ◌∙◌}
-use Rattle.ksm_book.proofs.Dues.{has_found, has_taken, none_added, pages_in, taken_rises}
+use Rattle.ksm_book.proofs.Names.{ap, arith, DueView, has_item, not, pages_ordered, same_page, sym, ◌&&◌, ◌∙◌}
+use Rattle.ksm_book.proofs.Dues.{has_found, has_taken, none_added, pages_in}
+use Rattle.ksm_pages.specs.declared.named.Named.{Named}
+use Rattle.ksm_rmap.proofs.Ordered.{without_rises}
 use Rattle.ksm_book.proofs.due.Due.remove.Goals as goal
 
 pub remove-requires : goal.remove-requires
@@ -9,7 +11,7 @@ remove-requires c =
     }
 
 pub invariant_of-self : goal.invariant_of-self
-invariant_of-self c = grind (arith, c.remove.ensures, taken_rises)
+invariant_of-self c = rw c.remove.ensures (without_rises pages_ordered (λ (m : Named). m.page) c.args.page _ c.self.invariant)
 
 pub returns-clause-gone : goal.returns-clause-gone
 returns-clause-gone c = λ other.

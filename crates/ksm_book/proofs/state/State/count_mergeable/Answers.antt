@@ -1,5 +1,5 @@
 use Rattle.ksm_book.proofs.Names.{sym, ◌∙◌}
-use Rattle.ksm_book.proofs.Listed.{some_pages}
+use Rattle.ksm_book.proofs.ScanCarried.{some_pages}
 use Rattle.ksm_book.proofs.state.State.count_mergeable.Goals as goal
 
 pub returns : goal.returns

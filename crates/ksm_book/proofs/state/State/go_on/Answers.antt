@@ -1,8 +1,8 @@
 use Rattle.ksm_book.proofs.Names.{ap, AreDue, arith, begun, BookState, BookValue, comes_before, Deed, doing, filter, filter_all, has_item, last_visited, length, None, pages_ahead, pages_visited}
 use Rattle.ksm_book.proofs.Names.{pass_ended, pass_ended_at_last, Reached, refl, subst, true, up_to, visit_begun, visits_beside, ◌%◌, ◌*◌, ◌+◌, ◌-◌, ◌/◌, ◌<◌, ◌∙◌, ◌≡◌, ◌≤◌}
 use Rattle.ksm_book.proofs.Scanned.{page_made, pass_made, passes_made, some_ahead, stopped_ahead, stopped_fewer, stopped_made}
-use Rattle.ksm_book.proofs.Doing.{doing_beside}
-use Rattle.ksm_book.proofs.PartBegun.{begun_still, closed}
+use Rattle.ksm_book.proofs.Folded.{doing_beside}
+use Rattle.ksm_book.proofs.Scanned.{begun_still, closed}
 use Rattle.ksm_book.proofs.Reached.{begins, comes_to}
 use Rattle.ksm_book.proofs.state.State.go_on.Goals as goal
 use Rattle.ksm_book.proofs.state.State.go_on.Goals.{After-end_passes}
@@ -14,7 +14,7 @@ visit_part-requires-clause-due c = grind (arith, comes_to)
 stops : (c : goal.After-stop_at) (from : BookValue) (s : BookState × Deed) → Reached from c.args.self.now s
     → (c.stop_at.result < c.args.most) × Reached from c.stop_at.new.self (begun (visits_beside doing c.stop_at.result s))
 stops c from s before =
-    let at = closed c.args.self.now c.close_pass-ahead.new.self c.lies_in_order.ensures c.close_pass-ahead.ensures.comes from s before in
+    let at = closed c.args.self.now c.close_pass-ahead.new.self c.lies_lawfully.ensures.sound.rows_rise c.close_pass-ahead.ensures.comes from s before in
     let page = c.in-Err.page in
     let stopped = c.in-Err.ensures.stopped in
     let there : has_item page (pages_ahead (visit_begun s.0)) ≡ true = grind (arith, at.ahead, stopped.ahead) in
@@ -44,7 +44,7 @@ returns-in-At-clause-made c = record {
   some = c.requires.most;
   fit = omega arith;
   comes = λ from s before.
-      let at = closed c.args.self.now c.close_pass-ahead.new.self c.lies_in_order.ensures c.close_pass-ahead.ensures.comes from s before in
+      let at = closed c.args.self.now c.close_pass-ahead.new.self c.lies_lawfully.ensures.sound.rows_rise c.close_pass-ahead.ensures.comes from s before in
       let last = c.last.ensures ∙ ap last_visited c.in-At.is in
       subst (Reached from c.set_cursor.new.self)
       (page_made doing doing_beside s at.order _ _ c.requires.most (rw (← at.ahead) c.in-At.ensures.ahead))
@@ -80,7 +80,7 @@ ends_due c known = grind (arith, comes_to)
 made : (c : After-end_passes) (from : BookValue) (s : BookState × Deed) → Reached from c.args.self.now s
     → (c.in-End.made ≡ length (pages_ahead (visit_begun s.0))) × (1 ≤ length (pages_ahead (visit_begun s.0)))
 made c from s before =
-    let at = closed c.args.self.now c.close_pass-ahead.new.self c.lies_in_order.ensures c.close_pass-ahead.ensures.comes from s before in
+    let at = closed c.args.self.now c.close_pass-ahead.new.self c.lies_lawfully.ensures.sound.rows_rise c.close_pass-ahead.ensures.comes from s before in
     (grind (arith, at.ahead, c.in-End.ensures.ahead.0), grind (arith, some_ahead s.0, before.0, c.requires.some))
 
 -- so one visit was made
@@ -99,7 +99,7 @@ returns-else-whole-clause-made c = record {
   fit = c.in-End.ensures.ahead.1;
   comes = λ from s before.
       let all = made ((goal.at.returns-else-whole-clause-made c).After-end_passes) from s before in
-      let order = (closed c.args.self.now c.close_pass-ahead.new.self c.lies_in_order.ensures c.close_pass-ahead.ensures.comes from s before).order in
+      let order = (closed c.args.self.now c.close_pass-ahead.new.self c.lies_lawfully.ensures.sound.rows_rise c.close_pass-ahead.ensures.comes from s before).order in
       rw all.0
       (subst (Reached from c.end_passes.new.self) (pass_made doing doing_beside s order all.1)
       (ends ((goal.at.returns-else-whole-clause-made c).After-end_passes) from s before));
@@ -116,7 +116,7 @@ returns-then-quiet-clause-made c = record {
   some = (omega (arith, one_made ((goal.at.returns-then-quiet-clause-made c).After-end_passes)));
   fit = omega arith;
   comes = λ from s before.
-      let at = closed c.args.self.now c.close_pass-ahead.new.self c.lies_in_order.ensures c.close_pass-ahead.ensures.comes from s before in
+      let at = closed c.args.self.now c.close_pass-ahead.new.self c.lies_lawfully.ensures.sound.rows_rise c.close_pass-ahead.ensures.comes from s before in
       let all = made ((goal.at.returns-then-quiet-clause-made c).After-end_passes) from s before in
       let made = c.in-End.made in
       let times = (c.args.most - made) / made in

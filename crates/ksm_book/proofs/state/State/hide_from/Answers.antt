@@ -1,14 +1,14 @@
 use Rattle.ksm_book.proofs.Names.{arith, BookValue, find, is_next, None, option_map, Row, row_at, rules, Some, subst, ◌≡◌}
-use Rattle.ksm_book.proofs.Along.{FitsPage, further, not_far}
-use Rattle.ksm_book.proofs.Hiding.{hiding_end, hiding_more, hiding_over}
+use Rattle.ksm_book.proofs.Hiding.{hides_none, hiding_end, hiding_more, hiding_over, next_after}
+use Rattle.ksm_book.proofs.Walked.{less_room}
 use Rattle.ksm_book.proofs.state.State.hide_from.Goals as goal
 use Rattle.ksm_book.proofs.state.State.hide_from.Goals.{else-not-held, then-not-held+then-not-comes_before}
 
+pub pages-init : goal.pages-init
+pages-init c = hides_none _ _
+
 pub pages-smaller : goal.pages-smaller
-pages-smaller c =
-    let far = further None _ _ _ c.pages.invariant.fits c.in-Some.ensures.1 in
-    let end = not_far (Some c.in-Some.held.spot.page) (search rules, search rules) in
-    omega arith
+pages-smaller c = less_room _ _ (search rules, search rules) (next_after _ _ _ c.in-Some.ensures.1)
 
 pub pages-preserved : goal.pages-preserved
 pages-preserved c =
@@ -21,12 +21,11 @@ pages-preserved c =
     let found =
     subst (λ (v : BookValue). row_at page v.state.rows ≡ Some held.row) c.self-in-pages.view_is held.found in
     let rise = c.lies_lawfully.ensures.sound.rows_rise in
-    let fits : FitsPage (Some page) = (search rules, search rules) in
-    let over = hiding_over c.pages.invariant rise _ told fits _ found in
+    let over = hiding_over c.pages.invariant rise _ told _ found in
     elim c.if-not-held.branch [
       | then-not-held+then-not-comes_before w ↦
           rw w.self-is
-          (grind (arith, hiding_more))
+          (hiding_more c.pages.invariant rise _ told _ (grind arith) w.stop_waiting.ensures.comes w.stop_waiting.ensures.own)
       | else-not-held w ↦
           grind arith
     ]

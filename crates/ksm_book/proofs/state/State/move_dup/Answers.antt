@@ -1,6 +1,6 @@
 use Rattle.std.proofs.Common.{arith}
 use Rattle.ksm_book.proofs.Names.{IsCarried, MayMove, MoveDup, refl, seen, state_of, subst, sym}
-use Rattle.ksm_book.proofs.DupMoves.{done_carried, fault_carried, live_there}
+use Rattle.ksm_book.proofs.DupMoves.{done_carried, fault_carried, place_is}
 use Rattle.ksm_book.proofs.Singles.{book, carried_so}
 use Rattle.ksm_book.proofs.state.State.move_dup.Goals as goal
 use Rattle.ksm_book.proofs.state.State.move_dup.Goals.{in-Err, in-Ok, Joined-else-knobs-eq0}
@@ -12,7 +12,7 @@ may c =
     record {
       laid = c.self.invariant.1;
       sound = grind arith;
-      live = live_there (state_of (seen s.pages) s.cursor s.passes) _ c.args.node _ c.in-Some.ensures;
+      live = grind (arith, place_is (state_of (seen s.pages) s.cursor s.passes) _ c.args.node _ c.in-Some.ensures);
       exists = grind arith;
       home = grind arith;
     }

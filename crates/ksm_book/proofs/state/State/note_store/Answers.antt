@@ -1,5 +1,5 @@
 use Rattle.ksm_book.proofs.Names.{InPageOrder}
-use Rattle.ksm_book.proofs.DueStored.{stored_added, stored_calm}
+use Rattle.ksm_book.proofs.DueBroken.{stored_added, stored_calm}
 use Rattle.ksm_book.proofs.state.State.note_store.Goals as goal
 use Rattle.ksm_book.proofs.state.State.note_store.Goals.{After-waits}
 

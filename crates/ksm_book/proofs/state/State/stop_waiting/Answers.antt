@@ -1,5 +1,6 @@
-use Rattle.ksm_book.proofs.Names.{BookValue, change_row, IsAlone, seen, settled, subst, sym, ◌≡◌}
-use Rattle.ksm_book.proofs.Hiding.{alone_settled, laid_stopped, sound_stopped, stop_comes}
+use Rattle.ksm_book.proofs.Names.{arith, BookValue, change_row, IsAlone, IsSound, PagesView, seen, settled, settled_calmer, sound_changed, state_of, subst, sym, ◌≡◌}
+use Rattle.ksm_book.proofs.Hiding.{alone_settled, stop_comes}
+use Rattle.ksm_book.proofs.Laying.{laid_mapped}
 use Rattle.ksm_book.proofs.state.State.stop_waiting.Goals as goal
 
 -- only the row of the page changes: it waits no more
@@ -12,8 +13,9 @@ goes c =
 
 pub invariant_of-self : goal.invariant_of-self
 invariant_of-self c = (
-  sound_stopped _ (goes c) c.self.invariant.0,
-  laid_stopped _ (goes c) c.self.invariant.1,
+  subst (λ (p : PagesView). IsSound (state_of p c.self.inside.cursor c.self.inside.passes)) (sym (goes c))
+      (sound_changed _ _ _ settled_calmer (λ r home. home) c.self.invariant.0),
+  rw (goes c) (laid_mapped c.self.invariant.1 _ (grind arith) (grind arith)),
 )
 
 pub returns-clause-comes : goal.returns-clause-comes

@@ -1,13 +1,12 @@
 use Rattle.ksm_book.proofs.Names.{ap, arith, Done, find_all, is_some, IsCarried, length, Ok, PAGE_WORDS, refl, Resettled, rules, seen, Store, subst, sym, ◌<◌, ◌∙◌, ◌≡◌}
-use Rattle.ksm_book.proofs.Laying.{has_frame, laid_written, own_framed}
+use Rattle.ksm_book.proofs.Laying.{has_frame, laid_written}
 use Rattle.ksm_book.proofs.Shown.{resettles_does}
 use Rattle.ksm_book.proofs.Singles.{book, carried_so, Carries, found_resettled, own_ready, row_held, lawful, sound_carried, store_copied, store_written}
 use Rattle.ksm_book.proofs.state.State.store.Goals as goal
 
 pub known_frame-frame-requires : goal.known_frame-frame-requires
 known_frame-frame-requires c =
-    let f = has_frame c.self.invariant.1 c.in-Some.ensures.found
-    (own_framed _ (sym c.in-Some.ensures.shared ∙ c.if-held.false)) in
+    let f = has_frame c.self.invariant.1 c.in-Some.ensures.found (sym c.in-Some.ensures.shared ∙ c.if-held.false) in
     ap is_some (c.in-Some.ensures.frame ∙ f.1)
 
 pub write-requires : goal.write-requires

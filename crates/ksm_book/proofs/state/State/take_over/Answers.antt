@@ -1,13 +1,16 @@
-use Rattle.ksm_book.proofs.Names.{ap, BookValue, Comes, row_at, sym, ◌∙◌}
+use Rattle.ksm_book.proofs.Names.{ap, arith, BookValue, Comes, IsSound, row_at, sym, ◌∙◌}
 use Rattle.std.proofs.lemmas.Option.{none-some}
 use Rattle.ksm_tree.proofs.Numbers.{on_err}
-use Rattle.ksm_book.proofs.TakingOver.{once_freed, other_alone, taken_comes, taken_leaves, taken_refused, Takes, takes_from, waits_at}
+use Rattle.ksm_book.proofs.TakingOver.{once_freed, other_alone, taken_comes, taken_leaves, taken_refused, Takes, waits_at}
 use Rattle.ksm_book.proofs.state.State.take_over.Goals as goal
 use Rattle.ksm_book.proofs.state.State.take_over.Goals.{After-held, After-stop_waiting}
 
 -- the page is to wait in the stead of the other one
 takes : (c : After-held) → Takes c.args.self.now.state c.args.spot.page c.args.other
-takes c = takes_from (rw (← c.self.view_is) c.self.invariant.0) c.requires.takes
+takes c =
+    let sound : IsSound c.args.self.now.state = rw (← c.self.view_is) c.self.invariant.0 in
+    let told = c.requires.takes in
+    grind arith
 
 -- that one waits no more
 freed : (c : After-stop_waiting) → Comes c.args.self.now c.stop_waiting.new.self (once_freed c.args.other)

@@ -1,11 +1,10 @@
-use Rattle.ksm_book.proofs.Names.{after_cursor, AreDue, Comes, doing, due_visits, filter, not, pages_ahead, true, ◌≡◌}
-use Rattle.ksm_book.proofs.DuePasses.{room_behind}
+use Rattle.ksm_book.proofs.Names.{AreDue, doing, due_visited, None, true, ◌≡◌}
+use Rattle.ksm_book.proofs.Walked.{IsWalking, room_behind}
 use Rattle.ksm_book.proofs.state.State.visit_all_due.Given as goal
 
 abbrev pub invariant-loop-spot : goal.invariant-loop-spot
 invariant-loop-spot l =
-    Comes l.fn.self l.self (λ s. due_visits doing s (filter (λ p. not (after_cursor l.last p)) (pages_ahead s.0)))
-    × AreDue l.self.state l.due.pages × (l.due.ready ≡ true)
+    IsWalking (due_visited doing) None l.fn.self l.self l.last × AreDue l.self.state l.due.pages × (l.due.ready ≡ true)
     × (l.self.keeper.table ≡ l.fn.self.keeper.table)
 
 abbrev pub decreases-loop-spot : goal.decreases-loop-spot

@@ -1,7 +1,7 @@
 use Rattle.ksm_book.proofs.Names.{ap, arith, BookValue, Find, FindsAt, IsDueNoMore, seen, state_of, subst, view_of, ◌≡◌}
 use Rattle.ksm_pages.specs.declared.pages.Find.TheVariants as finds
 use Rattle.ksm_pages.specs.Paged.{Finds}
-use Rattle.ksm_book.proofs.DueVisits.{gone_due, waits_due}
+use Rattle.ksm_book.proofs.DueFound.{gone_due, waits_due}
 use Rattle.ksm_book.proofs.PageVisits.{changed_leads, finds_it, shared_comes, waits_leads, waits_quiet}
 use Rattle.ksm_book.proofs.RowVisits.{Meets}
 use Rattle.ksm_book.proofs.state.State.visit_any.Goals as goal

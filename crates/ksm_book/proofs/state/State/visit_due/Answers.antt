@@ -1,11 +1,11 @@
-use Rattle.ksm_book.proofs.Names.{ap, AreDue, arith, BookValue, Comes, doing, due_visited, Find, FindsAt, GuestPage, inl, inr, IsDueNoMore, IsLaid, IsSound, List, refl, seen, state_of, subst, sym}
-use Rattle.ksm_book.proofs.Names.{true, true≢false, view_of, VisitsPage, ◌∙◌, ◌≡◌}
+use Rattle.ksm_book.proofs.Names.{ap, AreDue, arith, BookState, BookValue, Comes, Deed, doing, due_visited, Find, FindsAt, GuestPage, inl, inr, IsDueNoMore, IsLaid, IsSound, List, Reached, refl}
+use Rattle.ksm_book.proofs.Names.{seen, state_of, StaysBefore, subst, sym, true, true≢false, view_of, VisitsPage, ◌∙◌, ◌≡◌}
 use Rattle.ksm_pages.specs.declared.pages.Find.TheVariants as finds
 use Rattle.ksm_tree.proofs.Numbers.{on_err}
 use Rattle.ksm_book.specs.contracts.state.State.{the_view}
-use Rattle.ksm_book.proofs.DueFound.{changed_keeps, comes_as, is_still, less_due, partner_takes, shared_due, shares, stays_as, still_found, Without}
+use Rattle.ksm_book.proofs.DueFound.{changed_keeps, is_still, less_due, partner_takes, reached_as, shared_due, shares, Without}
 use Rattle.ksm_book.proofs.Singles.{book}
-use Rattle.ksm_book.proofs.DueVisits.{gone_due, waits_due}
+use Rattle.ksm_book.proofs.DueFound.{gone_due, waits_due}
 use Rattle.ksm_book.proofs.PageVisits.{changed_leads, finds_it, waits_leads}
 use Rattle.ksm_book.proofs.RowVisits.{Meets}
 use Rattle.ksm_book.proofs.state.State.visit_due.Goals as goal
@@ -19,17 +19,17 @@ met_by c f some is = finds_it f some c.self.invariant (ap view_of c.self.view_is
 
 -- where the search changed nothing, the pages are seen as they were
 same : (c : In_ok-visit) → is_still c.in_ok-visit.field-0 ≡ true → seen c.visit.new.self ≡ seen c.self.inside.pages
-same c is = still_found _ _ c.args.spot.page _ c.in_ok-visit.ensures.found is
+same c is = grind (arith, c.in_ok-visit.ensures.found)
 
 -- the book lies as it lay
 lies_still : (c : In_ok-visit) → is_still c.in_ok-visit.field-0 ≡ true
     → IsSound (state_of (seen c.visit.new.self) c.self.inside.cursor c.self.inside.passes) × IsLaid (seen c.visit.new.self) c.self.inside.keeper
 lies_still c is = grind (arith, same c is, c.self.invariant)
 
--- and looks as it did
-looks_still : (c : In_ok-visit) → is_still c.in_ok-visit.field-0 ≡ true
-    → view_of (the_view (record c.self.inside { pages = c.visit.new.self })) ≡ view_of c.args.self.now
-looks_still c is = grind (arith, same c is, c.self.view_is)
+-- and what was reached with it is reached still
+before_it : (c : In_ok-visit) → is_still c.in_ok-visit.field-0 ≡ true → (from : BookValue) (s : BookState × Deed)
+    → Reached from c.args.self.now s → Reached from (the_view (record c.self.inside { pages = c.visit.new.self })) s
+before_it c is = reached_as _ _ (grind (arith, same c is, c.self.view_is))
 
 -- where the page shares a frame from now on, its visit was made as one of a page that is due, which it is no longer
 shared : (c : In_ok-visit) → shares c.args.spot.page c.in_ok-visit.field-0 ≡ true → (w : BookValue)
@@ -79,9 +79,9 @@ take_over-requires-clause-takes c =
 pub returns-in_err-take_over-in-Partner-2-clause-refused : goal.returns-in_err-take_over-in-Partner-2-clause-refused
 returns-in_err-take_over-in-Partner-2-clause-refused c =
     let at = (goal.at.returns-in_err-take_over-in-Partner-2-clause-refused c).In_ok-visit in
-    on_err _
-    (stays_as c.args.self.now (the_view (record c.self.inside { pages = c.visit.new.self })) c.take_over.new.self
-    (looks_still at (ap is_still c.in-Partner.is)) _ c.in_err-take_over-in-Partner-2.ensures.refused)
+    let stays : StaysBefore c.args.spot.page c.args.self.now c.take_over.new.self = λ from s before.
+    c.in_err-take_over-in-Partner-2.ensures.refused from s (before_it at (ap is_still c.in-Partner.is) from s before) in
+    on_err _ stays
 
 pub returns-in-Gone-clause-due : goal.returns-in-Gone-clause-due
 returns-in-Gone-clause-due c =
@@ -136,7 +136,5 @@ returns-in_ok-pair-in-Partner-clause-due c =
     c.in_ok-pair-in-Partner.ensures.visited).1 _ _ c.remove-in-Partner.ensures.gone c.requires.due
 
 pub returns-in_ok-take_over-in-Partner-2-clause-comes : goal.returns-in_ok-take_over-in-Partner-2-clause-comes
-returns-in_ok-take_over-in-Partner-2-clause-comes c =
-    let at = (goal.at.returns-in_ok-take_over-in-Partner-2-clause-comes c).In_ok-visit in
-    comes_as c.args.self.now (the_view (record c.self.inside { pages = c.visit.new.self })) c.take_over.new.self
-    (looks_still at (ap is_still c.in-Partner.is)) c.in_ok-take_over-in-Partner-2.ensures.comes
+returns-in_ok-take_over-in-Partner-2-clause-comes c = λ from s before. c.in_ok-take_over-in-Partner-2.ensures.comes from s
+    (before_it (goal.at.returns-in_ok-take_over-in-Partner-2-clause-comes c).In_ok-visit (ap is_still c.in-Partner.is) from s before)

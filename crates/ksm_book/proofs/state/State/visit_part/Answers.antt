@@ -1,7 +1,8 @@
-use Rattle.ksm_book.proofs.Names.{ap, AreDue, DueView, part_visited, subst, sym, ◌∙◌}
+use Rattle.ksm_book.proofs.Names.{ap, AreDue, arith, DueView, part_visited, pass_begun, subst, sym, ◌∙◌}
 use Rattle.ksm_book.specs.Scanned.{HasVisited}
-use Rattle.ksm_book.proofs.Dues.{same_due}
-use Rattle.ksm_book.proofs.DueSteps.{begun_cursor, part_stopped, part_visits}
+use Rattle.ksm_book.proofs.DueKept.{more_due}
+use Rattle.ksm_book.proofs.DuePasses.{part_stopped, part_visits}
+use Rattle.ksm_book.proofs.Reached.{comes_to}
 use Rattle.ksm_book.proofs.state.State.visit_part.Goals as goal
 use Rattle.ksm_book.proofs.state.State.visit_part.Goals.{In-Ok}
 
@@ -17,9 +18,10 @@ returns-else-whole-2-clause-visited c = visits (goal.at.returns-else-whole-2-cla
 pub returns-then-quiet-clause-due : goal.returns-then-quiet-clause-due
 returns-then-quiet-clause-due c = λ _.
     let whole = c.is_whole-whole.ensures c.if-whole-2.true in
+    let begun = comes_to c.args.self.now c.begin_pass.new.self (λ s. (pass_begun s.0, s.1)) c.begin_pass.ensures.comes in
     subst (AreDue c.visit_up_to.new.self.state) (sym (ap (λ (d : DueView). d.pages) c.begin.ensures))
     (c.in-Ok.ensures.due c.if-quiet.true
-    (begun_cursor c.args.self.now c.begin_pass.new.self c.begin_pass.ensures.comes ∙ whole.0) whole.1)
+    (grind arith) whole.1)
 
 pub returns-in-Err-clause-stopped : goal.returns-in-Err-clause-stopped
 returns-in-Err-clause-stopped c = part_stopped _ _ c.begin_pass.ensures.comes c.in-Err.ensures.stopped
@@ -28,4 +30,4 @@ pub pass_over_due-requires-clause-due : goal.pass_over_due-requires-clause-due
 pass_over_due-requires-clause-due c =
     let put = c.put_in_order.ensures in
     let same = put.same (put.known ∙ sym put.ready ∙ c.if-put_in_order.true) in
-    same_due c.args.self.now.state _ _ same.1 (c.requires.due same.0)
+    more_due c.args.self.now.state _ _ (λ p is. same.1 p ∙ is) (c.requires.due same.0)

@@ -1,15 +1,17 @@
-use Rattle.ksm_book.proofs.Names.{and_parts, arith, BookValue, Comes, doing, GuestPage, IsDueNoMore, IsStill, None, Option, page_visited, Reached, refl, subst, sym, ◌∙◌}
+use Rattle.ksm_book.proofs.Names.{and_parts, arith, BookValue, Comes, doing, GuestPage, IsDueNoMore, IsStill, None, Option, page_visited, refl, subst, sym, ◌∙◌}
 use Rattle.std.proofs.Common.{rules}
 use Rattle.ksm_book.specs.Scanned.{FindsUpTo, StaysStill}
-use Rattle.ksm_book.proofs.DuePasses.{less_room}
-use Rattle.ksm_book.proofs.Walked.{begins_still, begins_walk, due_begins, due_ends, due_walks, still_walks, walk_ends, walk_stops, walks_on}
+use Rattle.ksm_book.proofs.PagesAhead.{has_filter}
+use Rattle.ksm_book.proofs.Reached.{comes_as, comes_to}
+use Rattle.ksm_book.proofs.Walked.{before_it, begins_still, begins_walk, due_begins, due_walks, is_ahead, less_room, rests_before, rests_up_to, still_walks, visits_page, walk_ends, walks_on}
 use Rattle.ksm_book.proofs.state.State.visit_up_to.Goals as goal
 
 pub loop-spot-init : goal.loop-spot-init
 loop-spot-init c =
     let v = c.args.self.now in
     let at = c.cursor-reached.ensures in
-    (begins_walk _ v _ at, λ _. begins_still v _ at, λ _ none. rw (at ∙ none) (due_begins v.state c.lies_in_order.ensures), refl)
+    let sound = c.lies_lawfully.ensures.sound in
+    (begins_walk _ v _ at _ sound, λ _. begins_still _ v _ at, λ _ none. rw (at ∙ none) (due_begins v.state sound.rows_rise), refl)
 
 pub loop-spot-smaller : goal.loop-spot-smaller
 loop-spot-smaller c = less_room _ _ (search rules, search rules) c.in-Some.ensures.next.1.0
@@ -17,15 +19,14 @@ loop-spot-smaller c = less_room _ _ (search rules, search rules) c.in-Some.ensur
 pub loop-spot-preserved : goal.loop-spot-preserved
 loop-spot-preserved c =
     let page = c.in-Some.spot.page in
-    let rise = c.lies_in_order.ensures in
     let walking = c.loop-spot.invariant.0 in
     let next = c.in-Some.ensures.next in
     let kept = c.in-Some.ensures.kept in (
-      walks_on rise walking page next.1 next.0
+      walks_on visits_page walking page next.1.0 (rests_before _ _ _ next.1) next.0
           (subst (λ (v : BookValue). Comes v c.visit.new.self (λ s. page_visited doing s page)) kept c.in-Ok.ensures.comes),
-      λ quiet. still_walks rise walking page next.1 (c.loop-spot.invariant.1 (and_parts _ _ (sym c.and-made.ensures ∙ quiet)).0)
+      λ quiet. still_walks visits_page walking page next.1.0 (rests_before _ _ _ next.1) (c.loop-spot.invariant.1 (and_parts _ _ (sym c.and-made.ensures ∙ quiet)).0)
           (subst (λ (v : BookValue). StaysStill v (λ s. page_visited doing s page)) kept (c.in-Ok.ensures.quiet (and_parts _ _ (sym c.and-made.ensures ∙ quiet)).1)),
-      λ quiet none. due_walks rise walking page next.1 _ c.visit.new.self.state
+      λ quiet none. due_walks c.loop-spot.self.state _ _ _ c.visit.new.self.state next.1
           (subst (λ (v : BookValue). IsDueNoMore page v.state c.visit.new.self.state) kept (c.in-Ok.ensures.due (and_parts _ _ (sym c.and-made.ensures ∙ quiet)).1))
           (c.loop-spot.invariant.2 (and_parts _ _ (sym c.and-made.ensures ∙ quiet)).0 none),
       grind (arith, kept, c.visit.ensures.own, c.loop-spot.invariant.3),
@@ -33,21 +34,30 @@ loop-spot-preserved c =
 
 pub returns-in-Err-clause-stopped : goal.returns-in-Err-clause-stopped
 returns-in-Err-clause-stopped c =
+    let page = c.in-Some.spot.page in
+    let walking = c.loop-spot.invariant.0 in
     let next = c.in-Some.ensures.next in
-    walk_stops c.lies_in_order.ensures c.loop-spot.invariant.0 _ next.1 next.0
-    (subst (λ (v : BookValue). Comes v c.visit.new.self (λ s. s)) c.in-Some.ensures.kept c.in-Err.ensures.refused) c.in-Err.ensures.refused_row
+    let stays = subst (λ (v : BookValue). Comes v c.visit.new.self (λ s. s)) c.in-Some.ensures.kept c.in-Err.ensures.refused in
+    record {
+      within = next.0;
+      ahead = is_ahead visits_page walking page next.1.0 (rests_before _ _ _ next.1)
+          (grind (arith, comes_to c.loop-spot.self c.visit.new.self (λ s. s) stays, c.in-Err.ensures.refused_row));
+      comes = comes_as c.visit.new.self (before_it visits_page walking page next.1.0 (rests_before _ _ _ next.1))
+          (λ from s before. stays from _ (walking.comes from s before));
+    }
 
 pub returns-clause-visited : goal.returns-clause-visited
 returns-clause-visited c =
     let walking = c.loop-spot.invariant.0 in
-    let ends = walk_ends c.lies_in_order.ensures walking c.in_default.ensures.next in
+    let ends = walk_ends visits_page walking (rests_up_to _ _ _ c.in_default.ensures.next) in
     rw (c.drop_over.ensures ∙ c.in_default.ensures.kept) (record {
-      comes = λ from s before. subst (Reached from c.loop-spot.self) (ends from s before) (walking.comes from s before);
-      still = λ quiet from s before. subst (IsStill s) (ends from s before) (c.loop-spot.invariant.1 quiet from s before);
+      comes = comes_as c.loop-spot.self ends walking.comes;
+      still = λ quiet from s before. subst (IsStill s) (ends.same from s before) (c.loop-spot.invariant.1 quiet from s before);
     })
 
 pub returns-clause-due : goal.returns-clause-due
 returns-clause-due c = λ quiet start none.
     let left = subst (λ (o : Option GuestPage). FindsUpTo o c.loop-spot.reached c.loop-spot.self.state.rows None) none c.in_default.ensures.next in
     rw (c.drop_over.ensures ∙ c.in_default.ensures.kept)
-    (due_ends c.lies_in_order.ensures c.loop-spot.invariant.0 _ left (c.loop-spot.invariant.2 quiet start))
+    (λ k d lt restless out.
+    c.loop-spot.invariant.2 quiet start k d lt restless (grind (arith, has_filter, left k d lt restless)))
