@@ -69,7 +69,7 @@ pub struct Groups {
 }
 
 impl Groups {
-    ghost use Rattle.ksm_tree.specs.Groups.{IsCounted, IsCountedAnew, IsMoved, IsAsWas, IsSwept, SameChains, SameWaits, chain_in, is_used_in, waiting_in};
+    ghost use Rattle.ksm_tree.specs.Groups.{HasRoomAt, IsCounted, IsCountedAnew, IsMoved, IsAsWas, IsSwept, SameChains, SameWaits, chain_in, is_used_in, waiting_in};
 
     /// No groups, in a table with so many places.
     pub fn new(alloc: Global, places: u32) -> Groups
@@ -280,28 +280,34 @@ impl Groups {
         }
     }
 
-    /// A place joins the group of a tree and bytes, which has a number. The guess is tried first. The one fault is
-    /// `Memory`, and then nothing changes.
-    pub fn add(&mut self, guess: u32, tree: u32, bytes: &PageBytes, place: u32) -> Result<(), Fault>
-        requires known { is_some (number_of tree bytes.now self.old.numbers.entries) ≡ true }
-        requires counted { IsCounted tree bytes.now self.old }
-        ensures added { OnOk result (IsMoved tree bytes.now (with_place place) self.old self.new) }
-        ensures totals { OnOk result (IsCountedAnew tree bytes.now self.old self.new) }
+    /// Takes room for one more place in the group with a number. The one fault is `Memory`, and then nothing changes.
+    pub fn reserve(&mut self, number: u32) -> Result<(), Fault>
+        ensures room { OnOk result (HasRoomAt number self.new) }
+        ensures chains { SameChains self.old self.new }
         ensures waits { SameWaits self.old self.new }
-        ensures kept { OnErr result (SameChains self.old self.new) }
         ensures memory { IfErr result (λ fault. fault ≡ Fault.Memory) }
     {
-        let Some(number) = self.number(guess, tree, bytes) else {
-            unreachable!()
-        };
-        let Some(group) = self.groups.get_mut(number as usize) else {
-            unreachable!()
-        };
-        group.places.reserve()?;
-        let before = group.places.len();
-        group.places.insert(place);
-        self.totals = self.totals.regrouped(before, group.places.len());
-        Ok(())
+        match self.groups.get_mut(number as usize) {
+            Some(group) => group.places.reserve(),
+            None => Ok(()),
+        }
+    }
+
+    /// A place joins the group with a number, where room is taken for it.
+    pub fn add(&mut self, number: u32, place: u32)
+        requires room { HasRoomAt number self.old }
+        requires counted { (t : ℕ) (b : List ℕ) → IsCounted t b self.old }
+        ensures added { (t : ℕ) (b : List ℕ) → number_of t b self.old.numbers.entries ≡ Some number
+            → IsMoved t b (with_place place) self.old self.new }
+        ensures totals { (t : ℕ) (b : List ℕ) → number_of t b self.old.numbers.entries ≡ Some number
+            → IsCountedAnew t b self.old self.new }
+        ensures waits { SameWaits self.old self.new }
+    {
+        if let Some(group) = self.groups.get_mut(number as usize) {
+            let before = group.places.len();
+            group.places.insert(place);
+            self.totals = self.totals.regrouped(before, group.places.len());
+        }
     }
 
     /// A place leaves the group of a tree and bytes. The guess is tried first.
@@ -310,6 +316,7 @@ impl Groups {
         ensures removed { IsMoved tree bytes.now (without place) self.old self.new }
         ensures totals { IsCountedAnew tree bytes.now self.old self.new }
         ensures waits { SameWaits self.old self.new }
+        ensures room { (number : ℕ) → HasRoomAt number self.old → HasRoomAt number self.new }
     {
         let Some(number) = self.number(guess, tree, bytes) else {
             return;

@@ -1,30 +1,23 @@
--- The index over dups: what it finds, and how it stays with a change of items and with a dup that goes.
-use Rattle.ksm_tree.proofs.Names.{All, All-filter, ap, AreIndexed, AreTotals, arith, Bool, change_at, change_items, content_of, Dup, dup_at, dup_of, DupRow, dups_seen, DupsState, eqb-true, false}
-use Rattle.ksm_tree.proofs.Names.{filter, find, find_nothing, find_passes, get, Group, group_places, GuestPage, has_number, if◌then◌else◌, in_group, Index, InPlaceOrder, is_some, IsCountedAnew}
-use Rattle.ksm_tree.proofs.Names.{items_in, length, List, MOST_FRAMES, None, not, number_of, Option, option_map, pairs_head, pairs_tail, place_of, places_of, refl, row_place, rows_of, rules}
-use Rattle.ksm_tree.proofs.Names.{SlotsState, sym, ◌∙◌, Some, stands_at, Tells, true, without, without_place, ℕ, [], ◌&&◌, ◌<◌, ◌==◌, ◌∷◌, ◌≡◌, ◌≤◌}
+-- The dups in their groups: what is found there, and how that stays right with a change of items and with a dup that goes.
+use Rattle.ksm_tree.proofs.Names.{All, All-filter, ap, AreChained, AreTotals, arith, Bool, change_at, change_items, content_of, Dup, dup_at, dup_of, DupRow, dups_seen, DupsState, false}
+use Rattle.ksm_tree.proofs.Names.{filter, filter_all, find, find_none, find_nothing, get, Group, group_places, GuestPage, has_number, if◌then◌else◌, in_group, Groups, InPlaceOrder, is_some, IsCountedAnew, SameChains}
+use Rattle.ksm_tree.proofs.Names.{items_in, length, List, MOST_FRAMES, None, not, number_of, Option, option_map, pairs_head, pairs_tail, chain_in, refl, rows_of, rules}
+use Rattle.ksm_tree.proofs.Names.{SlotsState, ◌∙◌, Some, stands_at, Tells, true, without, without_place, ℕ, [], ◌&&◌, ◌<◌, ◌==◌, ◌∷◌, ◌≡◌, ◌≤◌}
 use Rattle.ksm_tree.specs.Groups.{IsMoved}
 use Rattle.ksm_tree.proofs.Alike.{chosen, find_alike, map_alike}
+use Rattle.ksm_tree.proofs.OneSlot.{found_stands}
 use Rattle.ksm_tree.proofs.Grouped.{more_there, totals_less, totals_tell}
-use Rattle.ksm_tree.proofs.Rows.{alone, group_unlike, own_group, place_gone, self_group}
+use Rattle.ksm_tree.proofs.Rows.{alone, group_unlike, own_group, self_group}
 use Rattle.ksm_base.proofs.Orders.{Lower, ordered_filter}
 use Rattle.ksm_tree.proofs.Changes.{all_rows, one_dup, row_found, rows_changed, rows_without}
 
--- a dup has the place that its row has
-row_placed : (q : ℕ) (dups : List Dup) → row_place q (rows_of dups) ≡ option_map (λ d. d.row.place) (dup_of q dups)
-row_placed q dups = grind (arith, row_found (has_number q) (λ r. r.number == q) (λ d. refl))
-
 -- where the place of a number is told, a search by the number finds the dup at that place
 pub placed_found : (q : ℕ) {p : ℕ} (dups : List Dup) → InPlaceOrder (rows_of dups) → Some p ≡ option_map (λ d. d.row.place) (dup_of q dups) → dup_of q dups ≡ dup_at p dups
-placed_found q dups rise is = grind (arith, find_alike, one_dup, row_placed)
+placed_found q dups rise is = grind (arith, find_alike, one_dup)
 
 -- the row found at a place is the row of the dup found there
 pub row_at_place : (p : ℕ) (dups : List Dup) {d : Option Dup} → dup_at p dups ≡ d → find (λ r. r.place == p) (rows_of dups) ≡ option_map (λ e. e.row) d
 row_at_place p dups is = grind (arith, row_found)
-
--- the dup found at a place stands there
-pub found_stands : {p : ℕ} (dups : List Dup) {d : Dup} → dup_at p dups ≡ Some d → d.row.place ≡ p
-found_stands dups found = search (eqb-true, find_passes)
 
 -- where a dup of another group stands, the places of a group stay without that place
 pub not_in_group : (p t : ℕ) (b : List ℕ) (dups : List Dup) {d : Dup} → InPlaceOrder (rows_of dups) → dup_at p dups ≡ Some d → in_group t b d.row ≡ false → without p (group_places t b (rows_of dups)) ≡ group_places t b (rows_of dups)
@@ -36,59 +29,54 @@ not_in_group p t b dups rise found outside =
 abbrev pub with_dups : SlotsState → List Dup → Bool → SlotsState
 with_dups s dups ready = record { places = s.places; dups = dups; ready = ready }
 
--- the index is right by the rows of the dups
-pub by_rows : {s : SlotsState} {next : ℕ} {index : Index} (rows : List DupRow) → rows_of s.dups ≡ rows → s.places ≤ MOST_FRAMES → InPlaceOrder rows → All (λ r. r.place < s.places) rows → All (λ r. r.number < next) rows
-    → ((q : ℕ) → place_of q index ≡ row_place q rows) → AreTotals rows index.groups.totals → ((t : ℕ) (b : List ℕ) → places_of t b index ≡ group_places t b rows) → AreIndexed s next index
-by_rows rows is few rise places numbers numbered counted grouped = record {
+-- the groups are right by the rows of the dups
+pub by_rows : {s : SlotsState} {next : ℕ} {groups : Groups} (rows : List DupRow) → rows_of s.dups ≡ rows → s.places ≤ MOST_FRAMES → InPlaceOrder rows → All (λ r. r.place < s.places) rows → All (λ r. r.number < next) rows
+    → AreTotals rows groups.totals → ((t : ℕ) (b : List ℕ) → chain_in t b groups ≡ group_places t b rows) → AreChained s next groups
+by_rows rows is few rise places numbers counted grouped = record {
   few = few;
   lawful = record { in_place_order = rw is rise; places_below = rw is places; numbers_below = rw is numbers };
-  numbered = λ q. rw is (numbered q);
   counted = rw is counted;
   grouped = λ t b. rw is (grouped t b);
 }
 
-module _ {s : SlotsState} {next : ℕ} {index : Index} (h : AreIndexed s next index) where
-  -- the index gives for each number the place of its dup
-  pub indexed_place : (q : ℕ) → place_of q index ≡ option_map (λ d. d.row.place) (dup_of q s.dups)
-  indexed_place q = grind (arith, row_placed)
+module _ {s : SlotsState} {next : ℕ} {groups : Groups} (h : AreChained s next groups) where
+  -- a change of items changes no row, and so nothing of the groups
+  pub stays_chained : (p : ℕ) (f : List GuestPage → List GuestPage) (ready : Bool) → AreChained (with_dups s (change_at p f s.dups) ready) next groups
+  stays_chained p f ready = by_rows _ (rows_changed p f s.dups) h.few h.lawful.in_place_order h.lawful.places_below
+      h.lawful.numbers_below h.counted h.grouped
 
-  -- a change of items changes no row, and so nothing of the index
-  pub stays_indexed : (p : ℕ) (f : List GuestPage → List GuestPage) (ready : Bool) → AreIndexed (with_dups s (change_at p f s.dups) ready) next index
-  stays_indexed p f ready = by_rows _ (rows_changed p f s.dups) h.few h.lawful.in_place_order h.lawful.places_below
-      h.lawful.numbers_below h.numbered h.counted h.grouped
-
-  -- whether room for one more dup is taken tells nothing of the index
-  pub room_indexed : {t : SlotsState} → t ≡ record s { ready = t.ready } → AreIndexed t next index
-  room_indexed is = by_rows _ (ap (λ t. rows_of t.dups) is) (rw is h.few) h.lawful.in_place_order
-      (rw is h.lawful.places_below) h.lawful.numbers_below h.numbered h.counted h.grouped
+  -- whether room for one more dup is taken tells nothing of the groups
+  pub room_chained : {t : SlotsState} {new : Groups} → t ≡ record s { ready = t.ready } → SameChains groups new → AreChained t next new
+  room_chained is same = by_rows _ (ap (λ t. rows_of t.dups) is) (rw is h.few) h.lawful.in_place_order
+      (rw is h.lawful.places_below) h.lawful.numbers_below (rw same.totals h.counted)
+      (λ t b. same.chains t b ∙ h.grouped t b)
 
   -- the totals tell of the group of each tree and bytes
-  pub told : (t : ℕ) (b : List ℕ) → Tells (length (places_of t b index)) index.groups.totals
+  pub told : (t : ℕ) (b : List ℕ) → Tells (length (chain_in t b groups)) groups.totals
   told t b = search (rules, h.grouped t b, totals_tell)
 
-  -- where a dup goes from its place and from the index, the index stays right
-  pub gone_indexed : {new : Index} (p : ℕ) (d : Dup) (ready : Bool) → dup_at p s.dups ≡ Some d → ((q : ℕ) → place_of q new ≡ (if q == d.row.number then None else place_of q index)) → IsMoved d.row.tree d.row.bytes (without d.row.place) index.groups new.groups
-      → IsCountedAnew d.row.tree d.row.bytes index.groups new.groups → AreIndexed (with_dups s (without_place p s.dups) ready) next new
-  gone_indexed {new} p d ready found numbers groups totals =
+  -- where a dup goes from its place and from its group, the groups stay right
+  pub gone_chained : {new : Groups} (p : ℕ) (d : Dup) (ready : Bool) → dup_at p s.dups ≡ Some d → IsMoved d.row.tree d.row.bytes (without p) groups new
+      → IsCountedAnew d.row.tree d.row.bytes groups new → AreChained (with_dups s (without_place p s.dups) ready) next new
+  gone_chained {new} p d ready found gone totals =
       let rows = rows_of s.dups in
       let law = h.lawful in
       let test = λ (r : DupRow). not (r.place == p) in
       let at = found_stands s.dups found in
       let at_p = row_at_place p s.dups found in
       let rise = ordered_filter test rows law.in_place_order in
-      let grouped : (t : ℕ) (b : List ℕ) → places_of t b new ≡ group_places t b (filter test rows) = λ t b.
+      let grouped : (t : ℕ) (b : List ℕ) → chain_in t b new ≡ group_places t b (filter test rows) = λ t b.
       let kept = chosen (λ (r : DupRow). r.place) (in_group t b) (λ q. not (q == p)) rows in
       grind (arith, kept, not_in_group p t b s.dups law.in_place_order found, own_group t b d.row) in
       let more = more_there p rows d.row law.in_place_order at_p in
       by_rows (filter test rows) (rows_without p s.dups) h.few rise
       (All-filter test (λ r. r.place < s.places) rows law.places_below)
       (All-filter test (λ r. r.number < next) rows law.numbers_below)
-      (λ q. grind (arith, place_gone p q rows law.in_place_order at_p))
       (totals_less d.row.tree d.row.bytes more (self_group d.row) rise law.in_place_order (grind arith) h.counted)
       grouped
 
 -- where callers are told the place of a number
-module _ (q : ℕ) {p : ℕ} {s : SlotsState} {next : ℕ} {index : Index} {seen : DupsState} (h : AreIndexed s next index) (view : dups_seen s next index ≡ seen) (is : Some p ≡ option_map (λ d. d.row.place) (dup_of q seen.dups)) where
+module _ (q : ℕ) {p : ℕ} {s : SlotsState} {next : ℕ} {groups : Groups} {seen : DupsState} (h : AreChained s next groups) (view : dups_seen s next groups ≡ seen) (is : Some p ≡ option_map (λ d. d.row.place) (dup_of q seen.dups)) where
   is_inside : Some p ≡ option_map (λ d. d.row.place) (dup_of q s.dups)
   is_inside = grind arith
 
@@ -101,26 +89,35 @@ module _ (q : ℕ) {p : ℕ} {s : SlotsState} {next : ℕ} {index : Index} {seen
   told_items = grind (arith, placed_found q s.dups h.lawful.in_place_order is_inside)
 
   -- a change of the items at that place is seen as a change of the number's items
-  pub told_changed : (f : List GuestPage → List GuestPage) (ready : Bool) → dups_seen (with_dups s (change_at p f s.dups) ready) next index ≡ record seen { dups = change_items q f seen.dups }
+  pub told_changed : (f : List GuestPage → List GuestPage) (ready : Bool) → dups_seen (with_dups s (change_at p f s.dups) ready) next groups ≡ record seen { dups = change_items q f seen.dups }
   told_changed f ready =
-      let one = one_dup q s.dups h.lawful.in_place_order (row_placed q s.dups ∙ sym is_inside) in
-      rw (← view) (ap (λ dups. dups_seen (with_dups s dups ready) next index)
+      let one = one_dup q s.dups h.lawful.in_place_order is_inside in
+      rw (← view) (ap (λ dups. dups_seen (with_dups s dups ready) next groups)
       (map_alike _ _ s.dups (λ k d lt. grind (arith, one k d lt))))
 
 -- the group under the number of a tree and bytes is of these, and has the places of their dups
-module _ {s : SlotsState} {next : ℕ} {index : Index} (h : AreIndexed s next index) (tree : ℕ) (bytes : List ℕ) where
-  module _ {number : ℕ} {g : Group} (is : number_of tree bytes index.groups.numbers.entries ≡ Some number) (at : Some g ≡ get index.groups.groups number) where
+module _ {s : SlotsState} {next : ℕ} {groups : Groups} (h : AreChained s next groups) (tree : ℕ) (bytes : List ℕ) where
+  module _ {number : ℕ} {g : Group} (is : number_of tree bytes groups.numbers.entries ≡ Some number) (at : Some g ≡ get groups.groups number) where
     -- the group under the number of a tree and bytes lists the places of the dups of that tree and bytes
     pub group_here : g.places.list.items ≡ group_places tree bytes (rows_of s.dups)
     group_here = grind (arith)
 
     -- the group under the number of a tree and bytes has that tree and those bytes as its content
     pub content_here : g.content ≡ content_of tree bytes
-    content_here = grind (arith, index.groups.lawful.numbered (content_of tree bytes) number)
+    content_here = grind (arith, groups.lawful.numbered (content_of tree bytes) number)
 
   -- a tree and bytes without a number have no dup
-  pub group_absent : number_of tree bytes index.groups.numbers.entries ≡ None → [] ≡ group_places tree bytes (rows_of s.dups)
+  pub group_absent : number_of tree bytes groups.numbers.entries ≡ None → [] ≡ group_places tree bytes (rows_of s.dups)
   group_absent none = grind (arith)
+
+-- once the dup of a place has gone, none stands there
+pub none_left : (p : ℕ) (dups : List Dup) → dup_at p (without_place p dups) ≡ None
+none_left p [] = refl
+none_left p (d ∷ dups) = grind (arith, none_left p dups)
+
+-- where no dup stands, none goes
+pub none_gone : (p : ℕ) (dups : List Dup) → dup_at p dups ≡ None → without_place p dups ≡ dups
+none_gone p dups none = filter_all _ dups (λ k d lt. ap not (find_none (stands_at p) dups none k d lt))
 
 -- the dup found at a place is the one that has its number
 pub stands_numbered : (p q : ℕ) (dups : List Dup) (d : Dup) → InPlaceOrder (rows_of dups) → dup_at p dups ≡ Some d → d.row.number ≡ q → Some p ≡ option_map (λ d. d.row.place) (dup_of q dups)
@@ -143,5 +140,5 @@ found_passing p test (d ∷ dups) rise =
     let rest = found_passing p test dups (pairs_tail Lower d.row (rows_of dups) rise) in
     grind (arith, find_nothing (λ e. stands_at p e && test e) dups, behind)
 
--- how the index stays beside a dup that is found by its number
-pub ruleset steps = (room_indexed, stays_indexed, told_items, told_there)
+-- how the groups stay right beside a dup that is found by its number
+pub ruleset steps = (room_chained, stays_chained, told_items, told_there)
