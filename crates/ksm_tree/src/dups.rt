@@ -239,6 +239,15 @@ impl Dups {
         self.groups.stop_waiting(guess, tree, bytes);
     }
 
+    /// The page that waits in the group with a number waits no more, if there is one.
+    pub fn stop_waiting_in(&mut self, group: u32)
+        ensures removed { (tree : ℕ) (bytes : List ℕ) → number_of tree bytes self.old.numbers ≡ Some group
+            → IsRemoved tree bytes self.old.waiting self.new.waiting }
+        ensures kept { self.new ≡ record self.old { waiting = self.new.waiting } }
+    {
+        self.groups.stop_waiting_in(group as usize);
+    }
+
     /// No page waits any more.
     pub fn clear_waiting(&mut self)
         ensures { self.new ≡ record self.old { waiting = [] } }

@@ -374,9 +374,23 @@ impl Groups {
         ensures most { self.new.most ≡ self.old.most }
     {
         if let Some(number) = self.number(guess, tree, bytes) {
-            if let Some(group) = self.groups.get_mut(number as usize) {
-                group.pass = 0;
-            }
+            self.stop_waiting_in(number as usize);
+        }
+    }
+
+    /// The page that waits in the group with a number waits no more, if there is one: the group's pass is 0 again.
+    pub fn stop_waiting_in(&mut self, number: usize)
+        ensures removed { (t : ℕ) (b : List ℕ) → number_of t b self.old.numbers.entries ≡ Some number
+            → IsRemoved t b (waiting_in self.old) (waiting_in self.new) }
+        ensures none { ForSome (get self.new.groups number) (λ g. g.pass ≡ 0) }
+        ensures others { (other : ℕ) → other ≢ number → get self.new.groups other ≡ get self.old.groups other }
+        ensures slots { length self.new.groups.slots ≡ length self.old.groups.slots }
+        ensures chains { SameChains self.old self.new }
+        ensures numbers { self.new.numbers.entries ≡ self.old.numbers.entries }
+        ensures most { self.new.most ≡ self.old.most }
+    {
+        if let Some(group) = self.groups.get_mut(number) {
+            group.pass = 0;
         }
     }
 
@@ -403,21 +417,7 @@ impl Groups {
         ensures most { self.new.most ≡ self.old.most }
     {
         for number in 0..self.groups.capacity() {
-            self.forget_pass(number);
-        }
-    }
-
-    // The pass of the group with a number is 0 again.
-    fn forget_pass(&mut self, number: usize)
-        ensures none { ForSome (get self.new.groups number) (λ g. g.pass ≡ 0) }
-        ensures others { (other : ℕ) → other ≢ number → get self.new.groups other ≡ get self.old.groups other }
-        ensures slots { length self.new.groups.slots ≡ length self.old.groups.slots }
-        ensures chains { SameChains self.old self.new }
-        ensures numbers { self.new.numbers.entries ≡ self.old.numbers.entries }
-        ensures most { self.new.most ≡ self.old.most }
-    {
-        if let Some(group) = self.groups.get_mut(number) {
-            group.pass = 0;
+            self.stop_waiting_in(number);
         }
     }
 }
