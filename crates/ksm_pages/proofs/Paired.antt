@@ -1,9 +1,10 @@
 -- The pages once two of them became the items of a new dup.
-use Rattle.ksm_pages.proofs.Names.{All, All-filter, ap, ap₂, AreDups, AreKept, arith, at_others, change_held, change_row, change_rows, dup_numbered, DupRow, DupsState, Entry, false, filter, find, find-append, find_all, find_nothing, find_over, frame_of}
-use Rattle.ksm_pages.proofs.Names.{Frames, get_or-set_same, GuestPage, Held, held_at, held_of, InPageOrder, InPlaceOrder, Inside, is_live, IsStopped, length, length-set, let_out, lies_on, List}
-use Rattle.ksm_pages.proofs.Names.{lodging, lodgings_of, mapped, MatchOption, MayPair, Merged, merged_into, None, Option, option_and_then, option_map, ordered_change, PagesValue, paired, not}
-use Rattle.ksm_pages.proofs.Names.{refl, Row, row_at, row_stopped, rows_new, rows_of, RowsView, rules, same_page, same_page_eq, seen, set, slice_get, slice_get-get_or, Some, stands_at}
-use Rattle.ksm_pages.proofs.Names.{subst, suc, sym, tied_made, tree_of, true, with_dup, with_item, with_new, zero, ℕ, [], ◌&&◌, ◌+◌, ◌<◌, ◌==◌, ◌||◌, ◌∙◌, ◌∷◌, ◌≡◌, ◌≢◌}
+use Rattle.ksm_pages.proofs.Names.{All, All-filter, ap, ap₂, AreDups, AreKept, arith, at_others, change_held, change_row, change_rows, dup_numbered, DupRow, DupsState, Entry, false, filter, find}
+use Rattle.ksm_pages.proofs.Names.{find-append, find_all, find_nothing, find_over, frame_of, Frames, get_or-set_same, GuestPage, Held, held_at, held_of, InPageOrder, InPlaceOrder, Inside, is_live}
+use Rattle.ksm_pages.proofs.Names.{IsStopped, length, length-set, let_out, lies_on, List, lodging, lodgings_of, mapped, MatchOption, MayPair, Merged, merged_into, None, not, Option, option_and_then}
+use Rattle.ksm_pages.proofs.Names.{option_map, ordered_change, PagesValue, paired, refl, Row, row_at, row_stopped, rows_new, rows_of, RowsView, rules, same_page, same_page_eq, seen, set, slice_get}
+use Rattle.ksm_pages.proofs.Names.{slice_get-get_or, Some, stands_at, subst, suc, sym, tied_made, tree_of, true, with_dup, with_item, with_new, zero, ℕ, [], ◌&&◌, ◌+◌, ◌<◌, ◌==◌, ◌||◌, ◌∙◌, ◌∷◌, ◌≡◌}
+use Rattle.ksm_pages.proofs.Names.{◌≢◌}
 use Rattle.std.specs.Vec.{with_item as with_frame}
 use Rattle.ksm_tree.specs.Dups.{rows_of as dup_rows}
 use Rattle.ksm_tree.proofs.Alike.{map_mapped}

@@ -1,7 +1,7 @@
 -- Spots in the order of their pages: the pages of them, once one was put in, written or taken away.
 use Rattle.ksm_pages.proofs.Names.{add-one, after_cursor, All, All-map, ap, append-nil, append_assoc, ap₂, AreInOrder, arith, Bool, comes_before, drop, drop_all, Entry, false, filter, filter_none}
 use Rattle.ksm_pages.proofs.Names.{find, find_filter, find_none, find_passes, get, get_or, get_or_default, GuestPage, has_item, IfSome, if◌then◌else◌, insert, is_some, is_useless, IsInVain}
-use Rattle.ksm_pages.proofs.Names.{length, length-append, length-map, length-take-le, List, Listing, map, Named, None, not, not-true, Option, pages_of, pages_ordered, pairs_head}
+use Rattle.ksm_pages.proofs.Names.{IsPartitionedBy, length, length-append, length-map, length-take-le, List, Listing, map, Named, None, not, not-true, Option, pages_of, pages_ordered, pairs_head}
 use Rattle.ksm_pages.proofs.Names.{pairs_tail, point_is_count, refl, rules, same_page, same_page_eq, set, Slab, slice_get, Some, Spot, sym, take, true, true≢false, ℕ, [], ◌++◌, ◌+◌, ◌-◌, ◌<◌}
 use Rattle.ksm_pages.proofs.Names.{◌∙◌, ◌∷◌, ◌≡◌, ◌≤◌, ◌⊎◌}
 use Rattle.std.specs.List.{copy_within}

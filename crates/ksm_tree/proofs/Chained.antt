@@ -1,8 +1,8 @@
 -- The dups in their groups: what is found there, and how that stays right with a change of items and with a dup that goes.
-use Rattle.ksm_tree.proofs.Names.{All, All-filter, ap, AreChained, AreTotals, arith, Bool, change_at, change_items, content_of, Dup, dup_at, dup_of, DupRow, dups_seen, DupsState, false}
-use Rattle.ksm_tree.proofs.Names.{filter, filter_all, find, find_none, find_nothing, get, Group, group_places, GuestPage, has_number, if◌then◌else◌, in_group, Groups, InPlaceOrder, is_some, IsCountedAnew, SameChains}
-use Rattle.ksm_tree.proofs.Names.{items_in, length, List, MOST_FRAMES, None, not, number_of, Option, option_map, pairs_head, pairs_tail, chain_in, refl, rows_of, rules}
-use Rattle.ksm_tree.proofs.Names.{SlotsState, ◌∙◌, Some, stands_at, Tells, true, without, without_place, ℕ, [], ◌&&◌, ◌<◌, ◌==◌, ◌∷◌, ◌≡◌, ◌≤◌}
+use Rattle.ksm_tree.proofs.Names.{All, All-filter, ap, AreChained, AreTotals, arith, Bool, chain_in, change_at, change_items, content_of, Dup, dup_at, dup_of, DupRow, dups_seen, DupsState, false}
+use Rattle.ksm_tree.proofs.Names.{filter, filter_all, find, find_none, find_nothing, get, Group, group_places, Groups, GuestPage, has_number, if◌then◌else◌, in_group, InPlaceOrder, is_some}
+use Rattle.ksm_tree.proofs.Names.{IsCountedAnew, items_in, length, List, MOST_FRAMES, None, not, number_of, Option, option_map, pairs_head, pairs_tail, refl, rows_of, rules, SameChains, SlotsState}
+use Rattle.ksm_tree.proofs.Names.{Some, stands_at, Tells, true, without, without_place, ℕ, [], ◌&&◌, ◌<◌, ◌==◌, ◌∙◌, ◌∷◌, ◌≡◌, ◌≤◌}
 use Rattle.ksm_tree.specs.Groups.{IsMoved}
 use Rattle.ksm_tree.proofs.Alike.{chosen, find_alike, map_alike}
 use Rattle.ksm_tree.proofs.OneSlot.{found_stands}
@@ -12,7 +12,7 @@ use Rattle.ksm_base.proofs.Orders.{Lower, ordered_filter}
 use Rattle.ksm_tree.proofs.Changes.{all_rows, one_dup, row_found, rows_changed, rows_without}
 
 -- where the place of a number is told, a search by the number finds the dup at that place
-pub placed_found : (q : ℕ) {p : ℕ} (dups : List Dup) → InPlaceOrder (rows_of dups) → Some p ≡ option_map (λ d. d.row.place) (dup_of q dups) → dup_of q dups ≡ dup_at p dups
+placed_found : (q : ℕ) {p : ℕ} (dups : List Dup) → InPlaceOrder (rows_of dups) → Some p ≡ option_map (λ d. d.row.place) (dup_of q dups) → dup_of q dups ≡ dup_at p dups
 placed_found q dups rise is = grind (arith, find_alike, one_dup)
 
 -- the row found at a place is the row of the dup found there
@@ -20,7 +20,7 @@ pub row_at_place : (p : ℕ) (dups : List Dup) {d : Option Dup} → dup_at p dup
 row_at_place p dups is = grind (arith, row_found)
 
 -- where a dup of another group stands, the places of a group stay without that place
-pub not_in_group : (p t : ℕ) (b : List ℕ) (dups : List Dup) {d : Dup} → InPlaceOrder (rows_of dups) → dup_at p dups ≡ Some d → in_group t b d.row ≡ false → without p (group_places t b (rows_of dups)) ≡ group_places t b (rows_of dups)
+not_in_group : (p t : ℕ) (b : List ℕ) (dups : List Dup) {d : Dup} → InPlaceOrder (rows_of dups) → dup_at p dups ≡ Some d → in_group t b d.row ≡ false → without p (group_places t b (rows_of dups)) ≡ group_places t b (rows_of dups)
 not_in_group p t b dups rise found outside =
     let one = alone (λ r. r.place == p) _ _ rise (row_at_place p _ found) in
     group_unlike p t b _ (λ k e lt. grind (arith, found_stands dups found, one k e lt))
@@ -139,6 +139,3 @@ found_passing p test (d ∷ dups) rise =
     let behind = all_rows (Lower d.row) dups (pairs_head Lower d.row (rows_of dups) rise) in
     let rest = found_passing p test dups (pairs_tail Lower d.row (rows_of dups) rise) in
     grind (arith, find_nothing (λ e. stands_at p e && test e) dups, behind)
-
--- how the groups stay right beside a dup that is found by its number
-pub ruleset steps = (room_chained, stays_chained, told_items, told_there)

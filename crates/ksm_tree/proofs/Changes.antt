@@ -1,6 +1,6 @@
 -- Dups and their rows: what a dup that comes or goes and a change of items changes of the rows, and where a dup is found.
-use Rattle.ksm_tree.proofs.Names.{All, ap, arith, Bool, change_at, change_items, Dup, dup_of, DupRow, filter, find, find_passes, get_or-map, GuestPage, has_number, if◌then◌else◌, InPlaceOrder, length-map}
-use Rattle.ksm_tree.proofs.Names.{let_out, List, map, map-append, Merged, None, not, Option, option_map, PageState, Private, refl, rows_of, Some, stands_at, subst, sym, Waiting, with_dup}
+use Rattle.ksm_tree.proofs.Names.{All, ap, arith, Bool, change_at, change_items, Dup, dup_of, DupRow, filter, find, find_passes, get_or-map, GuestPage, has_number, if◌then◌else◌, InPlaceOrder}
+use Rattle.ksm_tree.proofs.Names.{length-map, let_out, List, map, map-append, Merged, None, not, Option, option_map, PageState, Private, refl, rows_of, Some, stands_at, subst, sym, Waiting, with_dup}
 use Rattle.ksm_tree.proofs.Names.{with_new, without_place, Zero, ℕ, [], ◌==◌, ◌∙◌, ◌∷◌, ◌≡◌}
 use Rattle.ksm_tree.proofs.Alike.{filter_mapped, find_mapped}
 use Rattle.ksm_tree.proofs.Rows.{alone}

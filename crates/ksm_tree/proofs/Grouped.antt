@@ -53,11 +53,11 @@ module _ (t : ℕ) (b : List ℕ) where
   group_own d e inside = grind (arith, bytes_eq-Decides)
 
   -- how many dups the group has
-  abbrev pub size : List DupRow → ℕ
+  abbrev size : List DupRow → ℕ
   size rows = count_by of_it rows
 
   -- a group has as many places as dups
-  pub places_size : (rows : List DupRow) → length (group_places t b rows) ≡ size rows
+  places_size : (rows : List DupRow) → length (group_places t b rows) ≡ size rows
   places_size rows = length-map (filter of_it rows) _ ∙ length-filter _ rows
 
   -- how many dups of other groups pass a test

@@ -1,6 +1,6 @@
 -- The dups in their groups once a new one has taken its place.
-use Rattle.ksm_tree.proofs.Names.{ap, AreChained, arith, Bool, chain_in, Dup, dup_at, DupRow, dups_seen, DupsState, filter, filter_all, find_none, group_places, Groups, InPlaceOrder}
-use Rattle.ksm_tree.proofs.Names.{IsCountedAnew, List, nat_lt, None, not, rows_of, SameWaits, SlotsState, refl, subst, with_dup, with_new, with_place, without_place, ℕ, [], ◌+◌, ◌<◌, ◌==◌, ◌∷◌, ◌≡◌}
+use Rattle.ksm_tree.proofs.Names.{ap, AreChained, arith, Bool, chain_in, Dup, dup_at, DupRow, dups_seen, DupsState, filter, filter_all, find_none, group_places, Groups, InPlaceOrder, IsCountedAnew}
+use Rattle.ksm_tree.proofs.Names.{List, nat_lt, None, not, refl, rows_of, SameWaits, SlotsState, subst, with_dup, with_new, with_place, without_place, ℕ, [], ◌+◌, ◌<◌, ◌==◌, ◌∷◌, ◌≡◌}
 use Rattle.ksm_tree.specs.Groups.{IsMoved}
 use Rattle.ksm_tree.proofs.Changes.{rows_new}
 use Rattle.ksm_tree.proofs.Chained.{by_rows, row_at_place, with_dups}

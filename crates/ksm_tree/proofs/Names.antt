@@ -27,7 +27,7 @@ pub use Rattle.ksm_tree.specs.CountedSets.{IsMarked, MayBeMarked}
 pub use Rattle.ksm_tree.specs.Counts.{is_open, places_where}
 pub use Rattle.ksm_tree.specs.Dups.{change_items, dup_at, dup_of, DupsState, has_number, is_live, is_stale, items_in, places_open, rows_of, stands_at, with_new, without_place}
 pub use Rattle.ksm_tree.specs.Grouping.{AreGroups, content_in, is_occupied, IsIdle, places_in, waits_in}
-pub use Rattle.ksm_tree.specs.Groups.{chain_in, HasRoomAt, is_used_in, IsAsWas, IsCounted, IsCountedAnew, IsSwept, SameChains, SameWaits, under, waiting_in}
+pub use Rattle.ksm_tree.specs.Groups.{chain_in, HasRoomAt, is_used_in, IsAsWas, IsCounted, IsCountedAnew, IsSwept, SameChains, SameWaits, StandsAsWas, under, waiting_in}
 pub use Rattle.ksm_tree.specs.NumberSets.{AreSummed, has, HasBelow, HasNoBit, HasNone, IsLeast, IsLowestBit, IsSummed, Marks}
 pub use Rattle.ksm_tree.specs.Numbered.{AreNumbered, content_of, content_order, IsUnused, number_of, Numbers}
 pub use Rattle.ksm_tree.specs.Places.{with_place, without}

@@ -1,7 +1,6 @@
 -- Dup rows in the order of their places: whose group a row is of, and what a new row and a row that goes change of what is found.
-use Rattle.ksm_tree.proofs.Names.{All, ap, arith, Bool, bytes_eq, bytes_eq-Decides, DupRow, false, filter, find, find_all}
-use Rattle.ksm_tree.proofs.Names.{group_places, in_group, InPlaceOrder, List, nat_lt, not, refl, Some, suc, sym, true, with_dup, with_place, without, ℕ, [], ◌&&◌}
-use Rattle.ksm_tree.proofs.Names.{◌==◌, ◌∙◌, ◌∷◌, ◌≡◌}
+use Rattle.ksm_tree.proofs.Names.{All, ap, arith, Bool, bytes_eq, bytes_eq-Decides, DupRow, false, filter, find, find_all, group_places, in_group, InPlaceOrder, List, nat_lt, not, refl, Some, suc}
+use Rattle.ksm_tree.proofs.Names.{sym, true, with_dup, with_place, without, ℕ, [], ◌&&◌, ◌==◌, ◌∙◌, ◌∷◌, ◌≡◌}
 use Rattle.ksm_tree.proofs.Alike.{chosen, kept_append}
 use Rattle.ksm_base.proofs.Orders.{above, below, dups_parted, Lower, one_of_each, one_of_each_place}
 

@@ -46,6 +46,11 @@ pub record SameChains (old new : Groups) : Type 0 where
   pub chains : (tree : ℕ) (bytes : List ℕ) → chain_in tree bytes new ≡ chain_in tree bytes old
   pub totals : new.totals ≡ old.totals
 
+-- what stands in the groups is as it was
+pub record StandsAsWas (old new : Groups) : Type 0 where
+  pub chains : SameChains old new
+  pub waiting : waiting_in new ≡ waiting_in old
+
 -- what waits is as it was, each content has the number that it had, and as many may have one
 pub record SameWaits (old new : Groups) : Type 0 where
   pub waiting : waiting_in new ≡ waiting_in old
