@@ -1,4 +1,4 @@
--- The chains: where the dups of a tree and bytes stand. And what callers see of the dups by place and of the groups. (own)
+-- Where the dups of a tree and bytes stand, and what callers see of the dups by place and of the groups. (own)
 use Rattle.std.specs.Prelude.{Bool, bytes_eq, filter, is_some, length, List, map, nat_lt, ℕ, ◌&&◌, ◌==◌, ◌||◌, ◌≡◌, ◌≤◌}
 use Rattle.ksm_base.specs.declared.limits.TheConstants.{MOST_FRAMES}
 use Rattle.ksm_base.specs.declared.row.DupRow.{DupRow}

@@ -47,8 +47,8 @@ pub const FEW_PLACES: usize = 1_024;
 
 /// The dups with their items, by place, by number, and by tree and bytes (mm/ksm, stable nodes and their chains).
 ///
-/// A look-up by number costs a comparison where the place is guessed right, and else a walk over the places. A dup keeps
-/// its place as long as it is there, so whoever remembers the place guesses right.
+/// A look-up by number costs a comparison where the place is guessed right, and else a walk over the places. A dup
+/// keeps its place as long as it is there, so whoever remembers the place guesses right.
 /// A look-up by content costs a comparison where the number of its group is remembered by the caller, and for `group`
 /// two where it is remembered here alone; else a search among the contents that are known, in a number of steps in the
 /// order of the logarithm of how many there are. `best` and `best_of` also walk along the chain, or, where a chain is
