@@ -37,9 +37,8 @@ pub use Rattle.ksm_rmap.proofs.Ordered.{point_is_count, with_found}
 pub use Rattle.ksm_rmap.proofs.Pages.{pages_ordered}
 pub use Rattle.ksm_rmap.specs.Items.{has_item, with_item}
 pub use Rattle.ksm_tree.proofs.Bridge.{best_found, choice_alike, choice_exists, live_count, live_placed, stale_alike}
+pub use Rattle.ksm_tree.proofs.Chained.{found_passing}
 pub use Rattle.ksm_tree.proofs.Changes.{all_rows, row_found, rows_items, rows_new, rows_out, rows_without}
-pub use Rattle.ksm_tree.proofs.Indexed.{found_passing, stands_numbered}
-pub use Rattle.ksm_tree.proofs.Rows.{place_kept, place_new}
 pub use Rattle.ksm_tree.proofs.Tied.{tied_counted}
 pub use Rattle.ksm_tree.proofs.Ties.{number_found, tied_absent, tied_count, tied_dropped, tied_inserted, tied_joined, tied_left, tied_made, tied_mapped, tied_pruned}
 pub use Rattle.ksm_tree.proofs.Waiters.{at_mapped, at_others, knobs_tuned, look_up_found, none_waiting, own_found, partner_found, row_begun, row_dropped, row_inserted, row_kept, row_stopped}

@@ -1,7 +1,7 @@
 -- What is read of the pages: rows and dups found by their pages, places and numbers.
 use Rattle.ksm_pages.proofs.Names.{All, ap, AreDups, AreTied, AreWaiting, arith, Dup, dup_at, dup_numbered, dup_of, DupRow, DupsState, each_has_number, false, find, find_all, found_passing, has_items}
 use Rattle.ksm_pages.proofs.Names.{Held, InPageOrder, InPlaceOrder, is_live, is_some, is_stale, items_in, items_of, Knobs, length, List, list_any, live_placed, lodging, lodgings_of, merged_into, None}
-use Rattle.ksm_pages.proofs.Names.{Option, option_and_then, option_map, refl, Row, row_at, rows_of, slice_get, slice_get-get_or, Some, stale_alike, stands_at, stands_numbered, sym, tied_counted, true}
+use Rattle.ksm_pages.proofs.Names.{Option, option_and_then, option_map, refl, Row, row_at, rows_of, slice_get, slice_get-get_or, Some, stale_alike, stands_at, sym, tied_counted, true}
 use Rattle.ksm_pages.proofs.Names.{unwrap_or-slice_get, waiting_state, WaitingPage, ℕ, ◌&&◌, ◌<◌, ◌==◌, ◌∙◌, ◌≡◌}
 use Rattle.std.proofs.Common.{unwrap_or}
 use Rattle.ksm_base.specs.Rows.{is_stale as is_stale_row}
@@ -10,7 +10,7 @@ use Rattle.ksm_tree.proofs.Changes.{row_found as dup_row_found}
 use Rattle.ksm_pages.specs.Paged.{frame_of as lies_at}
 use Rattle.ksm_rmap.proofs.Ordered.{any_found}
 use Rattle.ksm_pages.proofs.Joined.{item_lies}
-use Rattle.ksm_pages.proofs.Options.{mapped_some, mapped_twice, some_mapped}
+use Rattle.ksm_pages.proofs.Options.{mapped_twice, some_mapped}
 
 -- ---------------------------------------------------------------- rows
 
@@ -31,12 +31,6 @@ pub place_numbered : (number : ℕ) (dups : List Dup) → option_map (λ d. d.ro
 place_numbered number dups =
     sym (grind (arith, mapped_twice))
     ∙ ap (option_map (λ (d : DupRow). d.place)) (dup_row_found _ _ (λ d. refl) dups)
-
--- a dup that stands at a place with a number is the one with that number
-pub place_guessed : {guess number : ℕ} (dups : List Dup) → InPlaceOrder (dup_rows dups) → option_map (λ d. d.row.number) (dup_at guess dups) ≡ Some number → Some guess ≡ option_map (λ d. d.place) (dup_numbered number (dup_rows dups))
-place_guessed dups rise is =
-    let at = mapped_some _ _ is in
-    stands_numbered _ _ _ _ rise at.1 at.2 ∙ place_numbered _ dups
 
 -- a dup is found at a place exactly where a row stands there
 pub any_at : (place : ℕ) (dups : List Dup) → is_some (option_map (λ d. d.row.number) (dup_at place dups)) ≡ list_any (λ d. d.place == place) (dup_rows dups)

@@ -1,12 +1,14 @@
 -- The pages once two of them became the items of a new dup.
-use Rattle.ksm_pages.proofs.Names.{All, ap, ap₂, AreDups, AreKept, arith, at_others, change_held, change_row, change_rows, dup_numbered, DupRow, DupsState, Entry, false, find, find_all, frame_of}
-use Rattle.ksm_pages.proofs.Names.{Frames, get_or-set_same, GuestPage, Held, held_at, held_of, InPageOrder, InPlaceOrder, Inside, is_live, IsStopped, length, length-set, let_out, lies_on, List}
-use Rattle.ksm_pages.proofs.Names.{lodging, lodgings_of, mapped, MatchOption, MayPair, Merged, merged_into, None, Option, option_and_then, option_map, ordered_change, PagesValue, paired, place_kept}
-use Rattle.ksm_pages.proofs.Names.{place_new, refl, Row, row_at, row_stopped, rows_new, rows_of, RowsView, rules, same_page, same_page_eq, seen, set, slice_get, slice_get-get_or, Some, stands_at}
-use Rattle.ksm_pages.proofs.Names.{subst, suc, sym, tied_made, tree_of, true, with_dup, with_item, with_new, zero, ℕ, [], ◌&&◌, ◌+◌, ◌<◌, ◌==◌, ◌||◌, ◌∙◌, ◌∷◌, ◌≡◌, ◌≢◌}
+use Rattle.ksm_pages.proofs.Names.{All, All-filter, ap, ap₂, AreDups, AreKept, arith, at_others, change_held, change_row, change_rows, dup_numbered, DupRow, DupsState, Entry, false, filter, find}
+use Rattle.ksm_pages.proofs.Names.{find-append, find_all, find_nothing, find_over, frame_of, Frames, get_or-set_same, GuestPage, Held, held_at, held_of, InPageOrder, InPlaceOrder, Inside, is_live}
+use Rattle.ksm_pages.proofs.Names.{IsStopped, length, length-set, let_out, lies_on, List, lodging, lodgings_of, mapped, MatchOption, MayPair, Merged, merged_into, None, not, Option, option_and_then}
+use Rattle.ksm_pages.proofs.Names.{option_map, ordered_change, PagesValue, paired, refl, Row, row_at, row_stopped, rows_new, rows_of, RowsView, rules, same_page, same_page_eq, seen, set, slice_get}
+use Rattle.ksm_pages.proofs.Names.{slice_get-get_or, Some, stands_at, subst, suc, sym, tied_made, tree_of, true, with_dup, with_item, with_new, zero, ℕ, [], ◌&&◌, ◌+◌, ◌<◌, ◌==◌, ◌||◌, ◌∙◌, ◌∷◌, ◌≡◌}
+use Rattle.ksm_pages.proofs.Names.{◌≢◌}
 use Rattle.std.specs.Vec.{with_item as with_frame}
 use Rattle.ksm_tree.specs.Dups.{rows_of as dup_rows}
 use Rattle.ksm_tree.proofs.Alike.{map_mapped}
+use Rattle.ksm_base.proofs.Orders.{above, below, dups_parted, elsewhere}
 use Rattle.ksm_pages.proofs.Changing.{row_told, rows_changed}
 use Rattle.ksm_pages.proofs.Dropping.{lodged_alike, none_live, not_vacant}
 use Rattle.ksm_pages.proofs.Filing.{differ_by}
@@ -14,7 +16,6 @@ use Rattle.ksm_pages.proofs.Found.{find_changed_other, find_kept}
 use Rattle.ksm_pages.proofs.Joined.{let_out_alone, own_not_merged, own_seat}
 use Rattle.ksm_pages.proofs.Leaving.{AreLawful, lies, lies_same, of_dup, of_page, row_seen, view_of}
 use Rattle.ksm_pages.proofs.Lodgings.{changed_to, frame_by, lodged_changed, seat}
-use Rattle.ksm_pages.proofs.Paging.{kept_at_place}
 use Rattle.ksm_pages.proofs.Visiting.{lawful_numbered, seen_numbered}
 
 -- ---------------------------------------------------------------- what is kept at one place
@@ -42,18 +43,28 @@ module _ (dups : List DupRow) (dup : DupRow) (frames : List ℕ) (frame : ℕ) w
   abbrev of_now : ℕ → Option ℕ
   of_now = lodging (with_dup dup dups) (set frames dup.place frame)
 
+  abbrev lies_at : DupRow → Option ℕ
+  lies_at d = slice_get (set frames dup.place frame) d.place
+
+  new_found : All (λ d. d.number < dup.number) dups → dup_numbered dup.number (with_dup dup dups) ≡ Some dup
+  new_found fresh =
+      let lower = filter (below dup.place) dups in
+      let less = All-filter (below dup.place) (λ d. d.number < dup.number) dups fresh in
+      let none = find_nothing (λ d. d.number == dup.number) lower (λ k d lt. grind (arith, less k d lt)) in
+      grind (arith, find-append (λ d. d.number == dup.number) lower (dup ∷ filter (above dup.place) dups))
+
   -- a new dup has the frame that is written at its place
   pub lodged_new : All (λ d. d.number < dup.number) dups → dup.place < length frames → of_now dup.number ≡ Some frame
-  lodged_new fresh inside = grind (arith, kept_at_place, place_new, set_there)
+  lodged_new fresh inside = ap (option_and_then lies_at) (new_found fresh) ∙ set_there frames dup.place inside
 
   -- a dup that stands elsewhere keeps its frame where one is written for a new dup
   pub lodged_kept : InPlaceOrder dups → (n : ℕ) → (n == dup.number) ≡ false
       → ((e : DupRow) → dup_numbered n dups ≡ Some e → (e.place == dup.place) ≡ false) → of_now n ≡ lodging dups frames n
   lodged_kept rise n other away =
-      sym (kept_at_place (set frames dup.place frame) (dup_numbered n (with_dup dup dups)))
-      ∙ ap (option_and_then (slice_get (set frames dup.place frame))) (grind (arith, place_kept, find_kept))
-      ∙ kept_at_place _ (dup_numbered n dups)
-      ∙ frame_away frames dup.place frame _ away
+      let passed : dup_numbered n (with_dup dup dups) ≡ dup_numbered n (filter (elsewhere dup.place) dups) =
+      grind (arith, below, find_over, dups_parted) in
+      let found = find_kept (λ d. d.number == n) (elsewhere dup.place) dups _ refl (λ e is. ap not (away e is)) in
+      ap (option_and_then lies_at) (passed ∙ found) ∙ frame_away frames dup.place frame _ away
 
 -- ---------------------------------------------------------------- two rows
 

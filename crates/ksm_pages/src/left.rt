@@ -1,11 +1,14 @@
 //! How a page leaves what it is in, before its row becomes another: the dup into which it is merged, or the pages that
 //! wait.
 
-ghost use Rattle.std.specs.Prelude.{◌≡◌, ℕ, ⊤, MatchOption};
+ghost use Rattle.std.specs.Prelude.{◌≡◌, ℕ, List, Some, false, ⊤, MatchOption};
+ghost use Rattle.ksm_base.specs.Rows.{shared_state};
+ghost use Rattle.ksm_base.specs.State.{tree_of};
 ghost use Rattle.ksm_base.specs.declared.row.PageState.TheVariants.{Merged};
 ghost use Rattle.ksm_base.specs.declared.knobs.Knobs.{Knobs};
 ghost use Rattle.ksm_pages.specs.Held.{held_at, held_of};
 ghost use Rattle.ksm_pages.specs.Left.{IsLeft};
+ghost use Rattle.ksm_tree.specs.Numbered.{number_of};
 
 use crate::lying::frame_at;
 use crate::row::{Entry, Spot};
@@ -61,6 +64,18 @@ pub fn left_by_any(
         }
         PageState::Private => Some(entry.at),
         PageState::Zero => None,
+    }
+}
+
+/// The same for a row with a frame of its own, where the number of its group is known.
+#[inline(always)]
+pub fn left_group(dups: &mut Dups, group: u32, entry: &Entry, pass: u64)
+    ensures { (knobs : Knobs) (frames : List ℕ) → let h = held_of pass entry.now in
+        shared_state h.row.state ≡ false → number_of (tree_of knobs h.row) h.row.bytes dups.old.numbers ≡ Some group
+        → IsLeft knobs frames dups.old dups.new (Some entry.now.at) h }
+{
+    if let PageState::Waiting = entry.state(pass) {
+        dups.stop_waiting_in(group);
     }
 }
 

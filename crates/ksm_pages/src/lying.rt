@@ -1,24 +1,12 @@
 //! On which frame the page of a row lies: on its own, or on that of its dup, which is kept at the dup's place.
 
-ghost use Rattle.std.specs.Prelude.{◌≡◌, option_map, option_and_then, slice_get};
-ghost use Rattle.ksm_base.specs.Rows.{dup_numbered};
+ghost use Rattle.std.specs.Prelude.{◌≡◌, option_and_then, slice_get};
 ghost use Rattle.ksm_tree.specs.Dups.{rows_of as dup_rows};
 ghost use Rattle.ksm_pages.specs.Held.{held_of};
 ghost use Rattle.ksm_pages.specs.Paged.{frame_seen, lodging};
 
 use crate::row::{Entry, Kind};
 use ksm_tree::Dups;
-
-/// The place of a dup. The guess is looked at first.
-#[inline(always)]
-pub fn place_of(dups: &Dups, guess: u32, number: u64) -> Option<u32>
-    ensures { result ≡ option_map (λ d. d.place) (dup_numbered number (dup_rows dups.now.dups)) }
-{
-    match dups.at(guess) {
-        Some(found) if found == number => Some(guess),
-        _ => dups.place(number),
-    }
-}
 
 /// The frame that is kept at a place, if there is one.
 pub fn frame_at(frames: &[u32], place: Option<u32>) -> Option<u32>
@@ -35,7 +23,7 @@ pub fn frame_of(dups: &Dups, frames: &[u32], entry: &Entry, pass: u64) -> Option
 {
     match entry.kind {
         Kind::Own => Some(entry.at),
-        Kind::Merged => frame_at(frames, place_of(dups, entry.at, entry.number)),
+        Kind::Merged => frame_at(frames, dups.place_by(entry.at, entry.number)),
         Kind::Zero => None,
     }
 }

@@ -9,7 +9,7 @@ ghost use Rattle.ksm_base.specs.Visit.{after_cursor};
 ghost use Rattle.ksm_base.specs.declared.row.Row.{Row};
 ghost use Rattle.ksm_pages.specs.Paged.{IsHeld, IsKnown, is_next, of_guest, page_beside, seen};
 
-use crate::lying::{frame_of, place_of};
+use crate::lying::frame_of;
 use crate::pages::{Held, Pages};
 use crate::row::{Kind, Spot};
 use crate::tree::tree_in;
@@ -129,7 +129,7 @@ impl Pages {
         let key = self.rows.guess(page);
         let entry = self.rows.find(Spot { page, key })?;
         match entry.kind {
-            Kind::Merged => place_of(&self.dups, entry.at, entry.number),
+            Kind::Merged => self.dups.place_by(entry.at, entry.number),
             Kind::Own => None,
             Kind::Zero => None,
         }

@@ -9,7 +9,7 @@ ghost use Rattle.ksm_pages.specs.declared.pages.Find.TheVariants as finds;
 ghost use Rattle.ksm_pages.specs.Paged.{Finds, HasRoom, HasRow, IsAlone, MayPair, is_restless, lies_on};
 ghost use Rattle.ksm_pages.specs.Paged.{paired as are_paired, seen};
 
-use crate::left::{leave, left_by};
+use crate::left::{leave, left_by, left_group};
 use crate::pages::{Find, Glance, Pages};
 use crate::row::Spot;
 use crate::rows::Rows;
@@ -94,8 +94,7 @@ impl Pages {
             return Ok(Find::Dup(best));
         }
         if !entry.unchanged {
-            let pass = self.rows.pass();
-            left_by(&mut self.dups, &self.frames, &self.knobs, entry, pass);
+            left_group(&mut self.dups, group, entry, self.rows.pass());
             self.rows.become_unchanged(spot, group);
             return Ok(Find::Changed);
         }
@@ -166,7 +165,7 @@ impl Pages {
         let (frame, lone) = (one.at, other.at);
         let pass = self.rows.pass();
         left_by(&mut self.dups, &self.frames, &self.knobs, one, pass);
-        left_by(&mut self.dups, &self.frames, &self.knobs, other, pass);
+        left_group(&mut self.dups, group, other, pass);
         self.rows.merge(first, number, place);
         self.rows.merge(second, number, place);
         self.frames[place as usize] = frame;

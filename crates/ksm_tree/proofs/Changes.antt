@@ -1,7 +1,7 @@
 -- Dups and their rows: what a dup that comes or goes and a change of items changes of the rows, and where a dup is found.
-use Rattle.ksm_tree.proofs.Names.{All, arith, Bool, change_at, change_items, Dup, DupRow, filter, find, find_passes, get_or-map, GuestPage, has_number, if◌then◌else◌, InPlaceOrder, length-map}
-use Rattle.ksm_tree.proofs.Names.{let_out, List, map, map-append, Merged, None, not, Option, option_map, PageState, Private, refl, row_place, rows_of, Some, stands_at, subst, Waiting, with_dup}
-use Rattle.ksm_tree.proofs.Names.{with_new, without_place, Zero, ℕ, [], ◌==◌, ◌∷◌, ◌≡◌}
+use Rattle.ksm_tree.proofs.Names.{All, ap, arith, Bool, change_at, change_items, Dup, dup_of, DupRow, filter, find, find_passes, get_or-map, GuestPage, has_number, if◌then◌else◌, InPlaceOrder}
+use Rattle.ksm_tree.proofs.Names.{length-map, let_out, List, map, map-append, Merged, None, not, Option, option_map, PageState, Private, refl, rows_of, Some, stands_at, subst, sym, Waiting, with_dup}
+use Rattle.ksm_tree.proofs.Names.{with_new, without_place, Zero, ℕ, [], ◌==◌, ◌∙◌, ◌∷◌, ◌≡◌}
 use Rattle.ksm_tree.proofs.Alike.{filter_mapped, find_mapped}
 use Rattle.ksm_tree.proofs.Rows.{alone}
 
@@ -42,10 +42,12 @@ all_rows P dups each k d lt =
     subst P (get_or-map (λ (d : Dup). d.row) dups k d) (each k d.row (rw (length-map dups (λ d. d.row)) lt))
 
 -- number and place tell one dup
-pub one_dup : (q : ℕ) {p : ℕ} (dups : List Dup) → InPlaceOrder (rows_of dups) → row_place q (rows_of dups) ≡ Some p → All (λ d. has_number q d ≡ stands_at p d) dups
-one_dup q {p} dups rise is = by (find (λ r. r.number == q) (rows_of dups)) refl
+pub one_dup : (q : ℕ) {p : ℕ} (dups : List Dup) → InPlaceOrder (rows_of dups) → Some p ≡ option_map (λ d. d.row.place) (dup_of q dups) → All (λ d. has_number q d ≡ stands_at p d) dups
+one_dup q {p} dups rise is = by (dup_of q dups) refl
   where
-    by : (o : Option DupRow) → find (λ r. r.number == q) (rows_of dups) ≡ o → All (λ d. has_number q d ≡ stands_at p d) dups
+    by : (o : Option Dup) → dup_of q dups ≡ o → All (λ d. has_number q d ≡ stands_at p d) dups
     by None none = grind arith
-    by (Some e) found = all_rows (λ r. (r.number == q) ≡ (r.place == p)) _
-        (λ k d lt. grind (arith, find_passes, alone (λ r. r.number == q) _ e rise found k d lt))
+    by (Some e) found =
+        let row = sym (row_found (has_number q) (λ r. r.number == q) (λ d. refl) dups) ∙ ap (option_map (λ d. d.row)) found in
+        all_rows (λ r. (r.number == q) ≡ (r.place == p)) _
+        (λ k d lt. grind (arith, find_passes, alone (λ r. r.number == q) _ e.row rise row k d lt))

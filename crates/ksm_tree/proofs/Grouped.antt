@@ -2,9 +2,8 @@
 use Rattle.ksm_tree.proofs.Names.{All, AreTotals, arith, Bool, bytes_eq-Decides, cases_Bool, chained_of, chains_of, count-append, count_by, count_by-le-length, count_more, count_none, DupRow, false}
 use Rattle.ksm_tree.proofs.Names.{filter, filter_all, find, get_or, group_places, group_size, if◌then◌else◌, in_chain, in_group, inl, InPlaceOrder, inr, IsRegrouped, leads_group, length}
 use Rattle.ksm_tree.proofs.Names.{length-filter, length-map, List, list_all, list_all-append, list_all-from_AllPass, MOST_FRAMES, nat_le, nat_lt, none-some, not, pairs_head, pairs_tail, refl}
-use Rattle.ksm_tree.proofs.Names.{same_group, Some, suc, sym, Tells, Totals, true, with_dup, zero, ℕ, [], ◌&&◌, ◌+◌, ◌<◌, ◌==◌, ◌||◌, ◌∙◌, ◌∷◌, ◌≡◌, ◌≤◌}
+use Rattle.ksm_tree.proofs.Names.{same_group, Some, suc, Tells, Totals, true, with_dup, zero, ℕ, [], ◌&&◌, ◌+◌, ◌<◌, ◌==◌, ◌||◌, ◌∙◌, ◌∷◌, ◌≡◌, ◌≤◌}
 use Rattle.ksm_tree.proofs.Alike.{count_alike}
-use Rattle.ksm_tree.proofs.Rows.{own_group, self_group}
 use Rattle.ksm_base.proofs.Orders.{dups_parted as rows_parted, Lower}
 
 -- rows count as others do with one row more
@@ -54,11 +53,11 @@ module _ (t : ℕ) (b : List ℕ) where
   group_own d e inside = grind (arith, bytes_eq-Decides)
 
   -- how many dups the group has
-  abbrev pub size : List DupRow → ℕ
+  abbrev size : List DupRow → ℕ
   size rows = count_by of_it rows
 
   -- a group has as many places as dups
-  pub places_size : (rows : List DupRow) → length (group_places t b rows) ≡ size rows
+  places_size : (rows : List DupRow) → length (group_places t b rows) ≡ size rows
   places_size rows = length-map (filter of_it rows) _ ∙ length-filter _ rows
 
   -- how many dups of other groups pass a test
@@ -101,10 +100,6 @@ module _ (t : ℕ) (b : List ℕ) where
       (λ k e lt. grind (arith, own_size rows (get_or rows k e))) in
       grind (arith, parts, one_leads rows rise)
 
-  -- a row of another group changes nothing of how many places the group has
-  unmoved : {r : DupRow} {less more : List DupRow} → IsMore r less more → of_it r ≡ false → length (group_places t b more) ≡ length (group_places t b less)
-  unmoved {r} {less} {more} h outside = grind (arith, places_size)
-
   -- one row more in the group
   module _ {r : DupRow} {less more : List DupRow} (h : IsMore r less more) (inside : of_it r ≡ true) (rise : InPlaceOrder less) (more_rise : InPlaceOrder more) where
     same_size : (d : DupRow) → of_it d ≡ false → group_size more d ≡ group_size less d
@@ -115,7 +110,7 @@ module _ (t : ℕ) (b : List ℕ) where
     apart_kept = (grind (arith, count_alike, same_size), grind (arith, count_alike, same_size))
 
     -- the totals of rows change as the group does that has one row more
-    pub regrouped : IsRegrouped (length (group_places t b less)) (length (group_places t b more)) (totals_of less) (totals_of more)
+    regrouped : IsRegrouped (length (group_places t b less)) (length (group_places t b more)) (totals_of less) (totals_of more)
     regrouped = rw (places_size less, places_size more)
         (omega (arith, apart_kept, chains_parted less rise, chains_parted more more_rise, dups_parted less, dups_parted more))
 
@@ -136,7 +131,7 @@ rows_fit p (r ∷ rows) below rise =
     omega (arith, below (length rows) r (omega arith), place_most (r ∷ rows) rise (length rows) r (omega arith))
 
 -- there are at most as many chains as frames, and as many dups in them
-pub totals_few : (p : ℕ) {rows : List DupRow} {totals : Totals} → p ≤ MOST_FRAMES → All (λ r. r.place < p) rows → InPlaceOrder rows → AreTotals rows totals → (totals.chains ≤ MOST_FRAMES) × (totals.dups ≤ MOST_FRAMES)
+totals_few : (p : ℕ) {rows : List DupRow} {totals : Totals} → p ≤ MOST_FRAMES → All (λ r. r.place < p) rows → InPlaceOrder rows → AreTotals rows totals → (totals.chains ≤ MOST_FRAMES) × (totals.dups ≤ MOST_FRAMES)
 totals_few p {rows} few below rise are =
     let fit = rows_fit p rows below rise in
     (omega (arith, count_by-le-length (leads rows) rows), omega (arith, count_by-le-length (in_chain rows) rows))
@@ -145,28 +140,3 @@ totals_few p {rows} few below rise are =
 pub totals_tell : (t : ℕ) (b : List ℕ) (p : ℕ) {rows : List DupRow} {totals : Totals} → p ≤ MOST_FRAMES → All (λ r. r.place < p) rows → InPlaceOrder rows → AreTotals rows totals → Tells (length (group_places t b rows)) totals
 totals_tell t b p {rows} {totals} few below rise are =
     rw (places_size t b rows) (omega (arith, chains_parted t b _ rise, dups_parted t b rows, totals_few p few below rise are))
-
--- the totals tell of a group of any size that they told of, once a group has as many dups as before or one more
-grown_tells : {m n k : ℕ} {t u : Totals} → IsRegrouped m n t u → (m ≤ n) × (n ≤ m + 1) → (t.chains ≤ MOST_FRAMES) × (t.dups ≤ MOST_FRAMES) → Tells k t → Tells k u
-grown_tells grown step few tells = grind arith
-
--- a row in the stead of another: first the one comes, then the other goes
-module _ {old r : DupRow} {less rows new : List DupRow} (there : IsMore old less rows) (here : IsMore r less new)
-    (rise : InPlaceOrder rows) (less_rise : InPlaceOrder less) (new_rise : InPlaceOrder new) where
-  -- the totals are right once the dup that came and the one that went are counted in their groups
-  pub totals_swapped : {t u v : Totals} → IsRegrouped (length (group_places r.tree r.bytes rows)) (length (group_places r.tree r.bytes new)) t u
-      → IsRegrouped (length (group_places old.tree old.bytes (if in_group r.tree r.bytes old then new else rows))) (length (group_places old.tree old.bytes new)) u v
-      → AreTotals rows t → AreTotals new v
-  totals_swapped first second are =
-      let come = regrouped r.tree r.bytes here (self_group r) less_rise new_rise in
-      elim (cases_Bool (in_group r.tree r.bytes old)) [
-        | inl same ↦ omega (arith, rw same at second, regrouped r.tree r.bytes there same less_rise rise)
-        | inr other ↦
-            let gone = regrouped old.tree old.bytes there (self_group old) less_rise rise in
-            let also = unmoved old.tree old.bytes here (sym (own_group r.tree r.bytes old) ∙ other) in
-            omega (arith, rw (unmoved r.tree r.bytes there other) at first, rw (other, also) at second)
-      ]
-
-  -- after a dup came and before another went, the totals tell of a group of any size that they told of
-  pub totals_between : {t u : Totals} {n : ℕ} → IsRegrouped (length (group_places r.tree r.bytes rows)) (length (group_places r.tree r.bytes new)) t u → (t.chains ≤ MOST_FRAMES) × (t.dups ≤ MOST_FRAMES) → Tells n t → Tells n u
-  totals_between first few tells = grind (arith, grown_tells, self_group, places_size)

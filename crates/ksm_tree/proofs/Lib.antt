@@ -1,9 +1,9 @@
 pub mod Names
 pub mod Alike
 pub mod Bridge
+pub mod Chained
 pub mod Changes
 pub mod Grouped
-pub mod Indexed
 pub mod Joining
 pub mod Made
 pub mod NumberBits

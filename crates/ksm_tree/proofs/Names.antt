@@ -21,18 +21,18 @@ pub use Rattle.ksm_rmap.proofs.Ordered.{with_rises, without_rises}
 pub use Rattle.ksm_rmap.proofs.Pages.{pages_ordered}
 pub use Rattle.ksm_rmap.specs.Items.{has_item, with_item, without_item}
 pub use Rattle.ksm_tree.specs.Bridge.{AreCounted, AreTied, let_out, place_in}
+pub use Rattle.ksm_tree.specs.Chains.{AreChained, dups_seen, group_places, in_group}
 pub use Rattle.ksm_tree.specs.Choosing.{ArePlacesToJoin, best_of, choice_of, empty_place, found_at, is_best, is_no_worse, may_join, of_group, unless_behind}
 pub use Rattle.ksm_tree.specs.CountedSets.{IsMarked, MayBeMarked}
 pub use Rattle.ksm_tree.specs.Counts.{is_open, places_where}
 pub use Rattle.ksm_tree.specs.Dups.{change_items, dup_at, dup_of, DupsState, has_number, is_live, is_stale, items_in, places_open, rows_of, stands_at, with_new, without_place}
 pub use Rattle.ksm_tree.specs.Grouping.{AreGroups, content_in, is_occupied, IsIdle, places_in, waits_in}
-pub use Rattle.ksm_tree.specs.Groups.{chain_in, is_used_in, IsAsWas, IsCounted, IsCountedAnew, IsSwept, SameChains, SameWaits, under, waiting_in}
-pub use Rattle.ksm_tree.specs.Index.{AreIndexed, dups_seen, group_places, in_group, IsEntered, place_of, places_of, row_place}
+pub use Rattle.ksm_tree.specs.Groups.{chain_in, HasRoomAt, is_used_in, IsAsWas, IsCounted, IsCountedAnew, IsSwept, SameChains, SameWaits, StandsAsWas, under, waiting_in}
 pub use Rattle.ksm_tree.specs.NumberSets.{AreSummed, has, HasBelow, HasNoBit, HasNone, IsLeast, IsLowestBit, IsSummed, Marks}
 pub use Rattle.ksm_tree.specs.Numbered.{AreNumbered, content_of, content_order, IsUnused, number_of, Numbers}
 pub use Rattle.ksm_tree.specs.Places.{with_place, without}
 pub use Rattle.ksm_tree.specs.Shelf.{change_items_of, change_slot, has_room, kept_at, ShelfState, slots_by}
-pub use Rattle.ksm_tree.specs.Slots.{ArePlaced, AreSlots, change_at, count_in, is_empty_slot, is_stale_slot, IsSetOf, present, slots_seen, SlotsState}
+pub use Rattle.ksm_tree.specs.Slots.{ArePlaced, AreSlots, change_at, count_in, holds, is_empty_slot, IsSetOf, present, slots_seen, SlotsState}
 pub use Rattle.ksm_tree.specs.Totals.{AreTotals, chained_of, chains_of, IsRegrouped, Tells}
 pub use Rattle.ksm_tree.specs.Waits.{AreWaiting, IsAdded, IsAlike, IsStopped, names, waiting_page, WaitingPage, waits_there}
 pub use Rattle.ksm_tree.specs.declared.choice.Choice.{Choice}
@@ -41,7 +41,6 @@ pub use Rattle.ksm_tree.specs.declared.counted_set.CountedSet.{CountedSet}
 pub use Rattle.ksm_tree.specs.declared.dup.Dup.{Dup}
 pub use Rattle.ksm_tree.specs.declared.groups.Group.{Group}
 pub use Rattle.ksm_tree.specs.declared.groups.Groups.{Groups}
-pub use Rattle.ksm_tree.specs.declared.index.Index.{Index}
 pub use Rattle.ksm_tree.specs.declared.shelf.Kept.{Kept}
 pub use Rattle.ksm_tree.specs.declared.totals.Totals.{Totals}
 pub use Rattle.slab.proofs.SlabLemmas.{Updates-with_value}

@@ -1,7 +1,7 @@
 -- What a change of one slot does to the dups and to the places whose slots pass a test.
 use Rattle.ksm_tree.proofs.Names.{absent_kept, All, ap, ArePlaced, AreSlots, arith, Bool, change_at, change_items_of, change_slot, count_by-le-length, count_in, CountedSet, Dup, dup_at, empty_from}
 use Rattle.ksm_tree.proofs.Names.{empty_place, eqb-true, false, filter_all, filter_none, find, find_nothing, find_passes, get_or, get_or-le-sum_by, get_or-set_other, get_or-set_same, get_or_past}
-use Rattle.ksm_tree.proofs.Names.{GuestPage, has_item, HasNone, if◌then◌else◌, is_empty_slot, is_some, is_stale, is_stale_slot, IsLeast, IsMarked, IsSetOf, items_in, length, length-append, length-map}
+use Rattle.ksm_tree.proofs.Names.{GuestPage, has_item, HasNone, holds, if◌then◌else◌, is_empty_slot, is_some, is_stale, IsLeast, IsMarked, IsSetOf, items_in, length, length-append, length-map}
 use Rattle.ksm_tree.proofs.Names.{length-set, List, map, map-set, MatchOption, MayBeMarked, MOST_FRAMES, None, none_found, Option, option_map, pages_ordered, present, refl, rows_of, set, set-get_or}
 use Rattle.ksm_tree.proofs.Names.{ShelfState, slots_seen, SlotsState, Some, stands_at, suc, sum_by-set, true, with_item, with_new, without_item, without_place, zero, ℕ, [], ◌+◌, ◌<◌, ◌==◌, ◌∙◌, ◌∷◌}
 use Rattle.ksm_tree.proofs.Names.{◌≡◌, ◌≤◌}
@@ -79,17 +79,16 @@ placed_set k p (suc i) s (None ∷ slots) is at placed = placed_set _ p i s slot
 placed_set k p (suc i) s (Some d ∷ slots) is at placed = (placed.0, placed_set _ p i s slots (omega arith) at placed.1)
 
 -- no slot before slot i passes
-abbrev NoneBefore : (Option Dup → Bool) → Slots → ℕ → Type 0
+abbrev pub NoneBefore : (Option Dup → Bool) → Slots → ℕ → Type 0
 NoneBefore test slots i = (j : ℕ) → j < i → test (get_or slots j None) ≡ false
 
--- the first stale dup stands at the place of the first slot with a stale dup, and there is none where no slot has one
-stale_first : (k i : ℕ) (slots : Slots) → ArePlaced k slots → NoneBefore is_stale_slot slots i → i ≤ length slots → (i < length slots → is_stale_slot (get_or slots i None) ≡ true)
-    → option_map (λ d. d.row.place) (find is_stale (present slots)) ≡ (if is_stale_slot (get_or slots i None) then Some (k + i) else None)
-stale_first k i [] placed before within here = refl
-stale_first k zero (s ∷ slots) placed before within here = grind arith
-stale_first k (suc i) (s ∷ slots) placed before within here =
-    let rest = stale_first (suc k) i slots (behind k s slots placed) (λ j less. before (suc j) (omega arith))
-    (omega arith) (λ less. here (omega arith)) in
+-- the first dup that passes a test is in the first slot whose dup does, and there is none where no slot has one
+pub first_found : (test : Dup → Bool) (i : ℕ) (slots : Slots) → NoneBefore (holds test) slots i → (i < length slots → holds test (get_or slots i None) ≡ true)
+    → find test (present slots) ≡ get_or slots i None
+first_found test i [] before here = refl
+first_found test zero (s ∷ slots) before here = grind arith
+first_found test (suc i) (s ∷ slots) before here =
+    let rest = first_found test i slots (λ j less. before (suc j) (omega arith)) (λ less. here (omega arith)) in
     grind (arith, before 0 (omega arith))
 
 -- where the dups stand behind place j, it is the least that no dup has
@@ -109,10 +108,14 @@ empty_first k (suc i) (s ∷ slots) placed before within here =
     (omega arith) here in
     grind (arith, before 0 (omega arith))
 
+-- the dup found at a place stands there
+pub found_stands : {p : ℕ} (dups : List Dup) {d : Dup} → dup_at p dups ≡ Some d → d.row.place ≡ p
+found_stands dups found = search (eqb-true, find_passes)
+
 -- a dup found at a place stands there with other items
 stands : (p : ℕ) (dups : List Dup) (f : List GuestPage → List GuestPage) (s : Option Dup) → dup_at p dups ≡ s → ArePlaced p (option_map (change_items_of f) s ∷ [])
 stands p dups f None is = tt
-stands p dups f (Some d) is = (search (eqb-true, find_passes), tt)
+stands p dups f (Some d) is = (found_stands dups is, tt)
 
 -- what the least place of a set may be
 abbrev FoundLeast : CountedSet → Slots → Option ℕ → Type 0
@@ -134,15 +137,16 @@ module _ {slots : Slots} {counts : List ℕ} {empty stale : CountedSet} (h : Are
   -- the least place in the set of the stale ones is that of the first stale dup
   pub first_stale : (found : Option ℕ) → FoundLeast stale slots found → found ≡ option_map (λ d. d.row.place) (find is_stale (present slots))
   first_stale None none =
-      let first = stale_first 0 (length slots) slots h.placed (before h.stales (omega arith) none) (omega arith) in
+      let first = first_found is_stale (length slots) slots (before h.stales (omega arith) none) in
       grind (arith, get_or_past, first (λ less. absurd (omega arith)))
   first_stale (Some p) least =
       let none = before h.stales (omega (arith, least.high_is)) least.least in
-      grind (arith, least.there, stale_first 0 p slots h.placed none (omega (arith, least.high_is)))
+      let at = slot_found 0 p p slots (omega arith) h.placed in
+      grind (arith, least.there, first_found is_stale p slots none, at, found_stands {p = p} (present slots))
 
   -- the slots are right once one changes, its count with it, and the sets follow
   pub slots_set : (p : ℕ) {n : ℕ} (s : Option Dup) {empty' stale' : CountedSet} → p < length slots → n ≡ count_in s → ArePlaced p (s ∷ [])
-      → IsMarked empty empty' p (is_empty_slot s) → IsMarked stale stale' p (is_stale_slot s) → AreSlots (set slots p s) (set counts p n) empty' stale'
+      → IsMarked empty empty' p (is_empty_slot s) → IsMarked stale stale' p (holds is_stale s) → AreSlots (set slots p s) (set counts p n) empty' stale'
   slots_set p s within is at empties stales = record {
     few = rw length-set h.few;
     placed = placed_set 0 p p s slots (omega arith) at h.placed;
@@ -161,7 +165,7 @@ module _ {slots : Slots} {counts : List ℕ} {empty stale : CountedSet} (h : Are
 
   -- the slots are right once the items of one dup changed, which is stale if it was
   pub slots_kept : (p : ℕ) {n : ℕ} (f : List GuestPage → List GuestPage) → is_some (get_or slots p None) ≡ true → n ≡ length (f (items_in (get_or slots p None)))
-      → (n == 0) ≡ is_stale_slot (get_or slots p None) → AreSlots (change_slot p f slots) (set counts p n) empty stale
+      → (n == 0) ≡ holds is_stale (get_or slots p None) → AreSlots (change_slot p f slots) (set counts p n) empty stale
   slots_kept p f some is same = slots_changed p f some is (set_same h.stales (grind (arith, get_or_past)) same)
 
 -- each place that has a slot has a count

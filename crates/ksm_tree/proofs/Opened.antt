@@ -1,6 +1,6 @@
 -- Slots that are all empty, the open places as the counts change, and counts over the slots.
-use Rattle.ksm_tree.proofs.Names.{ArePlaced, arith, Bool, cond, count_by, count_in, count_more, CountedSet, Dup, get_or-replicate, has, is_empty_slot, is_live, is_open, is_stale, is_stale_slot}
-use Rattle.ksm_tree.proofs.Names.{IsSetOf, length, List, map, None, Option, places_open, places_where, present, refl, replicate, Some, suc, sym, zero, zero-mul, ℕ, [], ◌*◌, ◌+◌, ◌<◌, ◌∷◌, ◌≡◌, ◌≤◌}
+use Rattle.ksm_tree.proofs.Names.{ArePlaced, arith, Bool, cond, count_by, count_in, count_more, CountedSet, Dup, get_or-replicate, has, holds, is_empty_slot, is_live, is_open, is_stale, IsSetOf}
+use Rattle.ksm_tree.proofs.Names.{length, List, map, None, Option, places_open, places_where, present, refl, replicate, Some, suc, sym, zero, zero-mul, ℕ, [], ◌*◌, ◌+◌, ◌<◌, ◌∷◌, ◌≡◌, ◌≤◌}
 use Rattle.std.proofs.lemmas.List.{length-replicate}
 
 -- a list of n empty slots
@@ -46,18 +46,18 @@ open_seen limit k (None ∷ slots) placed = open_seen _ _ slots placed
 open_seen limit k (Some d ∷ slots) placed = grind (arith, open_seen limit _ slots placed.1)
 
 -- as many slots have a stale dup as there are stale dups
-pub stale_slots : (slots : List (Option Dup)) → count_by is_stale_slot slots ≡ count_by is_stale (present slots)
+pub stale_slots : (slots : List (Option Dup)) → count_by (holds is_stale) slots ≡ count_by is_stale (present slots)
 stale_slots [] = refl
 stale_slots (None ∷ slots) = grind (arith, stale_slots slots)
 stale_slots (Some d ∷ slots) =
-    grind (arith, count_more is_stale_slot (Some d) slots, count_more is_stale d (present slots), stale_slots slots)
+    grind (arith, count_more (holds is_stale) (Some d) slots, count_more is_stale d (present slots), stale_slots slots)
 
 -- each slot is empty, or its dup is stale or has items
-pub three_kinds : (slots : List (Option Dup)) → count_by is_empty_slot slots + count_by is_stale_slot slots + count_by is_live (present slots) ≡ length slots
+pub three_kinds : (slots : List (Option Dup)) → count_by is_empty_slot slots + count_by (holds is_stale) slots + count_by is_live (present slots) ≡ length slots
 three_kinds [] = refl
 three_kinds (None ∷ slots) = grind (arith, count_more is_empty_slot None slots, three_kinds slots)
 three_kinds (Some d ∷ slots) =
-    grind (arith, count_more is_stale_slot (Some d) slots, count_more is_live d (present slots), three_kinds slots)
+    grind (arith, count_more (holds is_stale) (Some d) slots, count_more is_live d (present slots), three_kinds slots)
 
 -- what the slots say of how many dups there are of each kind
 pub ruleset counts = (open_seen, stale_slots, three_kinds)

@@ -1,9 +1,8 @@
 -- Dup rows in the order of their places: whose group a row is of, and what a new row and a row that goes change of what is found.
-use Rattle.ksm_tree.proofs.Names.{All, All-filter, ap, arith, Bool, bytes_eq, bytes_eq-Decides, DupRow, eqb-true, false, filter, find, find-append, find_all, find_nothing, find_over, find_passes}
-use Rattle.ksm_tree.proofs.Names.{group_places, if◌then◌else◌, in_group, InPlaceOrder, List, nat_lt, None, not, refl, row_place, Some, suc, sym, true, with_dup, with_place, without, ℕ, [], ◌&&◌, ◌<◌}
-use Rattle.ksm_tree.proofs.Names.{◌==◌, ◌∙◌, ◌∷◌, ◌≡◌}
+use Rattle.ksm_tree.proofs.Names.{All, ap, arith, Bool, bytes_eq, bytes_eq-Decides, DupRow, false, filter, find, find_all, group_places, in_group, InPlaceOrder, List, nat_lt, not, refl, Some, suc}
+use Rattle.ksm_tree.proofs.Names.{sym, true, with_dup, with_place, without, ℕ, [], ◌&&◌, ◌==◌, ◌∙◌, ◌∷◌, ◌≡◌}
 use Rattle.ksm_tree.proofs.Alike.{chosen, kept_append}
-use Rattle.ksm_base.proofs.Orders.{above, below, dups_parted, elsewhere, Lower, one_of_each, one_of_each_place}
+use Rattle.ksm_base.proofs.Orders.{above, below, dups_parted, Lower, one_of_each, one_of_each_place}
 
 -- a comparison of bytes is the same in either order
 pub eq_bytes : (xs ys : List ℕ) → bytes_eq xs ys ≡ bytes_eq ys xs
@@ -39,18 +38,6 @@ group_passed t b row rows rise outside =
     ∙ ap (group_places t b) (sym (dups_parted row.place rows rise))
     ∙ chosen (λ (r : DupRow). r.place) (in_group t b) (λ q. not (q == row.place)) rows
 
--- the number of a new row has the place of the row
-pub place_new : (row : DupRow) (rows : List DupRow) → All (λ r. r.number < row.number) rows → row_place row.number (with_dup row rows) ≡ Some row.place
-place_new row rows fresh =
-    let lower = filter (below row.place) rows in
-    let less = All-filter (below row.place) (λ r. r.number < row.number) rows fresh in
-    let none = find_nothing (λ r. r.number == row.number) lower (λ k d lt. grind (arith, less k d lt)) in
-    grind (arith, find-append (λ r. r.number == row.number) lower (row ∷ filter (above row.place) rows))
-
--- a new dup changes the place of no other number that stays
-pub place_kept : (q : ℕ) (row : DupRow) (rows : List DupRow) → InPlaceOrder rows → (q == row.number) ≡ false → row_place q (with_dup row rows) ≡ row_place q (filter (elsewhere row.place) rows)
-place_kept q row rows rise other = grind (arith, below, find_over, dups_parted)
-
 -- a row has the place of another exactly where it has its number, and then it is that one
 abbrev pub IsOne : DupRow → DupRow → Type 0
 IsOne e r = ((r.place == e.place) ≡ (r.number == e.number)) × ((r.place == e.place) ≡ true → r ≡ e)
@@ -63,13 +50,3 @@ alone test rows e rise found k d lt =
     (one_of_each_place rows rise) in
     let by_number = find_all test (λ e. All (λ r. (r.number == e.number) ≡ true → r ≡ e) rows) rows e found of_number in
     grind (arith, by_place k d lt)
-
--- the places of the numbers once the row at a place has gone
-left : (q : ℕ) (e : DupRow) (rows : List DupRow) → All (IsOne e) rows → row_place q (filter (elsewhere e.place) rows) ≡ (if q == e.number then None else row_place q rows)
-left q e [] only = grind arith
-left q e (r ∷ rows) only =
-    grind (arith, (only 0 r (omega arith)).0, left q e rows (λ k d lt. only (suc k) d (omega arith)))
-
--- once the dup at a place goes, its number has no place, and each other number has the place it had
-pub place_gone : (p q : ℕ) (rows : List DupRow) {e : DupRow} → InPlaceOrder rows → find (λ r. r.place == p) rows ≡ Some e → row_place q (filter (elsewhere p) rows) ≡ (if q == e.number then None else row_place q rows)
-place_gone p q rows {e} rise found = grind (arith, eqb-true, find_passes, left, alone)

@@ -9,7 +9,7 @@ use Rattle.ksm_tree.specs.declared.choice.Choice.TheVariants.{Empty, Stale}
 use Rattle.ksm_tree.specs.declared.dup.Dup.{Dup}
 use Rattle.ksm_tree.specs.declared.dup.Best.{Best}
 use Rattle.ksm_tree.specs.Dups.{DupsState, is_stale, places_open, rows_of}
-use Rattle.ksm_tree.specs.Index.{in_group}
+use Rattle.ksm_tree.specs.Chains.{in_group}
 
 -- a dup of the tree and the bytes, with an item, and below the limit
 abbrev pub may_join : ℕ → List ℕ → ℕ → Dup → Bool

@@ -2,6 +2,8 @@
 -- and the page that waits there.
 use Rattle.std.specs.Prelude.{Bool, bytes_eq, filter_map, if◌then◌else◌, is_some, length, List, nat_lt, None, Option, Some, true, ℕ, [], ◌&&◌, ◌+◌, ◌==◌, ◌||◌, ◌≡◌, ◌≤◌}
 use Rattle.slab.specs.Slab.{get}
+use Rattle.smallvec.specs.SmallVec.{HasRoomFor}
+use Rattle.std.specs.Option.{ForSome}
 use Rattle.ksm_tree.specs.declared.groups.Groups.{Groups}
 use Rattle.ksm_tree.specs.declared.groups.TheConstants.{MOST_SPARE}
 use Rattle.ksm_tree.specs.Grouping.{places_in, waits_in}
@@ -44,11 +46,20 @@ pub record SameChains (old new : Groups) : Type 0 where
   pub chains : (tree : ℕ) (bytes : List ℕ) → chain_in tree bytes new ≡ chain_in tree bytes old
   pub totals : new.totals ≡ old.totals
 
+-- what stands in the groups is as it was
+pub record StandsAsWas (old new : Groups) : Type 0 where
+  pub chains : SameChains old new
+  pub waiting : waiting_in new ≡ waiting_in old
+
 -- what waits is as it was, each content has the number that it had, and as many may have one
 pub record SameWaits (old new : Groups) : Type 0 where
   pub waiting : waiting_in new ≡ waiting_in old
   pub numbers : new.numbers.entries ≡ old.numbers.entries
   pub most : new.most ≡ old.most
+
+-- the group with a number, if there is one, has room for one more place
+abbrev pub HasRoomAt : ℕ → Groups → Type 0
+HasRoomAt number groups = ForSome (get groups.groups number) (λ g. HasRoomFor g.places.list 1)
 
 -- the chains are as they were, but for a change of that of a tree and bytes
 abbrev pub IsMoved : ℕ → List ℕ → (List ℕ → List ℕ) → Groups → Groups → Type 0

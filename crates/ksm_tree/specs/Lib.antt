@@ -1,4 +1,5 @@
 pub mod Bridge
+pub mod Chains
 pub mod Choosing
 pub mod CountedSets
 pub mod Counts
@@ -6,7 +7,6 @@ pub mod Dups
 pub mod Grouping
 pub mod Groups
 pub mod Guesses
-pub mod Index
 pub mod NumberSets
 pub mod Numbered
 pub mod Places

@@ -27,9 +27,10 @@ abbrev pub is_empty_slot : Option Dup → Bool
 is_empty_slot None = true
 is_empty_slot (Some d) = false
 
-abbrev pub is_stale_slot : Option Dup → Bool
-is_stale_slot None = false
-is_stale_slot (Some d) = is_stale d
+-- a slot has a dup that passes a test
+abbrev pub holds : (Dup → Bool) → Option Dup → Bool
+holds test None = false
+holds test (Some d) = test d
 
 -- how many items the dup of a slot has
 abbrev pub count_in : Option Dup → ℕ
@@ -57,4 +58,4 @@ pub record AreSlots (slots : List (Option Dup)) (counts : List ℕ) (empty stale
   pub placed : ArePlaced 0 slots
   pub counted : counts ≡ map count_in slots
   pub empties : IsSetOf is_empty_slot slots empty
-  pub stales : IsSetOf is_stale_slot slots stale
+  pub stales : IsSetOf (holds is_stale) slots stale

@@ -1,7 +1,7 @@
 //! The dups with their items, as visits, stores and the counters ask for them (mm/ksm: the stable trees).
 //!
-//! `Slots` has the dups by place, `Index` leads to the places. Each call changes both, and the invariant says that they
-//! agree: callers see one list, of the dups in the order of their places.
+//! `Slots` has the dups by place, `Groups` lead from a content to the places. Each call changes both, and the invariant
+//! says that they agree: callers see one list, of the dups in the order of their places.
 //!
 //! A caller may remember the number of the group of a page, and the place of a dup. Both are guesses, compared before
 //! they are believed, so no call promises less where they are wrong.
@@ -16,9 +16,10 @@ ghost use Rattle.ksm_base.specs.Counting.{in_chain, leads_group};
 ghost use Rattle.ksm_base.specs.Rows.{same_page};
 ghost use Rattle.ksm_base.specs.declared.limits.TheConstants.{MOST_FRAMES, MOST_REFERENCES};
 ghost use Rattle.ksm_rmap.specs.Items.{has_item, with_item, without_item};
+ghost use Rattle.ksm_tree.specs.Chains.{AreChained, group_places, is_in_use};
 ghost use Rattle.ksm_tree.specs.Choosing.{ArePlacesToJoin, best_of, found_at, of_group, choice_of, unless_behind};
 ghost use Rattle.ksm_tree.specs.Dups.{AreDups, MayBecomeDup, change_items, dup_at, dup_of, is_live, is_stale, items_in, items_of, rows_of, stands_at, with_new, without_place};
-ghost use Rattle.ksm_tree.specs.Index.{group_places, is_in_use};
+ghost use Rattle.ksm_tree.specs.Groups.{HasRoomAt, IsCounted, SameWaits};
 ghost use Rattle.ksm_tree.specs.Numbered.{IsUnused, number_of};
 ghost use Rattle.ksm_tree.specs.Reserve.{KeepsReserve};
 ghost use Rattle.ksm_tree.specs.Waits.{IsAdded, IsRemoved, waiting_page};
@@ -26,8 +27,7 @@ ghost use Rattle.ksm_tree.specs.declared.groups.TheConstants.{MOST_SPARE};
 
 use crate::choice::Choice;
 use crate::dup::{Best, Dup};
-use crate::groups::NO_NUMBER;
-use crate::index::Index;
+use crate::groups::{Groups, NO_NUMBER};
 use crate::item_counts::none_open;
 use crate::slots::Slots;
 use ksm_base::{DupRow, Fault, GuestPage, Knobs, PageBytes};
@@ -47,7 +47,8 @@ pub const FEW_PLACES: usize = 1_024;
 
 /// The dups with their items, by place, by number, and by tree and bytes (mm/ksm, stable nodes and their chains).
 ///
-/// A look-up by number costs a hash and a comparison in the mean: the book gives the numbers, so nobody picks them.
+/// A look-up by number costs a comparison where the place is guessed right, and else a walk over the places. A dup
+/// keeps its place as long as it is there, so whoever remembers the place guesses right.
 /// A look-up by content costs a comparison where the number of its group is remembered by the caller, and for `group`
 /// two where it is remembered here alone; else a search among the contents that are known, in a number of steps in the
 /// order of the logarithm of how many there are. `best` and `best_of` also walk along the chain, or, where a chain is
@@ -57,20 +58,20 @@ pub const FEW_PLACES: usize = 1_024;
 pub struct Dups {
     alloc: Global,
     slots: Slots,
-    index: Index,
+    groups: Groups,
     next: u64,
     limit: u32,
 }
 
 impl Model for Dups {
     ghost use Rattle.ksm_tree.specs.Dups.{DupsState};
-    ghost use Rattle.ksm_tree.specs.Index.{AreIndexed, dups_seen};
+    ghost use Rattle.ksm_tree.specs.Chains.{AreChained, dups_seen};
 
     ghost Value = { DupsState };
 
-    ghost view = { λ d. dups_seen d.slots d.next d.index };
+    ghost view = { λ d. dups_seen d.slots d.next d.groups };
 
-    ghost invariant = { λ d. AreIndexed d.slots d.next d.index };
+    ghost invariant = { λ d. AreChained d.slots d.next d.groups };
 }
 
 impl Dups {
@@ -92,7 +93,7 @@ impl Dups {
         Ok(Dups {
             alloc,
             slots: Slots::open(alloc, places)?,
-            index: Index::new(alloc, places),
+            groups: Groups::new(alloc, places),
             next: 0,
             limit: Knobs::DEFAULT.max_page_sharing,
         })
@@ -104,7 +105,7 @@ impl Dups {
         ensures best { result ≡ option_map (λ d. d.row.number) (best_of tree bytes.now limit self.now.dups) }
         ensures lawful { AreDups self.now }
     {
-        let group = self.index.groups.number(NO_NUMBER, tree, bytes)?;
+        let group = self.groups.number(NO_NUMBER, tree, bytes)?;
         self.best_of(group, limit).map(|best| best.number)
     }
 
@@ -119,7 +120,7 @@ impl Dups {
         ensures memory { IfErr result (λ fault. fault ≡ Fault.Memory) }
         ensures lawful { AreDups self.old }
     {
-        self.index.groups.numbered(self.alloc, guess, tree, bytes)
+        self.groups.numbered(self.alloc, guess, tree, bytes)
     }
 
     /// The dup that a page of the group with a number joins: that which `best` tells for its tree and bytes. None where
@@ -131,7 +132,7 @@ impl Dups {
             → result ≡ option_map found_at (best_of tree bytes limit self.now.dups) }
         ensures none { IsUnused group self.now.numbers → result ≡ None }
     {
-        let found = self.index.groups.at(group)?;
+        let found = self.groups.at(group)?;
         let chain = found.places.list.as_slice();
         if chain.is_empty() {
             return None;
@@ -180,9 +181,9 @@ impl Dups {
             → waiting_page t b self.now.waiting ≡ None }
     {
         // Whether a page waits is told by two words, the content by the bytes of a page, so that comes behind it.
-        self.index.groups.waiting(group).is_none()
-            && self.index.groups.is_of(group, tree, bytes)
-            && (self.index.groups.is_idle(group as usize) || self.is_closed(group, limit))
+        self.groups.waiting(group).is_none()
+            && self.groups.is_of(group, tree, bytes)
+            && (self.groups.is_idle(group as usize) || self.is_closed(group, limit))
     }
 
     // Whether no dup of the group with a number may be joined, as far as a short chain tells: which one is best is not
@@ -193,7 +194,7 @@ impl Dups {
         ensures { IsTrue result → (t : ℕ) (b : List ℕ) → number_of t b self.now.numbers ≡ Some group
             → best_of t b limit self.now.dups ≡ None }
     {
-        let Some(found) = self.index.groups.at(group) else {
+        let Some(found) = self.groups.at(group) else {
             return false;
         };
         let chain = found.places.list.as_slice();
@@ -214,7 +215,7 @@ impl Dups {
         ensures none { IsUnused group self.old.numbers → self.new ≡ self.old }
         ensures kept { self.new ≡ record self.old { waiting = self.new.waiting } }
     {
-        self.index.groups.meet(group, page)
+        self.groups.meet(group, page)
     }
 
     /// The page that waits in a tree with these bytes, if there is one. Of the dup at the place, if there is one, the
@@ -224,8 +225,8 @@ impl Dups {
         ensures { result ≡ waiting_page tree bytes.now self.now.waiting }
     {
         let guess = self.slots.group_at(place);
-        let number = self.index.groups.number(guess, tree, bytes)?;
-        self.index.groups.waiting(number)
+        let number = self.groups.number(guess, tree, bytes)?;
+        self.groups.waiting(number)
     }
 
     /// The page that waits in a tree with these bytes waits no more, if there is one. The guess of the group's number
@@ -235,14 +236,23 @@ impl Dups {
         ensures removed { IsRemoved tree bytes.now self.old.waiting self.new.waiting }
         ensures kept { self.new ≡ record self.old { waiting = self.new.waiting } }
     {
-        self.index.groups.stop_waiting(guess, tree, bytes);
+        self.groups.stop_waiting(guess, tree, bytes);
+    }
+
+    /// The page that waits in the group with a number waits no more, if there is one.
+    pub fn stop_waiting_in(&mut self, group: u32)
+        ensures removed { (tree : ℕ) (bytes : List ℕ) → number_of tree bytes self.old.numbers ≡ Some group
+            → IsRemoved tree bytes self.old.waiting self.new.waiting }
+        ensures kept { self.new ≡ record self.old { waiting = self.new.waiting } }
+    {
+        self.groups.stop_waiting_in(group as usize);
     }
 
     /// No page waits any more.
     pub fn clear_waiting(&mut self)
         ensures { self.new ≡ record self.old { waiting = [] } }
     {
-        self.index.groups.clear_waiting();
+        self.groups.clear_waiting();
     }
 
     /// Where a new dup goes: the least empty place, or where there is none that of the first stale dup.
@@ -290,7 +300,7 @@ impl Dups {
         self.found(group, place, tree, bytes, first, second)
     }
 
-    /// The same, where the group of the tree and bytes has a number. The guess of that is tried first.
+    /// The same, where the number of the group of the tree and bytes is known.
     pub fn found(
         &mut self,
         group: u32,
@@ -300,7 +310,7 @@ impl Dups {
         first: GuestPage,
         second: GuestPage,
     ) -> Result<u64, Fault>
-        requires known { is_some (number_of tree bytes.now self.old.numbers) ≡ true }
+        requires known { number_of tree bytes.now self.old.numbers ≡ Some group }
         requires may { MayBecomeDup self.old place first second }
         ensures number { IfOk result (λ number. number ≡ self.old.next) }
         ensures made { OnOk result (self.new ≡ record self.old {
@@ -316,23 +326,17 @@ impl Dups {
     {
         let number = self.next;
         let items = pair(self.alloc, first, second)?;
-        let dup = Dup {
-            row: DupRow {
-                number,
-                place,
-                tree,
-                bytes: *bytes,
-            },
-            items,
-        };
         self.slots.reserve()?;
-        let left = self.slots.group_at(place);
-        let old = self.slots.at(place);
-        self.index.add(group, &dup.row)?;
-        if let Some(old) = old {
-            self.index.replace(left, &old.row, &dup.row);
-        }
-        self.slots.put(dup, group);
+        self.groups.reserve(group)?;
+        vacate(&mut self.slots, &mut self.groups, place);
+        self.groups.add(group, place);
+        let row = DupRow {
+            number,
+            place,
+            tree,
+            bytes: *bytes,
+        };
+        self.slots.put(Dup { row, items }, group);
         self.next += 1;
         self.keep_open();
         Ok(number)
@@ -414,7 +418,7 @@ impl Dups {
     pub fn row(&self, dup: u64) -> Option<DupRow>
         ensures { result ≡ option_map (λ d. d.row) (dup_of dup self.now.dups) }
     {
-        self.find(dup).map(|dup| dup.row)
+        self.slots.numbered(dup).map(|dup| dup.row)
     }
 
     /// The place of a dup.
@@ -422,13 +426,13 @@ impl Dups {
         ensures place { result ≡ option_map (λ d. d.row.place) (dup_of dup self.now.dups) }
         ensures lawful { AreDups self.now }
     {
-        self.index.place(dup)
+        self.slots.numbered(dup).map(|dup| dup.row.place)
     }
 
-    // The same, where the place is guessed: the dup that stands there is looked at first.
-    #[tactic(auto, using(crate::proofs::Indexed::stands_numbered))]
+    /// The same, where the place is guessed: the dup that stands there is looked at first.
+    #[tactic(auto, using(crate::proofs::Chained::stands_numbered))]
     #[inline(always)]
-    fn place_by(&self, guess: u32, dup: u64) -> Option<u32>
+    pub fn place_by(&self, guess: u32, dup: u64) -> Option<u32>
         ensures { result ≡ option_map (λ d. d.row.place) (dup_of dup self.now.dups) }
     {
         match self.slots.at(guess) {
@@ -448,7 +452,9 @@ impl Dups {
     pub fn items(&self, dup: u64) -> u32
         ensures { result ≡ length (items_of dup self.now.dups) }
     {
-        self.find(dup).map_or(0, |dup| dup.items.len() as u32)
+        self.slots
+            .numbered(dup)
+            .map_or(0, |dup| dup.items.len() as u32)
     }
 
     /// The item of a dup at `i`, in ascending order from 0 on.
@@ -456,7 +462,7 @@ impl Dups {
         requires { i < length (items_of dup self.now.dups) }
         ensures { slice_get (items_of dup self.now.dups) i ≡ Some result }
     {
-        match self.find(dup) {
+        match self.slots.numbered(dup) {
             Some(dup) => dup.items.at(i as usize),
             None => unreachable!(),
         }
@@ -475,12 +481,7 @@ impl Dups {
         requires { is_some (find (λ d. stands_at place d && is_stale d) self.old.dups) ≡ true }
         ensures { self.new ≡ record self.old { dups = without_place place self.old.dups } }
     {
-        let group = self.slots.group_at(place);
-        match self.slots.at(place) {
-            Some(dup) => self.index.remove(group, &dup.row),
-            None => unreachable!(),
-        }
-        self.slots.clear(place);
+        vacate(&mut self.slots, &mut self.groups, place);
         self.keep_open();
     }
 
@@ -502,7 +503,7 @@ impl Dups {
     pub fn count_grouped(&self) -> usize
         ensures { result ≡ count_by (in_chain (rows_of self.now.dups)) (rows_of self.now.dups) }
     {
-        self.index.groups.totals.dups
+        self.groups.totals.dups
     }
 
     /// How many groups have two dups or more.
@@ -510,7 +511,7 @@ impl Dups {
         ensures { let rows = rows_of self.now.dups in
             result ≡ count_by (λ d. in_chain rows d && leads_group rows d) rows }
     {
-        self.index.groups.totals.chains
+        self.groups.totals.chains
     }
 
     /// Says with which limit `best` is going to be asked: by that limit it passes over the full dups of a long chain.
@@ -525,7 +526,7 @@ impl Dups {
     fn keep_open(&mut self)
         ensures { self.new ≡ self.old }
     {
-        let is_long = self.index.groups.totals.longest > SHORT_CHAIN;
+        let is_long = self.groups.totals.longest > SHORT_CHAIN;
         self.slots.keep_open(if is_long { self.limit } else { 0 });
     }
 
@@ -563,12 +564,24 @@ impl Dups {
         }
         (is_chain || (dup.row.tree == tree && dup.row.bytes == *bytes)).then_some(dup)
     }
+}
 
-    #[tactic(auto, using(crate::proofs::Indexed::placed_found))]
-    fn find(&self, number: u64) -> Option<&Dup>
-        ensures { option_copied result ≡ dup_of number self.now.dups }
-    {
-        self.slots.at(self.place(number)?)
+/// The dup at a place goes, if there is one, and its place goes from its group.
+fn vacate(slots: &mut Slots, groups: &mut Groups, place: u32)
+    requires { (tree : ℕ) (bytes : List ℕ) → IsCounted tree bytes groups.old }
+    ensures chained { (next : ℕ) → AreChained slots.old next groups.old → AreChained slots.new next groups.new }
+    ensures gone { slots.new ≡ record slots.old {
+      dups = without_place place slots.old.dups;
+      ready = slots.new.ready;
+    } }
+    ensures ready { slots.old.ready ≡ true → slots.new.ready ≡ true }
+    ensures waits { SameWaits groups.old groups.new }
+    ensures room { (number : ℕ) → HasRoomAt number groups.old → HasRoomAt number groups.new }
+{
+    if let Some(dup) = slots.at(place) {
+        let guess = slots.group_at(place);
+        groups.remove(guess, dup.row.tree, &dup.row.bytes, place);
+        slots.clear(place);
     }
 }
 

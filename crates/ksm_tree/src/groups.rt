@@ -69,7 +69,7 @@ pub struct Groups {
 }
 
 impl Groups {
-    ghost use Rattle.ksm_tree.specs.Groups.{IsCounted, IsCountedAnew, IsMoved, IsAsWas, IsSwept, SameChains, SameWaits, chain_in, is_used_in, waiting_in};
+    ghost use Rattle.ksm_tree.specs.Groups.{HasRoomAt, IsCounted, IsCountedAnew, IsMoved, IsAsWas, IsSwept, SameChains, SameWaits, StandsAsWas, chain_in, is_used_in, waiting_in};
 
     /// No groups, in a table with so many places.
     pub fn new(alloc: Global, places: u32) -> Groups
@@ -149,8 +149,7 @@ impl Groups {
         bytes: &PageBytes,
     ) -> Result<u32, Fault>
         ensures numbered { IfOk result (λ number. number_of tree bytes.now self.new.numbers.entries ≡ Some number) }
-        ensures chains { SameChains self.old self.new }
-        ensures waiting { waiting_in self.new ≡ waiting_in self.old }
+        ensures stands { StandsAsWas self.old self.new }
         ensures absent { OnErr result (waiting_page tree bytes.now (waiting_in self.old) ≡ None) }
         ensures reserve { KeepsReserve (is_used_in self.new) tree bytes.now
             self.old.numbers.entries self.new.numbers.entries self.old.most self.new.most }
@@ -169,36 +168,17 @@ impl Groups {
         Ok(number)
     }
 
-    // The same, where nothing is guessed.
+    // The same, where nothing is guessed. One search finds the group, or the place for it.
     #[inline(never)]
     fn search_or_enter(&mut self, alloc: Global, tree: u32, bytes: &PageBytes) -> Result<u32, Fault>
         ensures numbered { IfOk result (λ number. number_of tree bytes.now self.new.numbers.entries ≡ Some number) }
-        ensures chains { SameChains self.old self.new }
-        ensures waiting { waiting_in self.new ≡ waiting_in self.old }
+        ensures stands { StandsAsWas self.old self.new }
         ensures absent { OnErr result (waiting_page tree bytes.now (waiting_in self.old) ≡ None) }
         ensures reserve { KeepsReserve (is_used_in self.new) tree bytes.now
             self.old.numbers.entries self.new.numbers.entries self.old.most self.new.most }
         ensures memory { IfErr result (λ fault. fault ≡ Fault.Memory) }
     {
         self.make_room();
-        self.find_or_enter(alloc, tree, bytes)
-    }
-
-    // The same, where there may be one group more. One search finds the group, or the place for it.
-    fn find_or_enter(&mut self, alloc: Global, tree: u32, bytes: &PageBytes) -> Result<u32, Fault>
-        ensures numbered { IfOk result (λ number. number_of tree bytes.now self.new.numbers.entries ≡ Some number) }
-        ensures chains { SameChains self.old self.new }
-        ensures waiting { waiting_in self.new ≡ waiting_in self.old }
-        ensures absent { OnErr result (waiting_page tree bytes.now (waiting_in self.old) ≡ None) }
-        ensures entered { (self.new.numbers.entries ≡ self.old.numbers.entries)
-            ⊎ ((length self.old.numbers.entries < self.old.most)
-            × (length self.new.numbers.entries ≡ length self.old.numbers.entries + 1)
-            × ((t : ℕ) (b : List ℕ) → is_some (number_of t b self.new.numbers.entries) ≡ true
-            → (t == tree && bytes_eq b bytes.now) ≡ false
-            → is_some (number_of t b self.old.numbers.entries) ≡ true)) }
-        ensures most { self.new.most ≡ self.old.most }
-        ensures memory { IfErr result (λ fault. fault ≡ Fault.Memory) }
-    {
         let content = Content {
             tree,
             bytes: *bytes,
@@ -228,8 +208,7 @@ impl Groups {
 
     // Where there are as many groups as may be, those go in which nothing stands.
     fn make_room(&mut self)
-        ensures chains { SameChains self.old self.new }
-        ensures waiting { waiting_in self.new ≡ waiting_in self.old }
+        ensures stands { StandsAsWas self.old self.new }
         ensures room { IsSwept self.new ⊎ IsAsWas self.old self.new }
     {
         if self.numbers.len() >= self.most {
@@ -239,8 +218,7 @@ impl Groups {
 
     // The groups in which nothing stands go.
     fn sweep(&mut self)
-        ensures chains { SameChains self.old self.new }
-        ensures waiting { waiting_in self.new ≡ waiting_in self.old }
+        ensures stands { StandsAsWas self.old self.new }
         ensures swept { IsSwept self.new }
     {
         for number in 0..self.groups.capacity() {
@@ -251,8 +229,7 @@ impl Groups {
 
     // The group with a number goes, if there is one and nothing stands in it.
     fn drop_idle(&mut self, number: usize)
-        ensures chains { SameChains self.old self.new }
-        ensures waiting { waiting_in self.new ≡ waiting_in self.old }
+        ensures stands { StandsAsWas self.old self.new }
         ensures occupied { is_some (get self.new.groups number) ≡ true
             → is_occupied self.new.pass (get self.new.groups number) ≡ true }
         ensures others { (other : ℕ) → other ≢ number → get self.new.groups other ≡ get self.old.groups other }
@@ -280,28 +257,34 @@ impl Groups {
         }
     }
 
-    /// A place joins the group of a tree and bytes, which has a number. The guess is tried first. The one fault is
-    /// `Memory`, and then nothing changes.
-    pub fn add(&mut self, guess: u32, tree: u32, bytes: &PageBytes, place: u32) -> Result<(), Fault>
-        requires known { is_some (number_of tree bytes.now self.old.numbers.entries) ≡ true }
-        requires counted { IsCounted tree bytes.now self.old }
-        ensures added { OnOk result (IsMoved tree bytes.now (with_place place) self.old self.new) }
-        ensures totals { OnOk result (IsCountedAnew tree bytes.now self.old self.new) }
+    /// Takes room for one more place in the group with a number. The one fault is `Memory`, and then nothing changes.
+    pub fn reserve(&mut self, number: u32) -> Result<(), Fault>
+        ensures room { OnOk result (HasRoomAt number self.new) }
+        ensures chains { SameChains self.old self.new }
         ensures waits { SameWaits self.old self.new }
-        ensures kept { OnErr result (SameChains self.old self.new) }
         ensures memory { IfErr result (λ fault. fault ≡ Fault.Memory) }
     {
-        let Some(number) = self.number(guess, tree, bytes) else {
-            unreachable!()
-        };
-        let Some(group) = self.groups.get_mut(number as usize) else {
-            unreachable!()
-        };
-        group.places.reserve()?;
-        let before = group.places.len();
-        group.places.insert(place);
-        self.totals = self.totals.regrouped(before, group.places.len());
-        Ok(())
+        match self.groups.get_mut(number as usize) {
+            Some(group) => group.places.reserve(),
+            None => Ok(()),
+        }
+    }
+
+    /// A place joins the group with a number, where room is taken for it.
+    pub fn add(&mut self, number: u32, place: u32)
+        requires room { HasRoomAt number self.old }
+        requires counted { (t : ℕ) (b : List ℕ) → IsCounted t b self.old }
+        ensures added { (t : ℕ) (b : List ℕ) → number_of t b self.old.numbers.entries ≡ Some number
+            → IsMoved t b (with_place place) self.old self.new }
+        ensures totals { (t : ℕ) (b : List ℕ) → number_of t b self.old.numbers.entries ≡ Some number
+            → IsCountedAnew t b self.old self.new }
+        ensures waits { SameWaits self.old self.new }
+    {
+        if let Some(group) = self.groups.get_mut(number as usize) {
+            let before = group.places.len();
+            group.places.insert(place);
+            self.totals = self.totals.regrouped(before, group.places.len());
+        }
     }
 
     /// A place leaves the group of a tree and bytes. The guess is tried first.
@@ -310,6 +293,7 @@ impl Groups {
         ensures removed { IsMoved tree bytes.now (without place) self.old self.new }
         ensures totals { IsCountedAnew tree bytes.now self.old self.new }
         ensures waits { SameWaits self.old self.new }
+        ensures room { (number : ℕ) → HasRoomAt number self.old → HasRoomAt number self.new }
     {
         let Some(number) = self.number(guess, tree, bytes) else {
             return;
@@ -344,8 +328,7 @@ impl Groups {
         ensures alone { IsUnused number self.old.numbers.entries → result ≡ page }
         ensures none { IsUnused number self.old.numbers.entries → waiting_in self.new ≡ waiting_in self.old }
         ensures chains { SameChains self.old self.new }
-        ensures numbers { self.new.numbers.entries ≡ self.old.numbers.entries }
-        ensures most { self.new.most ≡ self.old.most }
+        ensures numbers { IsAsWas self.old self.new }
     {
         let Some(group) = self.groups.get_mut(number as usize) else {
             return page;
@@ -363,13 +346,25 @@ impl Groups {
     pub fn stop_waiting(&mut self, guess: u32, tree: u32, bytes: &PageBytes)
         ensures removed { IsRemoved tree bytes.now (waiting_in self.old) (waiting_in self.new) }
         ensures chains { SameChains self.old self.new }
-        ensures numbers { self.new.numbers.entries ≡ self.old.numbers.entries }
-        ensures most { self.new.most ≡ self.old.most }
+        ensures numbers { IsAsWas self.old self.new }
     {
         if let Some(number) = self.number(guess, tree, bytes) {
-            if let Some(group) = self.groups.get_mut(number as usize) {
-                group.pass = 0;
-            }
+            self.stop_waiting_in(number as usize);
+        }
+    }
+
+    /// The page that waits in the group with a number waits no more, if there is one: the group's pass is 0 again.
+    pub fn stop_waiting_in(&mut self, number: usize)
+        ensures removed { (t : ℕ) (b : List ℕ) → number_of t b self.old.numbers.entries ≡ Some number
+            → IsRemoved t b (waiting_in self.old) (waiting_in self.new) }
+        ensures none { ForSome (get self.new.groups number) (λ g. g.pass ≡ 0) }
+        ensures others { (other : ℕ) → other ≢ number → get self.new.groups other ≡ get self.old.groups other }
+        ensures slots { length self.new.groups.slots ≡ length self.old.groups.slots }
+        ensures chains { SameChains self.old self.new }
+        ensures numbers { IsAsWas self.old self.new }
+    {
+        if let Some(group) = self.groups.get_mut(number) {
+            group.pass = 0;
         }
     }
 
@@ -377,8 +372,7 @@ impl Groups {
     pub fn clear_waiting(&mut self)
         ensures none { waiting_in self.new ≡ [] }
         ensures chains { SameChains self.old self.new }
-        ensures numbers { self.new.numbers.entries ≡ self.old.numbers.entries }
-        ensures most { self.new.most ≡ self.old.most }
+        ensures numbers { IsAsWas self.old self.new }
     {
         if self.pass < u64::MAX {
             self.pass += 1;
@@ -392,25 +386,10 @@ impl Groups {
     fn forget_passes(&mut self)
         ensures none { (number : ℕ) → ForSome (get self.new.groups number) (λ g. g.pass ≡ 0) }
         ensures chains { SameChains self.old self.new }
-        ensures numbers { self.new.numbers.entries ≡ self.old.numbers.entries }
-        ensures most { self.new.most ≡ self.old.most }
+        ensures numbers { IsAsWas self.old self.new }
     {
         for number in 0..self.groups.capacity() {
-            self.forget_pass(number);
-        }
-    }
-
-    // The pass of the group with a number is 0 again.
-    fn forget_pass(&mut self, number: usize)
-        ensures none { ForSome (get self.new.groups number) (λ g. g.pass ≡ 0) }
-        ensures others { (other : ℕ) → other ≢ number → get self.new.groups other ≡ get self.old.groups other }
-        ensures slots { length self.new.groups.slots ≡ length self.old.groups.slots }
-        ensures chains { SameChains self.old self.new }
-        ensures numbers { self.new.numbers.entries ≡ self.old.numbers.entries }
-        ensures most { self.new.most ≡ self.old.most }
-    {
-        if let Some(group) = self.groups.get_mut(number) {
-            group.pass = 0;
+            self.stop_waiting_in(number);
         }
     }
 }

@@ -9,7 +9,6 @@ mod dup;
 mod dups;
 mod groups;
 mod guesses;
-mod index;
 mod item_counts;
 mod number_set;
 mod places;

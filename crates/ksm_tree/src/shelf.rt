@@ -5,11 +5,12 @@
 //! written where no dup is, and a key that leads to a dup of another place leads nowhere.
 #![tactic(auto, using(crate::proofs::Shelved::steps))]
 
-ghost use Rattle.std.specs.Prelude.{◌≡◌, ◌<◌, true, false, None, Some, length, option_copied, option_map, replicate, if◌then◌else◌, is_some, slice_index_or, slice_set, IfErr, IfOk, OnErr, OnOk};
-ghost use Rattle.ksm_base.specs.declared.limits.TheConstants.{MOST_REFERENCES};
+ghost use Rattle.std.specs.Prelude.{◌≡◌, ◌<◌, ◌≤◌, true, false, None, Some, length, option_copied, option_map, replicate, if◌then◌else◌, is_some, slice_index_or, slice_set, IfErr, IfOk, OnErr, OnOk};
+ghost use Rattle.ksm_base.specs.declared.limits.TheConstants.{MOST_FRAMES, MOST_REFERENCES};
 ghost use Rattle.ksm_rmap.specs.Items.{has_item, with_item, without_item};
-ghost use Rattle.ksm_tree.specs.Dups.{items_in};
+ghost use Rattle.ksm_tree.specs.Dups.{dup_of, items_in};
 ghost use Rattle.ksm_tree.specs.Shelf.{change_slot};
+ghost use Rattle.ksm_tree.specs.Slots.{present};
 
 use crate::dup::Dup;
 use crate::groups::NO_NUMBER;
@@ -78,6 +79,22 @@ impl Shelf {
         (kept.dup.row.place == place).then_some(&kept.dup)
     }
 
+    /// The dup with a number. It is sought place by place.
+    #[inline(never)]
+    pub fn numbered(&self, number: u64) -> Option<&Dup>
+        requires { length self.now.slots ≤ MOST_FRAMES }
+        ensures { option_copied result ≡ dup_of number (present self.now.slots) }
+    {
+        for place in 0..self.len() as u32 {
+            if let Some(dup) = self.at(place) {
+                if dup.row.number == number {
+                    return Some(dup);
+                }
+            }
+        }
+        None
+    }
+
     /// A guess of the number of the group of the dup at a place. Nothing is promised of it.
     pub fn group_at(&self, place: u32) -> u32 {
         let key = self.keys.get(place as usize);
@@ -98,14 +115,14 @@ impl Shelf {
         Ok(())
     }
 
-    /// A dup takes its place, in the stead of one that stood there, with a guess of its group's number.
+    /// A dup takes its place, which is empty, with a guess of its group's number.
     pub fn put(&mut self, dup: Dup, group: u32)
         requires place { dup.row.place < length self.old.slots }
+        requires vacant { slice_index_or self.old.slots dup.row.place None ≡ None }
         requires ready { self.old.ready ≡ true }
         ensures { self.new.slots ≡ slice_set self.old.slots dup.row.place (Some dup) }
     {
         let place = dup.row.place;
-        self.clear(place);
         let key = self.dups.insert_reserved(Kept { dup, group });
         self.keys[place as usize] = key as u32;
     }

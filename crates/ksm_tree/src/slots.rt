@@ -5,7 +5,7 @@ ghost use Rattle.std.specs.Prelude.{◌≡◌, ℕ, ◌<◌, ◌≤◌, [], true
 ghost use Rattle.ksm_base.specs.declared.limits.TheConstants.{MOST_FRAMES, MOST_REFERENCES};
 ghost use Rattle.ksm_tree.specs.Choosing.{empty_place};
 ghost use Rattle.ksm_rmap.specs.Items.{has_item, with_item, without_item};
-ghost use Rattle.ksm_tree.specs.Dups.{dup_at, items_in, is_live, is_stale, places_open, rows_of, with_new, without_place};
+ghost use Rattle.ksm_tree.specs.Dups.{dup_at, dup_of, items_in, is_live, is_stale, places_open, rows_of, with_new, without_place};
 ghost use Rattle.ksm_tree.specs.Slots.{change_at};
 
 use crate::counted_set::CountedSet;
@@ -62,6 +62,13 @@ impl Slots {
         ensures { option_copied result ≡ dup_at place self.now.dups }
     {
         self.dups.at(place)
+    }
+
+    /// The dup with a number. It is sought place by place.
+    pub fn numbered(&self, number: u64) -> Option<&Dup>
+        ensures { option_copied result ≡ dup_of number self.now.dups }
+    {
+        self.dups.numbered(number)
     }
 
     /// A guess of the number of the group of the dup at a place. Nothing is promised of it.
@@ -129,10 +136,10 @@ impl Slots {
         self.dups.reserve()
     }
 
-    /// A dup with items takes its place, in the stead of one that stood there, with a guess of its group's number. Room
-    /// for it is taken.
+    /// A dup with items takes its place, which is empty, with a guess of its group's number. Room for it is taken.
     pub fn put(&mut self, dup: Dup, group: u32)
         requires place { dup.row.place < self.old.places }
+        requires vacant { dup_at dup.row.place self.old.dups ≡ None }
         requires live { is_live dup ≡ true }
         requires ready { self.old.ready ≡ true }
         ensures { self.new ≡ record self.old { dups = with_new dup self.old.dups; ready = self.new.ready } }
@@ -141,13 +148,13 @@ impl Slots {
         self.counts.set(place, dup.items.len() as u32);
         self.dups.put(dup, group);
         self.empty.mark(place, false);
-        self.stale.mark(place, false);
     }
 
     /// The dup at a place goes.
     pub fn clear(&mut self, place: u32)
         requires { is_some (dup_at place self.old.dups) ≡ true }
-        ensures { self.new ≡ record self.old { dups = without_place place self.old.dups; ready = self.new.ready } }
+        ensures gone { self.new ≡ record self.old { dups = without_place place self.old.dups; ready = self.new.ready } }
+        ensures ready { self.old.ready ≡ true → self.new.ready ≡ true }
     {
         self.counts.set(place, 0);
         self.dups.clear(place);

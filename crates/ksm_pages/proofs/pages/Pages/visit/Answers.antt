@@ -1,7 +1,7 @@
 use Rattle.ksm_pages.proofs.Gathering.{restless_as}
-use Rattle.ksm_pages.proofs.Names.{arith, Private, refl, Row, rules, seen, settled, sym, true, ◌∙◌}
+use Rattle.ksm_pages.proofs.Names.{arith, held_at, held_of, Private, refl, Row, rules, seen, settled, Some, sym, true, ◌∙◌, ◌≡◌}
 use Rattle.ksm_pages.specs.Paged.{visited}
-use Rattle.ksm_pages.proofs.Leaving.{Comes, row_seen, view_of}
+use Rattle.ksm_pages.proofs.Leaving.{alone_found, Comes, row_seen, view_of}
 use Rattle.ksm_pages.proofs.Turning.{found_left, held_as, rested}
 use Rattle.ksm_tree.proofs.Numbers.{on_err}
 use Rattle.ksm_pages.proofs.Visiting.{asked, finds_changed, finds_dup, finds_gone, finds_partner, finds_waits, finds_zero, is_alone, IsAsked, waits_then}
@@ -33,12 +33,15 @@ found r = record r { unchanged = true; state = Private }
 went : (c : goal.After-become_unchanged)
     → IsAsked (record c.self.inside { dups = c.group.new.self }) c.args.self.now c.args.spot.page c.in-Some.entry.now c.in_ok-group.group
     → let s = record c.self.inside { dups = c.group.new.self } in
-    Comes s c.become_unchanged.new.self c.left_by.new.dups (visited c.args.spot.page found (seen (view_of s)))
+    Comes s c.become_unchanged.new.self c.left_group.new.dups (visited c.args.spot.page found (seen (view_of s)))
 went c it =
     let s = record c.self.inside { dups = c.group.new.self } in
-    let left = found_left {s = s} {p = view_of s} it.lawful refl (rw c.pass-pass.ensures it.found) c.left_by.ensures in
+    let held : held_at c.args.spot.page s.rows.held ≡ Some (held_of c.pass.result c.in-Some.entry.now) = rw c.pass.ensures it.found in
+    let alone = is_alone s it.lawful c.args.spot.page c.in-Some.entry.now it.found it.restless in
+    let left = found_left {s = s} {p = view_of s} it.lawful refl held
+    (c.left_group.ensures s.knobs s.frames.items (alone_found s {p = view_of s} refl _ held alone) it.numbered) in
     let now = rested left c.become_unchanged.new.self kept found (λ r. refl) (λ r. refl)
-    (grind (arith, is_alone)) (λ alone. grind (arith, alone)) (held_as c.become_unchanged.ensures) in
+    alone (λ own. grind (arith, own)) (held_as c.become_unchanged.ensures) in
     grind arith
 
 pub invariant_of-self-then-not-entry : goal.invariant_of-self-then-not-entry

@@ -1,5 +1,5 @@
 use Rattle.ksm_tree.proofs.Names.{arith, sym}
-use Rattle.ksm_tree.proofs.Indexed.{group_absent}
+use Rattle.ksm_tree.proofs.Chained.{group_absent}
 use Rattle.ksm_tree.proofs.Joining.{none_best}
 use Rattle.ksm_tree.proofs.dups.Dups.best.Goals as goal
 

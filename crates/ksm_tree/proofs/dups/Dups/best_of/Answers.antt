@@ -1,5 +1,5 @@
 use Rattle.ksm_tree.proofs.Names.{ap, arith, content_in, found_at, length, List, option_map, refl, sym, true, ℕ, [], ◌==◌, ◌∙◌, ◌∷◌, ◌≡◌}
-use Rattle.ksm_tree.proofs.Indexed.{content_here, group_here}
+use Rattle.ksm_tree.proofs.Chained.{content_here, group_here}
 use Rattle.ksm_tree.proofs.Joining.{none_best}
 use Rattle.ksm_tree.proofs.Standing.{not_unused}
 use Rattle.ksm_tree.proofs.dups.Dups.best_of.Goals as goal
@@ -19,7 +19,7 @@ pub best_in-requires : goal.best_in-requires
 best_in-requires c =
     let s = c.self.inside in
     let g = c.in_ok-found.found.now in
-    let own = (s.index.groups.lawful.numbered g.content c.args.group).1 (ap content_in (sym c.in_ok-found.ensures)) in
+    let own = (s.groups.lawful.numbered g.content c.args.group).1 (ap content_in (sym c.in_ok-found.ensures)) in
     rw (← c.self.view_is) (c.as_slice-chain.ensures ∙ group_here c.self.invariant _ _ own c.in_ok-found.ensures)
 
 pub returns-clause-best : goal.returns-clause-best
@@ -28,4 +28,4 @@ returns-clause-best c = rw (← c.self.view_is)
 
 pub returns-clause-none : goal.returns-clause-none
 returns-clause-none c = rw (← c.self.view_is)
-    (λ unused. absurd (not_unused c.self.inside.index.groups _ c.in_ok-found.ensures unused))
+    (λ unused. absurd (not_unused c.self.inside.groups _ c.in_ok-found.ensures unused))

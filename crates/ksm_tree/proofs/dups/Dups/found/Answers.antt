@@ -1,56 +1,44 @@
-use Rattle.ksm_tree.proofs.Names.{ap, AreIndexed, arith, Dup, dups_seen, find_nothing, refl, rules, with_item, ℕ, [], ◌<◌, ◌∙◌, ◌∷◌, ◌≡◌}
-use Rattle.ksm_tree.proofs.Indexed.{room_indexed, told}
-use Rattle.ksm_tree.proofs.Made.{fresh_indexed, seen_made, taken_indexed, told_between}
+use Rattle.ksm_tree.proofs.Names.{ap, AreChained, arith, Dup, dups_seen, number_of, refl, Some, with_item, without_place, ℕ, [], ◌+◌, ◌∙◌, ◌∷◌, ◌≡◌}
+use Rattle.ksm_tree.proofs.Chained.{none_left, room_chained, told}
+use Rattle.ksm_tree.proofs.Made.{fresh_chained, new_again, seen_made}
 use Rattle.ksm_tree.proofs.dups.Dups.found.Goals as goal
-use Rattle.ksm_tree.proofs.dups.Dups.found.Goals.{After-reserve, in_default, in-Some}
-
--- the dups are found and counted by the index as before, with room for one more
-roomy : (c : After-reserve) → AreIndexed c.reserve.new.self c.self.inside.next c.self.inside.index
-roomy c = room_indexed c.self.invariant c.reserve.ensures.kept
-
-seen : (c : After-reserve) → dups_seen c.reserve.new.self c.self.inside.next c.self.inside.index ≡ c.args.self.now
-seen c = ap (λ s. dups_seen s c.self.inside.next c.self.inside.index) c.reserve.ensures.kept ∙ c.self.view_is
-
-within : (c : After-reserve) → c.args.place < c.reserve.new.self.places
-within c = omega (arith, ap (λ t. t.places) (seen c), c.requires.may.below)
+use Rattle.ksm_tree.proofs.dups.Dups.found.Goals.{After-vacate}
 
 pub invariant_of-self : goal.invariant_of-self
-invariant_of-self c = search (rules, roomy)
+invariant_of-self c = room_chained c.self.invariant c.reserve.ensures.kept (record { chains = λ t b. refl; totals = refl })
 
-pub invariant_of-self-in_err-add : goal.invariant_of-self-in_err-add
-invariant_of-self-in_err-add c = grind (arith, roomy)
+pub invariant_of-self-in_err-reserve-2 : goal.invariant_of-self-in_err-reserve-2
+invariant_of-self-in_err-reserve-2 c = room_chained c.self.invariant c.reserve.ensures.kept c.reserve-2.ensures.chains
 
-pub add-requires-clause-fresh : goal.add-requires-clause-fresh
-add-requires-clause-fresh c = grind (arith, find_nothing, roomy)
+pub vacate-requires : goal.vacate-requires
+vacate-requires c = told (room_chained c.self.invariant c.reserve.ensures.kept c.reserve-2.ensures.chains)
+
+-- the dups are in their groups, but for the one at the place
+vacant : (c : After-vacate) → AreChained c.vacate.new.slots c.self.inside.next c.vacate.new.groups
+vacant c = c.vacate.ensures.chained _ (room_chained c.self.invariant c.reserve.ensures.kept c.reserve-2.ensures.chains)
+
+seen : (c : After-vacate) → dups_seen c.vacate.new.slots c.self.inside.next c.vacate.new.groups ≡ record c.args.self.now { dups = without_place c.args.place c.args.self.now.dups }
+seen c = grind (arith, c.self.view_is, c.reserve.ensures.kept, c.reserve-2.ensures.waits, c.vacate.ensures.gone, c.vacate.ensures.waits)
 
 pub add-requires-clause-counted : goal.add-requires-clause-counted
-add-requires-clause-counted c = search (rules, told)
+add-requires-clause-counted c = told (vacant (goal.at.add-requires-clause-counted c).After-vacate)
 
-pub replace-requires : goal.replace-requires
-replace-requires c =
-    let here = (goal.at.replace-requires c).After-reserve in
-    let dup : Dup = record { row = record { number = c.self.inside.next; place = c.args.place; tree = c.args.tree; bytes = c.args.bytes.now }; items = c.in_ok-items.items } in
-    told_between c.add.new.self dup (roomy here) refl (within here) c.in-Some.old.now c.in-Some.ensures c.in_ok-add.ensures.entered
+pub put-requires-clause-vacant : goal.put-requires-clause-vacant
+put-requires-clause-vacant c = grind (arith, none_left)
 
 pub invariant_of-self-2 : goal.invariant_of-self-2
 invariant_of-self-2 c =
-    let here = (goal.at.invariant_of-self-2 c).After-reserve in
-    elim c.match-old.branch [
-      | in-Some w ↦ rw (c.put.ensures, w.self-inside-is)
-          (taken_indexed _ _ (roomy here) refl (within here) _ w.in-Some.ensures c.in_ok-add.ensures.entered _
-          w.replace.ensures.numbers w.replace.ensures.groups w.replace.ensures.totals)
-      | in_default w ↦ rw (c.put.ensures, w.self-inside-is) (fresh_indexed _ _ (roomy here) refl (within here) _ w.in_default.ensures c.in_ok-add.ensures.entered)
-    ]
+    let here = (goal.at.invariant_of-self-2 c).After-vacate in
+    let dup : Dup = record { row = record { number = c.self.inside.next; place = c.args.place; tree = c.args.tree; bytes = c.args.bytes.now }; items = c.in_ok-items.items } in
+    let named : number_of c.args.tree c.args.bytes.now c.vacate.new.groups.numbers.entries ≡ Some c.args.group = ap (λ s. number_of c.args.tree c.args.bytes.now s.numbers) (seen here) ∙ c.requires.known in
+    rw c.put.ensures (fresh_chained dup _ (vacant here) refl (grind arith) (grind (arith, none_left))
+    (c.add.ensures.added _ _ named) (c.add.ensures.totals _ _ named))
 
 pub returns-clause-made : goal.returns-clause-made
 returns-clause-made c =
-    let view = seen (goal.at.returns-clause-made c).After-reserve in
+    let view = seen (goal.at.returns-clause-made c).After-vacate in
     let dup : ℕ → Dup = λ n. record { row = record { number = n; place = c.args.place; tree = c.args.tree; bytes = c.args.bytes.now }; items = with_item c.args.second (c.args.first ∷ []) } in
-    c.keep_open.ensures ∙ elim c.match-old.branch [
-      | in-Some w ↦ rw (c.put.ensures, w.self-inside-is, c.in_ok-items.ensures.both)
-          (seen_made c.reserve.new.self c.self.inside.next c.self.inside.index w.replace.new.self dup
-          c.put.new.self.ready view (grind arith))
-      | in_default w ↦ rw (c.put.ensures, w.self-inside-is, c.in_ok-items.ensures.both)
-          (seen_made c.reserve.new.self c.self.inside.next c.self.inside.index c.add.new.self dup
-          c.put.new.self.ready view c.add.ensures.waits)
-    ]
+    let again = new_again (dup c.args.self.now.next) c.args.self.now.dups in
+    c.keep_open.ensures ∙ rw (c.put.ensures, c.in_ok-items.ensures.both)
+    (seen_made c.vacate.new.slots c.self.inside.next c.vacate.new.groups c.add.new.self dup c.put.new.self.ready view c.add.ensures.waits
+    ∙ (λ i. record c.args.self.now { dups = again i; next = c.args.self.now.next + 1 }))

@@ -1,5 +1,5 @@
-use Rattle.ksm_tree.proofs.Names.{arith, with_item}
-use Rattle.ksm_tree.proofs.Indexed.{room_indexed, stays_indexed, told_changed, told_items, told_there}
+use Rattle.ksm_tree.proofs.Names.{arith, refl, with_item}
+use Rattle.ksm_tree.proofs.Chained.{room_chained, stays_chained, told_changed, told_items, told_there}
 use Rattle.ksm_tree.proofs.dups.Dups.join_at.Goals as goal
 
 pub add_item-requires : goal.add_item-requires
@@ -8,10 +8,10 @@ add_item-requires c =
     grind (arith, same, told_there c.args.dup c.self.invariant c.self.view_is c.in-Some.ensures)
 
 pub invariant_of-self : goal.invariant_of-self
-invariant_of-self c = room_indexed c.self.invariant c.in_err-add_item.ensures.kept
+invariant_of-self c = room_chained c.self.invariant c.in_err-add_item.ensures.kept (record { chains = λ t b. refl; totals = refl })
 
 pub invariant_of-self-2 : goal.invariant_of-self-2
-invariant_of-self-2 c = rw c.in_ok-add_item.ensures.added (stays_indexed c.self.invariant c.in-Some.place _ _)
+invariant_of-self-2 c = rw c.in_ok-add_item.ensures.added (stays_chained c.self.invariant c.in-Some.place _ _)
 
 pub returns-clause-joined : goal.returns-clause-joined
 returns-clause-joined c =

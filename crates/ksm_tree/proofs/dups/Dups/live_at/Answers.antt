@@ -1,5 +1,5 @@
 use Rattle.ksm_tree.proofs.Names.{arith, is_live}
-use Rattle.ksm_tree.proofs.Indexed.{found_passing}
+use Rattle.ksm_tree.proofs.Chained.{found_passing}
 use Rattle.ksm_tree.proofs.dups.Dups.live_at.Goals as goal
 
 pub returns : goal.returns

@@ -6,4 +6,4 @@ returns-clause-alone c = rw (← c.self.view_is) c.meet.ensures.alone
 
 pub returns-clause-none : goal.returns-clause-none
 returns-clause-none c = rw (← c.self.view_is)
-    (λ unused. rw (c.meet.ensures.none unused, c.meet.ensures.numbers, c.meet.ensures.most) refl)
+    (λ unused. rw (c.meet.ensures.none unused, c.meet.ensures.numbers.0, c.meet.ensures.numbers.1) refl)

@@ -12,9 +12,7 @@ gone c =
 pub invariant_of-self-clause-lawful : goal.invariant_of-self-clause-lawful
 invariant_of-self-clause-lawful c = (gone (goal.at.invariant_of-self-clause-lawful c).After-remove).lawful
 
-pub returns-in-Some-clause-chains : goal.returns-in-Some-clause-chains
-returns-in-Some-clause-chains c = record
-    { chains = (gone (goal.at.returns-in-Some-clause-chains c).After-remove).chains; totals = refl }
-
-pub returns-in-Some-clause-waiting : goal.returns-in-Some-clause-waiting
-returns-in-Some-clause-waiting c = (gone (goal.at.returns-in-Some-clause-waiting c).After-remove).waiting
+pub returns-in-Some-clause-stands : goal.returns-in-Some-clause-stands
+returns-in-Some-clause-stands c =
+    let left = gone (goal.at.returns-in-Some-clause-stands c).After-remove in
+    record { chains = record { chains = left.chains; totals = refl }; waiting = left.waiting }

@@ -1,0 +1,141 @@
+-- The dups in their groups: what is found there, and how that stays right with a change of items and with a dup that goes.
+use Rattle.ksm_tree.proofs.Names.{All, All-filter, ap, AreChained, AreTotals, arith, Bool, chain_in, change_at, change_items, content_of, Dup, dup_at, dup_of, DupRow, dups_seen, DupsState, false}
+use Rattle.ksm_tree.proofs.Names.{filter, filter_all, find, find_none, find_nothing, get, Group, group_places, Groups, GuestPage, has_number, if◌then◌else◌, in_group, InPlaceOrder, is_some}
+use Rattle.ksm_tree.proofs.Names.{IsCountedAnew, items_in, length, List, MOST_FRAMES, None, not, number_of, Option, option_map, pairs_head, pairs_tail, refl, rows_of, rules, SameChains, SlotsState}
+use Rattle.ksm_tree.proofs.Names.{Some, stands_at, Tells, true, without, without_place, ℕ, [], ◌&&◌, ◌<◌, ◌==◌, ◌∙◌, ◌∷◌, ◌≡◌, ◌≤◌}
+use Rattle.ksm_tree.specs.Groups.{IsMoved}
+use Rattle.ksm_tree.proofs.Alike.{chosen, find_alike, map_alike}
+use Rattle.ksm_tree.proofs.OneSlot.{found_stands}
+use Rattle.ksm_tree.proofs.Grouped.{more_there, totals_less, totals_tell}
+use Rattle.ksm_tree.proofs.Rows.{alone, group_unlike, own_group, self_group}
+use Rattle.ksm_base.proofs.Orders.{Lower, ordered_filter}
+use Rattle.ksm_tree.proofs.Changes.{all_rows, one_dup, row_found, rows_changed, rows_without}
+
+-- where the place of a number is told, a search by the number finds the dup at that place
+placed_found : (q : ℕ) {p : ℕ} (dups : List Dup) → InPlaceOrder (rows_of dups) → Some p ≡ option_map (λ d. d.row.place) (dup_of q dups) → dup_of q dups ≡ dup_at p dups
+placed_found q dups rise is = grind (arith, find_alike, one_dup)
+
+-- the row found at a place is the row of the dup found there
+pub row_at_place : (p : ℕ) (dups : List Dup) {d : Option Dup} → dup_at p dups ≡ d → find (λ r. r.place == p) (rows_of dups) ≡ option_map (λ e. e.row) d
+row_at_place p dups is = grind (arith, row_found)
+
+-- where a dup of another group stands, the places of a group stay without that place
+not_in_group : (p t : ℕ) (b : List ℕ) (dups : List Dup) {d : Dup} → InPlaceOrder (rows_of dups) → dup_at p dups ≡ Some d → in_group t b d.row ≡ false → without p (group_places t b (rows_of dups)) ≡ group_places t b (rows_of dups)
+not_in_group p t b dups rise found outside =
+    let one = alone (λ r. r.place == p) _ _ rise (row_at_place p _ found) in
+    group_unlike p t b _ (λ k e lt. grind (arith, found_stands dups found, one k e lt))
+
+-- slots with other dups
+abbrev pub with_dups : SlotsState → List Dup → Bool → SlotsState
+with_dups s dups ready = record { places = s.places; dups = dups; ready = ready }
+
+-- the groups are right by the rows of the dups
+pub by_rows : {s : SlotsState} {next : ℕ} {groups : Groups} (rows : List DupRow) → rows_of s.dups ≡ rows → s.places ≤ MOST_FRAMES → InPlaceOrder rows → All (λ r. r.place < s.places) rows → All (λ r. r.number < next) rows
+    → AreTotals rows groups.totals → ((t : ℕ) (b : List ℕ) → chain_in t b groups ≡ group_places t b rows) → AreChained s next groups
+by_rows rows is few rise places numbers counted grouped = record {
+  few = few;
+  lawful = record { in_place_order = rw is rise; places_below = rw is places; numbers_below = rw is numbers };
+  counted = rw is counted;
+  grouped = λ t b. rw is (grouped t b);
+}
+
+module _ {s : SlotsState} {next : ℕ} {groups : Groups} (h : AreChained s next groups) where
+  -- a change of items changes no row, and so nothing of the groups
+  pub stays_chained : (p : ℕ) (f : List GuestPage → List GuestPage) (ready : Bool) → AreChained (with_dups s (change_at p f s.dups) ready) next groups
+  stays_chained p f ready = by_rows _ (rows_changed p f s.dups) h.few h.lawful.in_place_order h.lawful.places_below
+      h.lawful.numbers_below h.counted h.grouped
+
+  -- whether room for one more dup is taken tells nothing of the groups
+  pub room_chained : {t : SlotsState} {new : Groups} → t ≡ record s { ready = t.ready } → SameChains groups new → AreChained t next new
+  room_chained is same = by_rows _ (ap (λ t. rows_of t.dups) is) (rw is h.few) h.lawful.in_place_order
+      (rw is h.lawful.places_below) h.lawful.numbers_below (rw same.totals h.counted)
+      (λ t b. same.chains t b ∙ h.grouped t b)
+
+  -- the totals tell of the group of each tree and bytes
+  pub told : (t : ℕ) (b : List ℕ) → Tells (length (chain_in t b groups)) groups.totals
+  told t b = search (rules, h.grouped t b, totals_tell)
+
+  -- where a dup goes from its place and from its group, the groups stay right
+  pub gone_chained : {new : Groups} (p : ℕ) (d : Dup) (ready : Bool) → dup_at p s.dups ≡ Some d → IsMoved d.row.tree d.row.bytes (without p) groups new
+      → IsCountedAnew d.row.tree d.row.bytes groups new → AreChained (with_dups s (without_place p s.dups) ready) next new
+  gone_chained {new} p d ready found gone totals =
+      let rows = rows_of s.dups in
+      let law = h.lawful in
+      let test = λ (r : DupRow). not (r.place == p) in
+      let at = found_stands s.dups found in
+      let at_p = row_at_place p s.dups found in
+      let rise = ordered_filter test rows law.in_place_order in
+      let grouped : (t : ℕ) (b : List ℕ) → chain_in t b new ≡ group_places t b (filter test rows) = λ t b.
+      let kept = chosen (λ (r : DupRow). r.place) (in_group t b) (λ q. not (q == p)) rows in
+      grind (arith, kept, not_in_group p t b s.dups law.in_place_order found, own_group t b d.row) in
+      let more = more_there p rows d.row law.in_place_order at_p in
+      by_rows (filter test rows) (rows_without p s.dups) h.few rise
+      (All-filter test (λ r. r.place < s.places) rows law.places_below)
+      (All-filter test (λ r. r.number < next) rows law.numbers_below)
+      (totals_less d.row.tree d.row.bytes more (self_group d.row) rise law.in_place_order (grind arith) h.counted)
+      grouped
+
+-- where callers are told the place of a number
+module _ (q : ℕ) {p : ℕ} {s : SlotsState} {next : ℕ} {groups : Groups} {seen : DupsState} (h : AreChained s next groups) (view : dups_seen s next groups ≡ seen) (is : Some p ≡ option_map (λ d. d.row.place) (dup_of q seen.dups)) where
+  is_inside : Some p ≡ option_map (λ d. d.row.place) (dup_of q s.dups)
+  is_inside = grind arith
+
+  -- a dup stands at that place
+  pub told_there : is_some (dup_at p s.dups) ≡ true
+  told_there = grind (arith, placed_found, is_inside)
+
+  -- the items at that place are those of the number
+  pub told_items : items_in (dup_at p s.dups) ≡ items_in (dup_of q seen.dups)
+  told_items = grind (arith, placed_found q s.dups h.lawful.in_place_order is_inside)
+
+  -- a change of the items at that place is seen as a change of the number's items
+  pub told_changed : (f : List GuestPage → List GuestPage) (ready : Bool) → dups_seen (with_dups s (change_at p f s.dups) ready) next groups ≡ record seen { dups = change_items q f seen.dups }
+  told_changed f ready =
+      let one = one_dup q s.dups h.lawful.in_place_order is_inside in
+      rw (← view) (ap (λ dups. dups_seen (with_dups s dups ready) next groups)
+      (map_alike _ _ s.dups (λ k d lt. grind (arith, one k d lt))))
+
+-- the group under the number of a tree and bytes is of these, and has the places of their dups
+module _ {s : SlotsState} {next : ℕ} {groups : Groups} (h : AreChained s next groups) (tree : ℕ) (bytes : List ℕ) where
+  module _ {number : ℕ} {g : Group} (is : number_of tree bytes groups.numbers.entries ≡ Some number) (at : Some g ≡ get groups.groups number) where
+    -- the group under the number of a tree and bytes lists the places of the dups of that tree and bytes
+    pub group_here : g.places.list.items ≡ group_places tree bytes (rows_of s.dups)
+    group_here = grind (arith)
+
+    -- the group under the number of a tree and bytes has that tree and those bytes as its content
+    pub content_here : g.content ≡ content_of tree bytes
+    content_here = grind (arith, groups.lawful.numbered (content_of tree bytes) number)
+
+  -- a tree and bytes without a number have no dup
+  pub group_absent : number_of tree bytes groups.numbers.entries ≡ None → [] ≡ group_places tree bytes (rows_of s.dups)
+  group_absent none = grind (arith)
+
+-- once the dup of a place has gone, none stands there
+pub none_left : (p : ℕ) (dups : List Dup) → dup_at p (without_place p dups) ≡ None
+none_left p [] = refl
+none_left p (d ∷ dups) = grind (arith, none_left p dups)
+
+-- where no dup stands, none goes
+pub none_gone : (p : ℕ) (dups : List Dup) → dup_at p dups ≡ None → without_place p dups ≡ dups
+none_gone p dups none = filter_all _ dups (λ k d lt. ap not (find_none (stands_at p) dups none k d lt))
+
+-- the dup found at a place is the one that has its number
+pub stands_numbered : (p q : ℕ) (dups : List Dup) (d : Dup) → InPlaceOrder (rows_of dups) → dup_at p dups ≡ Some d → d.row.number ≡ q → Some p ≡ option_map (λ d. d.row.place) (dup_of q dups)
+stands_numbered p q dups d rise found is =
+    let only = alone (λ r. r.place == p) _ _ rise (row_at_place p _ found) in
+    let one = all_rows (λ r. (r.place == p) ≡ (r.number == q)) dups
+    (λ k e lt. grind (arith, found_stands dups found, only k e lt)) in
+    grind (arith, found_stands dups found, find_alike (stands_at p) (has_number q) dups one)
+
+-- the dup found at a place, if it passes a test
+abbrev pub passing : (Dup → Bool) → Option Dup → Option Dup
+passing test None = None
+passing test (Some d) = if test d then Some d else None
+
+-- the dup at a place that passes a test is the one dup there, if it passes
+pub found_passing : (p : ℕ) (test : Dup → Bool) (dups : List Dup) → InPlaceOrder (rows_of dups) → find (λ d. stands_at p d && test d) dups ≡ passing test (dup_at p dups)
+found_passing p test [] rise = refl
+found_passing p test (d ∷ dups) rise =
+    let behind = all_rows (Lower d.row) dups (pairs_head Lower d.row (rows_of dups) rise) in
+    let rest = found_passing p test dups (pairs_tail Lower d.row (rows_of dups) rise) in
+    grind (arith, find_nothing (λ e. stands_at p e && test e) dups, behind)
