@@ -67,7 +67,7 @@ fn reaches_on<P: Part>(parts: &[P], at: usize, key: u64) -> bool
 
 /// The part in which a key is, or would be. The guess is tried first.
 #[inline(always)]
-fn part_near<P: Part>(parts: &[P], guess: usize, key: u64) -> usize
+fn part_of<P: Part>(parts: &[P], guess: usize, key: u64) -> usize
     requires parts { AreParts P.items parts.now }
     requires some { 0 < length parts.now }
     ensures { IsPartOf P.items key parts.now result }
@@ -75,11 +75,11 @@ fn part_near<P: Part>(parts: &[P], guess: usize, key: u64) -> usize
     if guess < parts.len() && reaches_back(parts, guess, key) && reaches_on(parts, guess, key) {
         return guess;
     }
-    part_of(parts, key)
+    search(parts, key)
 }
 
-/// The part in which a key is, or would be.
-fn part_of<P: Part>(parts: &[P], key: u64) -> usize
+/// The same, by halves.
+fn search<P: Part>(parts: &[P], key: u64) -> usize
     requires parts { AreParts P.items parts.now }
     requires some { 0 < length parts.now }
     ensures { IsPartOf P.items key parts.now result }
@@ -130,7 +130,7 @@ fn nth<P: Part>(parts: &[P], place: usize) -> Option<u64>
 }
 
 /// How many marked items come before a key, of parts with so many marked items.
-fn up_to_in<P: Part>(parts: &[P], count: usize, key: u64) -> usize
+fn up_to_in<P: Part>(parts: &[P], guess: usize, count: usize, key: u64) -> usize
     requires parts { AreParts P.items parts.now }
     requires counted { count ≡ many (flat_map P.items parts.now) }
     ensures { result ≡ up_to key (flat_map P.items parts.now) }
@@ -138,31 +138,31 @@ fn up_to_in<P: Part>(parts: &[P], count: usize, key: u64) -> usize
     if parts.is_empty() {
         return 0;
     }
-    let at = part_of(parts, key);
+    let at = part_of(parts, guess, key);
     count_marked(&parts[..at]) + parts[at].up_to(key)
 }
 
 /// The item of a key.
-fn find_in<P: Part>(parts: &[P], key: u64) -> Option<Item>
+fn find_in<P: Part>(parts: &[P], guess: usize, key: u64) -> Option<Item>
     requires { AreParts P.items parts.now }
     ensures { result ≡ find (is_at key) (flat_map P.items parts.now) }
 {
     if parts.is_empty() {
         return None;
     }
-    let at = part_of(parts, key);
+    let at = part_of(parts, guess, key);
     parts[at].find(key)
 }
 
 /// The first item whose key is not below a key.
-fn first_from_in<P: Part>(parts: &[P], key: u64) -> Option<Item>
+fn first_from_in<P: Part>(parts: &[P], guess: usize, key: u64) -> Option<Item>
     requires { AreParts P.items parts.now }
     ensures { result ≡ find (is_from key) (flat_map P.items parts.now) }
 {
     if parts.is_empty() {
         return None;
     }
-    let at = part_of(parts, key);
+    let at = part_of(parts, guess, key);
     match parts[at].first_from(key) {
         Some(item) => Some(item),
         None if at + 1 < parts.len() => parts[at + 1].first_from(key),
@@ -178,6 +178,9 @@ fn make_room<P: Part>(parts: &mut Vec<P>, at: usize, key: u64) -> Result<usize, 
     ensures items { flat_map P.items parts.new.items ≡ flat_map P.items parts.old.items }
     ensures place { IfOk result (λ into. IsPartOf P.items key parts.new.items into) }
 {
+    if !parts[at].is_full() {
+        return Ok(at);
+    }
     parts.reserve(1)?;
     let more = match parts[at].spill(key)? {
         Some(more) => more,
@@ -218,7 +221,7 @@ fn put<P: Part>(
         parts.push(P::single(alloc, item)?)?;
         return Ok(());
     }
-    let at = part_near(parts.as_slice(), *last, item.key);
+    let at = part_of(parts.as_slice(), *last, item.key);
     let into = make_room(parts, at, item.key)?;
     *last = into;
     put_in(parts, into, item)
@@ -245,7 +248,7 @@ fn take_out<P: Part>(parts: &mut Vec<P>, last: &mut usize, key: u64) -> usize
     if parts.is_empty() {
         return 0;
     }
-    let at = part_near(parts.as_slice(), *last, key);
+    let at = part_of(parts.as_slice(), *last, key);
     *last = at;
     let fewer = remove_from(&mut parts[at], key);
     if !parts[at].is_empty() {
@@ -268,7 +271,7 @@ fn mark_in<P: Part>(parts: &mut Vec<P>, last: &mut usize, key: u64, mark: bool) 
     if parts.is_empty() {
         return (0, 0);
     }
-    let at = part_near(parts.as_slice(), *last, key);
+    let at = part_of(parts.as_slice(), *last, key);
     *last = at;
     let was = parts[at].count();
     parts[at].set_mark(key, mark);
@@ -325,6 +328,10 @@ impl<P: Part> Part for Node<P> {
         self.parts.is_empty()
     }
 
+    fn is_full(&self) -> bool {
+        self.parts.len() >= WIDEST
+    }
+
     fn spill(&mut self, key: u64) -> Result<Option<Node<P>>, AllocError> {
         if self.parts.len() < WIDEST {
             return Ok(None);
@@ -351,15 +358,15 @@ impl<P: Part> Part for Node<P> {
     }
 
     fn find(&self, key: u64) -> Option<Item> {
-        find_in(self.parts.as_slice(), key)
+        find_in(self.parts.as_slice(), self.last, key)
     }
 
     fn first_from(&self, key: u64) -> Option<Item> {
-        first_from_in(self.parts.as_slice(), key)
+        first_from_in(self.parts.as_slice(), self.last, key)
     }
 
     fn up_to(&self, key: u64) -> usize {
-        up_to_in(self.parts.as_slice(), self.count, key)
+        up_to_in(self.parts.as_slice(), self.last, self.count, key)
     }
 
     fn nth(&self, place: usize) -> Option<u64> {

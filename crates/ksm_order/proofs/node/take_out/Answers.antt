@@ -6,8 +6,8 @@ use Rattle.ksm_order.proofs.node.take_out.Goals as goal
 use Rattle.ksm_order.proofs.node.take_out.Goals.{After-remove_from-fewer}
 
 place : (g : _) (c : After-remove_from-fewer g)
-    → IsPartOf g.P.Part.items c.args.key c.args.parts.now.items c.part_near-at.result
-place g c = rw c.as_slice.ensures.value at c.part_near-at.ensures
+    → IsPartOf g.P.Part.items c.args.key c.args.parts.now.items c.part_of-at.result
+place g c = rw c.as_slice.ensures.value at c.part_of-at.ensures
 
 pub returns-then-not-is_empty : goal.returns-then-not-is_empty
 returns-then-not-is_empty g c =

@@ -1,7 +1,7 @@
 use Rattle.std.proofs.Common.{arith, sym, ◌∙◌}
 use Rattle.std.proofs.lemmas.List.{drop_all}
 use Rattle.ksm_order.proofs.Parts.{ahead_of, behind_later, behind_of}
-use Rattle.ksm_order.proofs.node.part_of.Goals as goal
+use Rattle.ksm_order.proofs.node.search.Goals as goal
 
 pub loop-low-preserved-then-begins_behind : goal.loop-low-preserved-then-begins_behind
 loop-low-preserved-then-begins_behind g c =
