@@ -5,6 +5,7 @@ ghost use Rattle.ksm_order.specs.Listed.{marked, up_to};
 
 use crate::item::Item;
 use crate::part::Part;
+use crate::vector::insert_at;
 use std::alloc::{AllocError, Global};
 use std::marker::Model;
 
@@ -58,7 +59,7 @@ fn in_a_row(items: &[Item], key: u64) -> Option<usize>
     ensures { IfSome result (IsPlace key items.now) }
 {
     let first = items.first()?;
-    let at = key.checked_sub(first.key)? as usize;
+    let at = key.saturating_sub(first.key) as usize;
     if is_place(items, at, key) {
         Some(at)
     } else {
@@ -186,7 +187,7 @@ impl Part for Leaf {
 
     fn insert(&mut self, item: Item) -> Result<(), AllocError> {
         let at = place_of(self.items.as_slice(), self.next, item.key);
-        self.items.insert(at, item)?;
+        insert_at(&mut self.items, at, item)?;
         self.next = at + 1;
         self.count += usize::from(item.marked);
         Ok(())
