@@ -8,7 +8,7 @@ use Rattle.ksm_order.proofs.leaf.LeafPart.insert.Goals as goal
 added : (c : goal.After-self-2-1) → c.insert_at.new.items.items ≡ with_item c.args.item c.self.inside.items.items
 added c =
     let at = rw c.as_slice.ensures.value at c.place_of-at.ensures in
-    grind (arith, c.in_ok-insert_at.ensures.put, insert_here c.args.item c.self.inside.items.items c.place_of-at.result at.ahead at.behind)
+    grind (arith, c.in_ok-insert_at.ensures.put, insert_here c.args.item c.self.inside.items.items c.place_of-at.result at)
 
 pub invariant_of-self-2 : goal.invariant_of-self-2
 invariant_of-self-2 c =
