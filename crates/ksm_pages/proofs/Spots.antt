@@ -1,8 +1,8 @@
 -- Spots in the order of their pages: the pages of them, once one was put in, written or taken away.
 use Rattle.ksm_pages.proofs.Names.{after_cursor, All, All-map, ap, AreInOrder, arith, Bool, comes_before, Entry, false, filter, filter_none, find, find_filter, find_none, find_passes, get, get_or}
-use Rattle.ksm_pages.proofs.Names.{get_or_default, GuestPage, has_item, IfSome, if◌then◌else◌, is_some, is_useless, IsInVain, IsPartitionedBy, length, length-map, List, Listing, map, Named, None, not}
+use Rattle.ksm_pages.proofs.Names.{get_or_default, GuestPage, has_item, IfSome, if◌then◌else◌, is_some, is_useless, IsInVain, length, length-map, List, Listing, map, Named, None, not}
 use Rattle.ksm_pages.proofs.Names.{not-true, Option, pages_of, pages_ordered, pairs_head, pairs_tail, point_is_count, refl, rules, same_page, same_page_eq, Slab, slice_get, Some, Spot, sym, true}
-use Rattle.ksm_pages.proofs.Names.{true≢false, ℕ, [], ◌++◌, ◌+◌, ◌-◌, ◌<◌, ◌∙◌, ◌∷◌, ◌≡◌, ◌≤◌, ◌⊎◌}
+use Rattle.ksm_pages.proofs.Names.{true≢false, ℕ, [], ◌++◌, ◌-◌, ◌<◌, ◌∙◌, ◌∷◌, ◌≡◌, ◌≤◌, ◌⊎◌}
 use Rattle.std.specs.Option.{is_none}
 use Rattle.std.proofs.lemmas.Bool.{false_from_ne_true}
 use Rattle.ksm_rmap.specs.Items.{AreAscending}
