@@ -1,5 +1,5 @@
 use Rattle.ksm_book.proofs.Names.{refl, sym, ◌∙◌}
-use Rattle.ksm_book.proofs.Unmerged.{left_alone, left_any, left_guest, left_still}
+use Rattle.ksm_book.proofs.Unmerged.{left_alone, left_any, left_still}
 use Rattle.ksm_book.proofs.Singles.{found_resettled, row_held}
 use Rattle.ksm_book.proofs.unmerging.leave.Goals as goal
 

@@ -1,4 +1,4 @@
-use Rattle.ksm_book.proofs.Names.{ap, change_row, IsKnown, let_go, lies_on, not, on_its_own, PagesView, refl, rules, seen, Some, ◌∙◌, ◌≡◌}
+use Rattle.ksm_book.proofs.Names.{ap, change_row, IsKnown, let_go, lies_on, not, on_its_own, PagesView, refl, rules, seen, Some, ◌≡◌}
 use Rattle.ksm_book.proofs.ByPage.{change_twice}
 use Rattle.ksm_book.proofs.Resettled.{may_left, resettled, turned}
 use Rattle.ksm_book.proofs.Singles.{row_held}
