@@ -1,7 +1,7 @@
 //! The commands on all pages of a guest, or on all there are: merged pages, and those mapped from the zero page, get
 //! frames of their own again, and pages come back into the scan. Each goes along the pages in order.
 
-ghost use Rattle.std.specs.Prelude.{◌≡◌, ◌<◌, All, IfErr, IfOk, true};
+ghost use Rattle.std.specs.Prelude.{◌≡◌, ◌<◌, All, IfErr, IfOk, is_some, true};
 ghost use Rattle.ksm_base.specs.Refusals.{is_of};
 ghost use Rattle.ksm_base.specs.Rows.{change_rows};
 ghost use Rattle.ksm_book.specs.Carried.{IsCarried};
@@ -11,11 +11,43 @@ ghost use Rattle.ksm_pages.specs.Paged.{IsHeld, seen};
 ghost use Rattle.ksm_book.specs.Unmerged.{HasLeft, MayNotLeave, Unshares};
 
 use crate::frame_keeper::FrameKeeper;
+use crate::frames::{release_if, take_frame};
 use crate::settling::resettle;
 use crate::state::State;
 use frame_table::FrameTable;
 use ksm_base::{Command, Fault, Knobs, Reply};
 use ksm_pages::{Held, Pages};
+
+// A merged or Zero page of a guest gets a frame of its own on its home, is not unchanged, and leaves the scan. Says that
+// one frame was given. Refused where no frame is free, it changes nothing.
+fn leave_scan(
+    pages: &mut Pages,
+    keeper: &mut FrameKeeper,
+    table: &FrameTable,
+    guest: Option<u16>,
+    held: Held,
+) -> Result<u64, Fault>
+    requires own { keeper.old.table ≡ table.now }
+    requires laid { IsLaid (seen pages.old) keeper.old }
+    requires guest { is_some guest ≡ true }
+    requires held { IsHeld (seen pages.old) held.spot.page held }
+    requires shared { held.shared ≡ true }
+    requires home { held.home < pages.old.shape.nodes }
+    ensures left { IfOk result (λ count.
+        HasLeft (seen pages.old) (seen pages.new) keeper.old keeper.new guest held.spot.page count) }
+    ensures turned { IfErr result (λ fault.
+        MayNotLeave (seen pages.old) (seen pages.new) keeper.old keeper.new held.spot.page fault) }
+{
+    pages.lie_in_order();
+    let bytes = pages.bytes(held.spot);
+    let shape = pages.shape();
+    let Some(frame) = take_frame(keeper, table, shape, held.home, &bytes) else {
+        return Err(Fault::NoFrame(held.home));
+    };
+    let left = pages.let_go_on(held.spot, frame);
+    release_if(keeper, table, left);
+    Ok(1)
+}
 
 // A merged or Zero page gets a frame of its own on its home, and is not unchanged. A guest's page leaves the scan. Says
 // how many frames were given. Refused where no frame is free, it changes nothing.
@@ -42,13 +74,12 @@ fn leave(
         }
         return Ok(0);
     }
+    if guest.is_some() {
+        return leave_scan(pages, keeper, table, guest, held);
+    }
     let bytes = pages.bytes(held.spot);
     if let Err(fault) = resettle(pages, keeper, table, held.spot, held.home, &bytes) {
         return Err(fault);
-    }
-    if guest.is_some() {
-        pages.let_go(held.spot);
-        return Ok(1);
     }
     pages.forget_unchanged(held.spot);
     Ok(1)

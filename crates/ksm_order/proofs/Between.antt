@@ -9,7 +9,7 @@ use Rattle.std.proofs.lemmas.List.Folds.{find-append}
 use Rattle.std.proofs.lemmas.List.Sums.{count_by-le-length, sum_by-append, sum_by-cons}
 use Rattle.std.proofs.lemmas.List.Elements.{All-tail, filter-append}
 use Rattle.ksm_order.specs.declared.item.Item.{Item}
-use Rattle.ksm_order.specs.Listed.{AreAscending, AreBefore, AreBehind, is_at, is_from, IsHere, many, marked, up_to, with_item, with_mark, without}
+use Rattle.ksm_order.specs.Listed.{AreAscending, AreBefore, AreBehind, is_at, is_from, IsHere, IsPlace, many, marked, up_to, with_item, with_mark, without}
 
 -- whether an item comes before a key, and whether it comes behind
 abbrev pub low : ℕ → Item → Bool
@@ -139,11 +139,11 @@ with_between x xs run ys ahead after =
     grind (arith, filter-append, before x.key xs ahead, behind x.key ys after, append_assoc, append-nil)
 
 -- a list in order is cut where so many items come before the key, and the others do not
-module _ (key : ℕ) (xs : List Item) (at : ℕ) (rise : AreAscending xs) (ahead : AreBefore key (take at xs)) (from : All (λ x. key ≤ x.key) (drop at xs)) where
+module _ {key : ℕ} {xs : List Item} {at : ℕ} (rise : AreAscending xs) (place : IsPlace key xs at) where
   -- where the next is not of the key, the others come behind it
   pub behind_next : ((d : Item) → at < length xs → (get_or xs at d).key ≡ key → ⊥) → AreBehind key (drop at xs)
   behind_next differs k e lt =
-      grind (arith, get_or-drop at xs, from 0 e, rise at (at + k) e, differs e, length-drop at xs)
+      grind (arith, get_or-drop at xs, place.behind 0 e, rise at (at + k) e, differs e, length-drop at xs)
 
   -- and the key is not there
   pub find_next : ((d : Item) → at < length xs → (get_or xs at d).key ≡ key → ⊥) → find (is_at key) xs ≡ None
@@ -153,20 +153,20 @@ module _ (key : ℕ) (xs : List Item) (at : ℕ) (rise : AreAscending xs) (ahead
   -- the first that does not come before the key is the next
   pub from_cut : find (is_from key) xs ≡ slice_get xs at
   from_cut =
-      grind (arith, slice_get-drop at xs, ap (find (is_from key)) (take-append-drop at xs), find-append, before key (take at xs) ahead, from_first key (drop at xs) from)
+      grind (arith, slice_get-drop at xs, ap (find (is_from key)) (take-append-drop at xs), find-append, before key (take at xs) place.ahead, from_first key (drop at xs) place.behind)
 
   -- so many marked ones come before the key as are marked in front
   pub up_to_cut : up_to key xs ≡ many (take at xs)
   up_to_cut =
-      omega (arith, ap (up_to key) (take-append-drop at xs), up_to-append key (take at xs) (drop at xs), before key (take at xs) ahead, up_to_behind key (drop at xs) from)
+      omega (arith, ap (up_to key) (take-append-drop at xs), up_to-append key (take at xs) (drop at xs), before key (take at xs) place.ahead, up_to_behind key (drop at xs) place.behind)
 
 -- an item whose key is not there is put in where a list in order is cut
-pub insert_here : (x : Item) (xs : List Item) (at : ℕ) → AreBefore x.key (take at xs)
-    → All (λ y. x.key ≤ y.key) (drop at xs) → find (is_at x.key) xs ≡ None → insert xs at x ≡ with_item x xs
-insert_here x xs at ahead from absent =
+pub insert_here : (x : Item) (xs : List Item) (at : ℕ) → IsPlace x.key xs at → find (is_at x.key) xs ≡ None
+    → insert xs at x ≡ with_item x xs
+insert_here x xs at place absent =
     let whole = take-append-drop at xs in
-    let rest : find (is_at x.key) (drop at xs) ≡ None = grind (arith, ap (find (is_at x.key)) whole, find-append, (before x.key (take at xs) ahead).0) in
-    grind (arith, ap (with_item x) whole, filter-append, before x.key (take at xs) ahead, not_low x.key (drop at xs) from rest, append-nil)
+    let rest : find (is_at x.key) (drop at xs) ≡ None = grind (arith, ap (find (is_at x.key)) whole, find-append, (before x.key (take at xs) place.ahead).0) in
+    grind (arith, ap (with_item x) whole, filter-append, before x.key (take at xs) place.ahead, not_low x.key (drop at xs) place.behind rest, append-nil)
 
 -- an item of the key stands at a place of a list in order
 module _ {key : ℕ} {xs : List Item} {at : ℕ} (rise : AreAscending xs) (here : IsHere key xs at) (d : Item) where

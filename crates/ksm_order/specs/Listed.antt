@@ -1,5 +1,5 @@
 -- Items in the order of their keys.
-use Rattle.std.specs.Prelude.{◌≡◌, ◌≢◌, ℕ, ◌+◌, ◌<◌, Bool, true, false, not, ◌&&◌, ◌==◌, List, [], ◌∷◌, ◌++◌, All, AllPairs, count_by, filter, flat_map, drop, if◌then◌else◌, length, map, nat_lt, take}
+use Rattle.std.specs.Prelude.{◌≡◌, ◌≢◌, ℕ, ◌+◌, ◌<◌, ◌≤◌, Bool, true, false, not, ◌&&◌, ◌==◌, List, [], ◌∷◌, ◌++◌, All, AllPairs, count_by, filter, flat_map, drop, if◌then◌else◌, length, map, nat_lt, take}
 use Rattle.std.specs.Prelude.{slice_get, slice_index_or, Option, option_map}
 use Rattle.ksm_order.specs.declared.item.Item.{Item}
 
@@ -88,3 +88,9 @@ pub record IsHere (key : ℕ) (xs : List Item) (at : ℕ) : Type 0 where
   pub within : at < length xs
   pub ahead : AreBefore key (take at xs)
   pub is : (d : Item) → (slice_index_or xs at d).key ≡ key
+
+-- the items in front of a place come before a key, and the others do not
+pub record IsPlace (key : ℕ) (xs : List Item) (at : ℕ) : Type 0 where
+  pub within : at ≤ length xs
+  pub ahead : AreBefore key (take at xs)
+  pub behind : All (λ x. key ≤ x.key) (drop at xs)

@@ -1,10 +1,11 @@
 //! The lowest height: items side by side.
-ghost use Rattle.std.specs.Prelude.{◌≡◌, ◌≤◌, ◌<◌, None, IfNone, IfSome, All, drop, find, length, take};
-ghost use Rattle.ksm_order.specs.Listed.{AreAscending, AreBefore, IsHere, begins_behind, is_at, is_from, key_at, many};
+ghost use Rattle.std.specs.Prelude.{◌≡◌, ◌≤◌, ◌<◌, None, IfNone, IfSome, IsTrue, find, length, take};
+ghost use Rattle.ksm_order.specs.Listed.{AreAscending, AreBefore, IsHere, IsPlace, begins_behind, is_at, is_from, key_at, many};
 ghost use Rattle.ksm_order.specs.Listed.{marked, up_to};
 
 use crate::item::Item;
 use crate::part::Part;
+use crate::vector::insert_at;
 use std::alloc::{AllocError, Global};
 use std::marker::Model;
 
@@ -13,6 +14,8 @@ use std::marker::Model;
 pub struct Leaf {
     items: Vec<Item>,
     count: usize,
+    /// A guess: the place of the key that is asked for next.
+    next: usize,
 }
 
 impl Model for Leaf {
@@ -27,33 +30,64 @@ impl Model for Leaf {
     ghost invariant = { λ l. IsCounted l.items.items l.count };
 }
 
-/// Where the item of a key stands, if from the first on no key is left out.
+/// Whether the items in front of a place come before a key.
+#[inline(always)]
+fn reaches_back(items: &[Item], at: usize, key: u64) -> bool
+    requires ascending { AreAscending items.now }
+    requires within { at ≤ length items.now }
+    ensures { IsTrue result → AreBefore key (take at items.now) }
+{
+    at == 0 || items[at - 1].key < key
+}
+
+/// Whether the item of a key stands at a place, or would.
+#[inline(always)]
+fn is_place(items: &[Item], at: usize, key: u64) -> bool
+    requires { AreAscending items.now }
+    ensures { IsTrue result → IsPlace key items.now at }
+{
+    if at > items.len() || !reaches_back(items, at, key) {
+        return false;
+    }
+    at == items.len() || items[at].key >= key
+}
+
+/// Where the item of a key stands, or would, if from the first on no key is left out.
 #[inline(always)]
 fn in_a_row(items: &[Item], key: u64) -> Option<usize>
     requires { AreAscending items.now }
-    ensures within { IfSome result (λ at. at ≤ length items.now) }
-    ensures ahead { IfSome result (λ at. AreBefore key (take at items.now)) }
-    ensures behind { IfSome result (λ at. All (λ x. key ≤ x.key) (drop at items.now)) }
+    ensures { IfSome result (IsPlace key items.now) }
 {
     let first = items.first()?;
-    let at = key.checked_sub(first.key)? as usize;
-    if at < items.len() && items[at].key == key {
-        return Some(at);
+    let at = key.saturating_sub(first.key) as usize;
+    if is_place(items, at, key) {
+        Some(at)
+    } else {
+        None
     }
-    None
 }
 
-/// How many items come before a key.
-fn place_of(items: &[Item], key: u64) -> usize
+/// How many items come before a key. The guess is tried first.
+#[inline(always)]
+fn place_of(items: &[Item], guess: usize, key: u64) -> usize
     requires { AreAscending items.now }
-    ensures within { result ≤ length items.now }
-    ensures ahead { AreBefore key (take result items.now) }
-    ensures behind { All (λ x. key ≤ x.key) (drop result items.now) }
+    ensures { IsPlace key items.now result }
 {
-    // Keys mostly follow one another.
-    if let Some(at) = in_a_row(items, key) {
-        return at;
+    if is_place(items, guess, key) {
+        return guess;
     }
+    // Keys mostly follow one another.
+    match in_a_row(items, key) {
+        Some(at) => at,
+        None => search(items, key),
+    }
+}
+
+/// The same, by halves.
+fn search(items: &[Item], key: u64) -> usize
+    requires { AreAscending items.now }
+    ensures { IsPlace key items.now result }
+{
     let mut low = 0;
     let mut high = items.len();
     while low < high {
@@ -68,12 +102,12 @@ fn place_of(items: &[Item], key: u64) -> usize
 }
 
 /// Where the item of a key stands.
-fn position(items: &[Item], key: u64) -> Option<usize>
+fn position(items: &[Item], guess: usize, key: u64) -> Option<usize>
     requires { AreAscending items.now }
     ensures here { IfSome result (IsHere key items.now) }
     ensures missing { IfNone result (find (is_at key) items.now ≡ None) }
 {
-    let at = place_of(items, key);
+    let at = place_of(items, guess, key);
     if at == items.len() {
         return None;
     }
@@ -81,22 +115,22 @@ fn position(items: &[Item], key: u64) -> Option<usize>
 }
 
 /// The item of a key.
-fn find_in(items: &[Item], key: u64) -> Option<Item>
+fn find_in(items: &[Item], guess: usize, key: u64) -> Option<Item>
     requires { AreAscending items.now }
     ensures { result ≡ find (is_at key) items.now }
 {
-    match position(items, key) {
+    match position(items, guess, key) {
         Some(at) => Some(items[at]),
         None => None,
     }
 }
 
 /// The first item whose key is not below a key.
-fn first_from(items: &[Item], key: u64) -> Option<Item>
+fn first_from(items: &[Item], guess: usize, key: u64) -> Option<Item>
     requires { AreAscending items.now }
     ensures { result ≡ find (is_from key) items.now }
 {
-    let at = place_of(items, key);
+    let at = place_of(items, guess, key);
     if at < items.len() {
         Some(items[at])
     } else {
@@ -147,25 +181,29 @@ impl Part for Leaf {
         Ok(Leaf {
             items,
             count: usize::from(item.marked),
+            next: 1,
         })
     }
 
     fn insert(&mut self, item: Item) -> Result<(), AllocError> {
-        let at = place_of(self.items.as_slice(), item.key);
-        self.items.insert(at, item)?;
+        let at = place_of(self.items.as_slice(), self.next, item.key);
+        insert_at(&mut self.items, at, item)?;
+        self.next = at + 1;
         self.count += usize::from(item.marked);
         Ok(())
     }
 
     fn remove(&mut self, key: u64) {
-        if let Some(at) = position(self.items.as_slice(), key) {
+        if let Some(at) = position(self.items.as_slice(), self.next, key) {
             let gone = self.items.remove(at);
+            self.next = at;
             self.count -= usize::from(gone.marked);
         }
     }
 
     fn set_mark(&mut self, key: u64, mark: bool) {
-        if let Some(at) = position(self.items.as_slice(), key) {
+        if let Some(at) = position(self.items.as_slice(), self.next, key) {
+            self.next = at + 1;
             let was = self.items[at].marked;
             self.items[at].marked = mark;
             self.count = self.count - usize::from(was) + usize::from(mark);
@@ -176,6 +214,10 @@ impl Part for Leaf {
         self.items.is_empty()
     }
 
+    fn is_full(&self) -> bool {
+        self.items.len() >= LONGEST
+    }
+
     fn spill(&mut self, key: u64) -> Result<Option<Leaf>, AllocError> {
         if self.items.len() < LONGEST {
             return Ok(None);
@@ -184,7 +226,11 @@ impl Part for Leaf {
         let items = self.items.split_off(at)?;
         let count = count_marked(items.as_slice());
         self.count -= count;
-        Ok(Some(Leaf { items, count }))
+        Ok(Some(Leaf {
+            items,
+            count,
+            next: 0,
+        }))
     }
 
     fn count(&self) -> usize {
@@ -197,16 +243,16 @@ impl Part for Leaf {
     }
 
     fn find(&self, key: u64) -> Option<Item> {
-        find_in(self.items.as_slice(), key)
+        find_in(self.items.as_slice(), self.next, key)
     }
 
     fn first_from(&self, key: u64) -> Option<Item> {
-        first_from(self.items.as_slice(), key)
+        first_from(self.items.as_slice(), self.next, key)
     }
 
     fn up_to(&self, key: u64) -> usize {
         let items = self.items.as_slice();
-        let at = place_of(items, key);
+        let at = place_of(items, self.next, key);
         // Mostly all are marked.
         if self.count == items.len() {
             return at;

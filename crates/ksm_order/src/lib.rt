@@ -6,8 +6,10 @@ mod item;
 mod leaf;
 mod node;
 mod part;
+mod vector;
 
 pub use item::Item;
 pub use leaf::Leaf;
 pub use node::Node;
 pub use part::Part;
+pub use vector::insert_at;

@@ -1,6 +1,7 @@
 //! The heights above: parts side by side, each a tree of the height below.
-ghost use Rattle.std.specs.Prelude.{◌≡◌, ◌+◌, ◌^◌, ◌<◌, ◌≤◌, [], None, IfOk, OnErr, OnOk, find, flat_map, length};
-ghost use Rattle.ksm_order.specs.Listed.{AreParts, IsPartOf, is_at, is_from, key_at, many, marked, up_to};
+ghost use Rattle.std.specs.Prelude.{◌≡◌, ◌+◌, ◌^◌, ◌<◌, ◌≤◌, [], None, IfOk, IsTrue, OnErr, OnOk, drop, find};
+ghost use Rattle.std.specs.Prelude.{flat_map, length, take};
+ghost use Rattle.ksm_order.specs.Listed.{AreBefore, AreBehind, AreParts, IsPartOf, is_at, is_from, key_at, many, marked, up_to};
 ghost use Rattle.ksm_order.specs.Listed.{with_item, with_mark, without};
 
 use crate::item::Item;
@@ -14,6 +15,8 @@ pub struct Node<P: Part> {
     alloc: Global,
     parts: Vec<P>,
     count: usize,
+    /// A guess: the part that was changed last.
+    last: usize,
 }
 
 impl<P: Part> Model for Node<P> {
@@ -37,19 +40,53 @@ impl<P: Part> Node<P> {
             alloc,
             parts: Vec::new(alloc),
             count: 0,
+            last: 0,
         }
     }
 }
 
-/// The part in which a key is, or would be.
-fn part_of<P: Part>(parts: &[P], key: u64) -> usize
+/// Whether it is known that no part in front of one has items of a key or behind it.
+#[inline(always)]
+fn reaches_back<P: Part>(parts: &[P], at: usize, key: u64) -> bool
+    requires parts { AreParts P.items parts.now }
+    requires within { at < length parts.now }
+    ensures { IsTrue result → AreBefore key (flat_map P.items (take at parts.now)) }
+{
+    at == 0 || !parts[at].begins_behind(key)
+}
+
+/// Whether it is known that no part behind one has items of a key or before it.
+#[inline(always)]
+fn reaches_on<P: Part>(parts: &[P], at: usize, key: u64) -> bool
+    requires parts { AreParts P.items parts.now }
+    requires within { at < length parts.now }
+    ensures { IsTrue result → AreBehind key (flat_map P.items (drop (at + 1) parts.now)) }
+{
+    at + 1 == parts.len() || parts[at + 1].begins_behind(key)
+}
+
+/// The part in which a key is, or would be. The guess is tried first.
+#[inline(always)]
+fn part_of<P: Part>(parts: &[P], guess: usize, key: u64) -> usize
+    requires parts { AreParts P.items parts.now }
+    requires some { 0 < length parts.now }
+    ensures { IsPartOf P.items key parts.now result }
+{
+    if guess < parts.len() && reaches_back(parts, guess, key) && reaches_on(parts, guess, key) {
+        return guess;
+    }
+    search(parts, key)
+}
+
+/// The same, by halves.
+fn search<P: Part>(parts: &[P], key: u64) -> usize
     requires parts { AreParts P.items parts.now }
     requires some { 0 < length parts.now }
     ensures { IsPartOf P.items key parts.now result }
 {
     // Keys mostly come behind all others.
     let last = parts.len() - 1;
-    if !parts[last].begins_behind(key) {
+    if reaches_back(parts, last, key) {
         return last;
     }
     let mut low = 0;
@@ -93,7 +130,7 @@ fn nth<P: Part>(parts: &[P], place: usize) -> Option<u64>
 }
 
 /// How many marked items come before a key, of parts with so many marked items.
-fn up_to_in<P: Part>(parts: &[P], count: usize, key: u64) -> usize
+fn up_to_in<P: Part>(parts: &[P], guess: usize, count: usize, key: u64) -> usize
     requires parts { AreParts P.items parts.now }
     requires counted { count ≡ many (flat_map P.items parts.now) }
     ensures { result ≡ up_to key (flat_map P.items parts.now) }
@@ -101,31 +138,31 @@ fn up_to_in<P: Part>(parts: &[P], count: usize, key: u64) -> usize
     if parts.is_empty() {
         return 0;
     }
-    let at = part_of(parts, key);
+    let at = part_of(parts, guess, key);
     count_marked(&parts[..at]) + parts[at].up_to(key)
 }
 
 /// The item of a key.
-fn find_in<P: Part>(parts: &[P], key: u64) -> Option<Item>
+fn find_in<P: Part>(parts: &[P], guess: usize, key: u64) -> Option<Item>
     requires { AreParts P.items parts.now }
     ensures { result ≡ find (is_at key) (flat_map P.items parts.now) }
 {
     if parts.is_empty() {
         return None;
     }
-    let at = part_of(parts, key);
+    let at = part_of(parts, guess, key);
     parts[at].find(key)
 }
 
 /// The first item whose key is not below a key.
-fn first_from_in<P: Part>(parts: &[P], key: u64) -> Option<Item>
+fn first_from_in<P: Part>(parts: &[P], guess: usize, key: u64) -> Option<Item>
     requires { AreParts P.items parts.now }
     ensures { result ≡ find (is_from key) (flat_map P.items parts.now) }
 {
     if parts.is_empty() {
         return None;
     }
-    let at = part_of(parts, key);
+    let at = part_of(parts, guess, key);
     match parts[at].first_from(key) {
         Some(item) => Some(item),
         None if at + 1 < parts.len() => parts[at + 1].first_from(key),
@@ -141,6 +178,9 @@ fn make_room<P: Part>(parts: &mut Vec<P>, at: usize, key: u64) -> Result<usize, 
     ensures items { flat_map P.items parts.new.items ≡ flat_map P.items parts.old.items }
     ensures place { IfOk result (λ into. IsPartOf P.items key parts.new.items into) }
 {
+    if !parts[at].is_full() {
+        return Ok(at);
+    }
     parts.reserve(1)?;
     let more = match parts[at].spill(key)? {
         Some(more) => more,
@@ -165,7 +205,12 @@ fn put_in<P: Part>(parts: &mut Vec<P>, at: usize, item: Item) -> Result<(), Allo
 }
 
 /// Puts an item whose key is not there at its place.
-fn put<P: Part>(parts: &mut Vec<P>, alloc: Global, item: Item) -> Result<(), AllocError>
+fn put<P: Part>(
+    parts: &mut Vec<P>,
+    last: &mut usize,
+    alloc: Global,
+    item: Item,
+) -> Result<(), AllocError>
     requires parts { AreParts P.items parts.old.items }
     requires absent { find (is_at item.key) (flat_map P.items parts.old.items) ≡ None }
     ensures parts { AreParts P.items parts.new.items }
@@ -176,8 +221,9 @@ fn put<P: Part>(parts: &mut Vec<P>, alloc: Global, item: Item) -> Result<(), All
         parts.push(P::single(alloc, item)?)?;
         return Ok(());
     }
-    let at = part_of(parts.as_slice(), item.key);
+    let at = part_of(parts.as_slice(), *last, item.key);
     let into = make_room(parts, at, item.key)?;
+    *last = into;
     put_in(parts, into, item)
 }
 
@@ -193,7 +239,7 @@ fn remove_from<P: Part>(part: &mut P, key: u64) -> usize
 
 /// Takes the item of a key out of the part of its key, and the part where it has no other. Answers how many items fewer
 /// are marked.
-fn take_out<P: Part>(parts: &mut Vec<P>, key: u64) -> usize
+fn take_out<P: Part>(parts: &mut Vec<P>, last: &mut usize, key: u64) -> usize
     requires { AreParts P.items parts.old.items }
     ensures parts { AreParts P.items parts.new.items }
     ensures removed { flat_map P.items parts.new.items ≡ without key (flat_map P.items parts.old.items) }
@@ -202,7 +248,8 @@ fn take_out<P: Part>(parts: &mut Vec<P>, key: u64) -> usize
     if parts.is_empty() {
         return 0;
     }
-    let at = part_of(parts.as_slice(), key);
+    let at = part_of(parts.as_slice(), *last, key);
+    *last = at;
     let fewer = remove_from(&mut parts[at], key);
     if !parts[at].is_empty() {
         return fewer;
@@ -212,7 +259,7 @@ fn take_out<P: Part>(parts: &mut Vec<P>, key: u64) -> usize
 }
 
 /// Marks the item of a key in its part, or takes its mark away. Answers how many of that part were marked, and are.
-fn mark_in<P: Part>(parts: &mut Vec<P>, key: u64, mark: bool) -> (usize, usize)
+fn mark_in<P: Part>(parts: &mut Vec<P>, last: &mut usize, key: u64, mark: bool) -> (usize, usize)
     requires parts { AreParts P.items parts.old.items }
     requires few { length (flat_map P.items parts.old.items) < 2 ^ 64 }
     ensures parts { AreParts P.items parts.new.items }
@@ -224,7 +271,8 @@ fn mark_in<P: Part>(parts: &mut Vec<P>, key: u64, mark: bool) -> (usize, usize)
     if parts.is_empty() {
         return (0, 0);
     }
-    let at = part_of(parts.as_slice(), key);
+    let at = part_of(parts.as_slice(), *last, key);
+    *last = at;
     let was = parts[at].count();
     parts[at].set_mark(key, mark);
     (was, parts[at].count())
@@ -261,23 +309,27 @@ impl<P: Part> Part for Node<P> {
         let Some(count) = self.count.checked_add(usize::from(item.marked)) else {
             return Err(AllocError);
         };
-        put(&mut self.parts, self.alloc, item)?;
+        put(&mut self.parts, &mut self.last, self.alloc, item)?;
         self.count = count;
         Ok(())
     }
 
     fn remove(&mut self, key: u64) {
-        let fewer = take_out(&mut self.parts, key);
+        let fewer = take_out(&mut self.parts, &mut self.last, key);
         self.count -= fewer;
     }
 
     fn set_mark(&mut self, key: u64, mark: bool) {
-        let (was, is) = mark_in(&mut self.parts, key, mark);
+        let (was, is) = mark_in(&mut self.parts, &mut self.last, key, mark);
         self.count = self.count - was + is;
     }
 
     fn is_empty(&self) -> bool {
         self.parts.is_empty()
+    }
+
+    fn is_full(&self) -> bool {
+        self.parts.len() >= WIDEST
     }
 
     fn spill(&mut self, key: u64) -> Result<Option<Node<P>>, AllocError> {
@@ -292,6 +344,7 @@ impl<P: Part> Part for Node<P> {
             alloc: self.alloc,
             parts,
             count,
+            last: 0,
         }))
     }
 
@@ -305,15 +358,15 @@ impl<P: Part> Part for Node<P> {
     }
 
     fn find(&self, key: u64) -> Option<Item> {
-        find_in(self.parts.as_slice(), key)
+        find_in(self.parts.as_slice(), self.last, key)
     }
 
     fn first_from(&self, key: u64) -> Option<Item> {
-        first_from_in(self.parts.as_slice(), key)
+        first_from_in(self.parts.as_slice(), self.last, key)
     }
 
     fn up_to(&self, key: u64) -> usize {
-        up_to_in(self.parts.as_slice(), self.count, key)
+        up_to_in(self.parts.as_slice(), self.last, self.count, key)
     }
 
     fn nth(&self, place: usize) -> Option<u64> {

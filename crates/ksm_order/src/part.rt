@@ -35,6 +35,9 @@ pub trait Part: Drop {
     fn is_empty(&self) -> bool
         ensures { result ≡ is_nothing (items self.now) };
 
+    /// Whether it is to be cut in two before one more comes in.
+    fn is_full(&self) -> bool;
+
     /// Hands out its second half, where it is full: only what is last, where a key comes behind all, so that keys that
     /// ascend leave full parts behind.
     fn spill(&mut self, key: u64) -> Result<Option<Self>, AllocError>

@@ -14,7 +14,7 @@ pub stored_settled : (bytes : List ℕ) (r : Row) → shared_state r.state ≡ f
 stored_settled bytes r alone = grind arith
 
 -- a row with a frame of its own is let go where it is settled, and neither unchanged nor mergeable
-pub went : (r : Row) → shared_state r.state ≡ false → record (settled r) { unchanged = false; mergeable = false } ≡ let_go r
+pub went : (r : Row) → shared_state r.state ≡ false → record (settled r) { mergeable = false; unchanged = false } ≡ let_go r
 went r alone = grind arith
 
 -- a state that is settled twice is the state settled once

@@ -1,14 +1,10 @@
 -- Spots in the order of their pages: the pages of them, once one was put in, written or taken away.
-use Rattle.ksm_pages.proofs.Names.{add-one, after_cursor, All, All-map, ap, append-nil, append_assoc, ap₂, AreInOrder, arith, Bool, comes_before, drop, drop_all, Entry, false, filter, filter_none}
-use Rattle.ksm_pages.proofs.Names.{find, find_filter, find_none, find_passes, get, get_or, get_or_default, GuestPage, has_item, IfSome, if◌then◌else◌, insert, is_some, is_useless, IsInVain}
-use Rattle.ksm_pages.proofs.Names.{IsPartitionedBy, length, length-append, length-map, length-take-le, List, Listing, map, Named, None, not, not-true, Option, pages_of, pages_ordered, pairs_head}
-use Rattle.ksm_pages.proofs.Names.{pairs_tail, point_is_count, refl, rules, same_page, same_page_eq, set, Slab, slice_get, Some, Spot, sym, take, true, true≢false, ℕ, [], ◌++◌, ◌+◌, ◌-◌, ◌<◌}
-use Rattle.ksm_pages.proofs.Names.{◌∙◌, ◌∷◌, ◌≡◌, ◌≤◌, ◌⊎◌}
-use Rattle.std.specs.List.{copy_within}
+use Rattle.ksm_pages.proofs.Names.{after_cursor, All, All-map, ap, AreInOrder, arith, Bool, comes_before, Entry, false, filter, filter_none, find, find_filter, find_none, find_passes, get, get_or}
+use Rattle.ksm_pages.proofs.Names.{get_or_default, GuestPage, has_item, IfSome, if◌then◌else◌, is_some, is_useless, IsInVain, length, length-map, List, Listing, map, Named, None, not}
+use Rattle.ksm_pages.proofs.Names.{not-true, Option, pages_of, pages_ordered, pairs_head, pairs_tail, point_is_count, refl, rules, same_page, same_page_eq, Slab, slice_get, Some, Spot, sym, true}
+use Rattle.ksm_pages.proofs.Names.{true≢false, ℕ, [], ◌++◌, ◌-◌, ◌<◌, ◌∙◌, ◌∷◌, ◌≡◌, ◌≤◌, ◌⊎◌}
 use Rattle.std.specs.Option.{is_none}
-use Rattle.std.proofs.Math.Seq.{take-append_seam, take-suc}
 use Rattle.std.proofs.lemmas.Bool.{false_from_ne_true}
-use Rattle.std.proofs.lemmas.List.{drop-take, set_at, take-append-le}
 use Rattle.ksm_rmap.specs.Items.{AreAscending}
 use Rattle.ksm_tree.proofs.Alike.{filter_mapped, find_mapped, map_mapped, pairs_mapped}
 use Rattle.ksm_pages.proofs.Found.{first_found}
@@ -74,20 +70,6 @@ vain_of {entries} order s useless = search (rules, no_value, same_page_eq, not-t
 pub swept : {entries : Slab Entry} (order : List Named) (spots : List Spot) {page : GuestPage} → has_item page (pages_of spots) ≡ true
     → (has_item page (pages_of (filter (λ s. not (is_useless order s (get entries s.key))) spots)) ≡ true) ⊎ IsInVain entries order page
 swept {entries} order spots {page} has = grind (arith, listed_found, same_page_eq, find_passes, vain_of, find_filter)
-
--- one more behind a list, the elements from an index on moved up by one, and that one written there: it is put in
-pub moved_up : {X : Type 0} (xs : List X) (at : ℕ) (x : X) → at ≤ length xs → set (copy_within (xs ++ x ∷ []) at (length xs) (at + 1)) at x ≡ insert xs at x
-moved_up xs at x within =
-    let l = xs ++ x ∷ [] in
-    let many = length-append xs (x ∷ []) in
-    let front =
-    ap (λ n. take n l) (add-one at) ∙ take-suc l at x (omega arith) ∙ ap (λ ys. ys ++ get_or l at x ∷ []) (take-append-le at xs (x ∷ []) within) in
-    let back =
-    sym (drop-take at _ l) ∙ ap (λ n. drop at (take n l)) (omega arith) ∙ ap (drop at) (take-append_seam xs (x ∷ [])) in
-    ap (λ ys. set ys at x) (ap₂ (λ a b. a ++ b) (ap₂ (λ a b. a ++ b) front back) (drop_all _ l (omega arith))
-    ∙ append-nil ((take at xs ++ get_or l at x ∷ []) ++ drop at xs)
-    ∙ append_assoc (take at xs) (get_or l at x ∷ []) (drop at xs))
-    ∙ set_at (take at xs) (get_or l at x) (drop at xs) x at (length-take-le at xs within)
 
 -- where a spot of a list in order comes before a page, and the next one does not, as many come before it as stand up to there
 pub place_between : (page : GuestPage) (spots : List Spot) → AreInOrder spots → {at : ℕ} (d e : Spot) → 0 < at → at < length spots

@@ -3,6 +3,7 @@ use Rattle.ksm_pages.proofs.Names.{All-map, ap, AreWaiting, arith, at_mapped, ch
 use Rattle.ksm_pages.proofs.Names.{if◌then◌else◌, Inside, IsAlone, IsKnown, IsLeft, let_out, lies_on, List, lodgings_of, map, mapped, MatchOption, merged_state, None, none_waiting, on_row, Option}
 use Rattle.ksm_pages.proofs.Names.{option_map, ordered_map, ordered_without, PageState, PagesValue, Private, refl, Row, row_at, row_dropped, rows_of, rows_out, RowsView, same_page, same_page_eq, seen}
 use Rattle.ksm_pages.proofs.Names.{settled_state, shared_state, Some, sym, tied_dropped, tied_left, tied_mapped, waiting_state, waits_there, without_held, without_page, ℕ, [], ⊤, ◌∙◌, ◌≡◌}
+use Rattle.ksm_base.specs.Apply.{let_go}
 use Rattle.std.proofs.lemmas.Bool.{some_since}
 use Rattle.ksm_tree.proofs.Alike.{map_alike, map_mapped}
 use Rattle.ksm_pages.proofs.Changing.{rows_mapped, rows_without}
@@ -84,6 +85,13 @@ module _ {s : Inside} {p : PagesValue} {page : GuestPage} {later : DupsState} {f
       moved state own apart still turned =
           left_so (mapped state own) (λ r. record r { state = state }) (λ x. refl) (λ r. refl) turned _ refl apart
           still refl
+
+      -- a page that has left is let go, on a frame of its own
+      pub gone_on : (frame : ℕ) → rows.held ≡ change_held page (λ h. record { row = let_go h.row; frame = Some frame }) s.rows.held
+          → Comes s rows later (record (seen p) { rows = change_row page let_go p.rows; frame = lies_on page (Some frame) (frame_of p.lodgings) })
+      gone_on frame turned =
+          left_so (λ h. record { row = let_go h.row; frame = Some frame }) let_go (λ x. refl) (λ r. refl) turned let_go
+          refl refl refl refl
 
       -- a page that has left comes to be Private, on the frame of its own that it had
       pub rested : (g to : Row → Row) → ((r : Row) → (g r).page ≡ r.page) → ((r : Row) → (to r).state ≡ Private) → IsAlone page p.rows

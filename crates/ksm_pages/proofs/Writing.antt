@@ -121,6 +121,18 @@ module _ (s : Inside) (are : AreRows s) where
             → (now.known ≡ true → AreListed later now.pages) → IsRows later s.order now tally s.pass
         still flag fits listed = search (rules, filed_kept, fills, tallied, begun_still)
 
+        -- the same where the order marks its page so
+        pub marked_moved : (e'.kind ≡ kinds.Own → e'.number ≤ s.pass) → {now : Listing} → (now.known ≡ true → AreListed later now.pages)
+            → IsRows later (marked page e'.mergeable s.order) now tally s.pass
+        marked_moved fits listed = record {
+          ascending = write_rises _ page _ (λ n. refl) _ are.ascending;
+          filed = rw (← of_page) (filed_marked _ _ are.ascending are.filed stood fills same);
+          listed = listed;
+          counted = rw (marked_same _ later _ _ _) tallied;
+          begun = begun_still fits;
+          counting = are.counting;
+        }
+
         -- rows with an entry written anew are lawful under the old list where no visit may change what none could before
         pub kept : e'.mergeable ≡ e.mergeable → (e'.kind ≡ kinds.Own → e'.number ≤ s.pass) → (is_restless e' ≡ true → is_restless e ≡ true)
             → (now : Listing) → now ≡ s.restless → IsRows later s.order now tally s.pass
@@ -140,17 +152,10 @@ module _ (s : Inside) (are : AreRows s) where
         pub untouched : e'.mergeable ≡ e.mergeable → IsRows later s.order s.restless s.tally s.pass
         untouched flag = kept refl same_state unmoved flag fits_still (λ may. grind arith) _ refl
 
-        -- rows with an entry written anew are lawful where the order marks its page so, and its state stays
+        -- the same where the order marks its page too
         pub still_marked : {now : Listing} → (now.known ≡ true → AreListed later now.pages)
             → IsRows later (marked page e'.mergeable s.order) now s.tally s.pass
-        still_marked listed = record {
-          ascending = write_rises _ page _ (λ n. refl) _ are.ascending;
-          filed = rw (← of_page) (filed_marked _ _ are.ascending are.filed stood fills same);
-          listed = listed;
-          counted = rw (marked_same _ later _ _ _) (tallied refl same_state unmoved);
-          begun = begun_still fits_still;
-          counting = are.counting;
-        }
+        still_marked = marked_moved refl same_state unmoved fits_still
 
       -- with an entry written anew whose row is changed by f, the rows are seen with f at that page
       pub viewed : (f : Held → Held) → held_of s.pass e' ≡ f (held_of s.pass e) → {v : RowsView} → view_of s ≡ v
@@ -177,6 +182,20 @@ module _ (s : Inside) (are : AreRows s) where
         → on_row settled (held_of s.pass e') ≡ on_row f (held_of s.pass e) → {v : RowsView} → view_of s ≡ v
         → view s.pass (with_value s.entries key now) s.order ≡ record v { held = change_held page (on_row f) v.held }
     viewed_forgotten e' is same f told seen_as = grind (arith, viewed)
+
+    -- the same where the entry leaves the scan
+    pub let_go_marked : (e' : Entry) {now : Entry} → now ≡ forgotten e' → e'.page ≡ e.page → e'.mergeable ≡ false
+        → {from to : PageState} {tally : Tally} → from ≡ state_of e.kind e.number s.pass → to ≡ state_of now.kind now.number s.pass
+        → IsMoved from to s.tally tally → (listing : Listing) → listing ≡ s.restless
+        → IsRows (with_value s.entries key now) (marked page false s.order) listing tally s.pass
+    let_go_marked e' is same gone {from} {to} {tally} was told moved listing kept =
+        rw (is, ← gone)
+        (marked_moved (forgotten e') same was (grind (arith, is)) moved (left_fits _ _ _) (listed_calm (forgotten e') same (grind arith) kept))
+
+    pub viewed_let_go : (e' : Entry) {now : Entry} → now ≡ forgotten e' → e'.page ≡ e.page → (f : Row → Row)
+        → on_row settled (held_of s.pass e') ≡ on_row f (held_of s.pass e) → (m : Bool) {v : RowsView} → view_of s ≡ v
+        → view s.pass (with_value s.entries key now) (marked page m s.order) ≡ record v { held = change_held page (on_row f) v.held }
+    viewed_let_go e' is same f told m seen_as = grind (arith, marked_same, viewed_forgotten e' is same f told seen_as)
 
     -- ---------------------------------------------------------------- the entry went
 

@@ -124,7 +124,7 @@ impl Pages {
           rows = change_row spot.page (λ r. record r { mergeable = true }) self.old.rows;
         } }
     {
-        self.rows.set_mergeable(spot, true);
+        self.rows.make_mergeable(spot);
     }
 
     /// A page with a frame of its own is Private and not unchanged, and the scan visits it no more.
@@ -135,9 +135,22 @@ impl Pages {
         } }
     {
         leave(&mut self.dups, &self.frames, &self.knobs, &self.rows, spot);
-        self.rows.stop_waiting(spot);
-        self.rows.forget_unchanged(spot);
-        self.rows.set_mergeable(spot, false);
+        self.rows.let_go(spot);
+    }
+
+    /// The page gets a frame of its own in the stead of what it had, is not unchanged, and the scan visits it no more.
+    /// Gives the frame where it lay, if it had one.
+    pub fn let_go_on(&mut self, spot: Spot, frame: u32) -> Option<u32>
+        requires { IsKnown spot.page self.old.rows }
+        ensures left { result ≡ (seen self.old).frame spot.page }
+        ensures gone { seen self.new ≡ record (seen self.old) {
+          rows = change_row spot.page as_let_go self.old.rows;
+          frame = lies_on spot.page (Some frame) (seen self.old).frame;
+        } }
+    {
+        let left = leave(&mut self.dups, &self.frames, &self.knobs, &self.rows, spot);
+        self.rows.let_go_on(spot, frame);
+        left
     }
 
     /// A page with a frame of its own waits no more, if it did.

@@ -9,7 +9,7 @@
 //! half of the list is there in vain.
 
 ghost use Rattle.std.specs.Prelude.{◌≡◌, ◌⊎◌, ◌≤◌, [], true, false, filter, find, is_some, length, not, All};
-ghost use Rattle.std.specs.Prelude.{slice_index_or, IfNone, IfSome, IsTrue, OnErr, OnOk, insert, ◌<◌};
+ghost use Rattle.std.specs.Prelude.{slice_index_or, IfNone, IfSome, IsTrue, ◌<◌};
 ghost use Rattle.ksm_base.specs.declared.page.GuestPage.{GuestPage};
 ghost use Rattle.ksm_base.specs.Rows.{comes_before, same_page};
 ghost use Rattle.ksm_base.specs.Visit.{after_cursor};
@@ -20,7 +20,8 @@ ghost use Rattle.slab.specs.Slab.{get};
 
 use crate::order::Order;
 use crate::row::{Entry, Spot};
-use ksm_base::{Fault, GuestPage};
+use ksm_base::GuestPage;
+use ksm_order::insert_at;
 use slab::Slab;
 use std::alloc::Global;
 use std::marker::Model;
@@ -122,21 +123,6 @@ fn stands_at(spots: &[Spot], at: usize, page: GuestPage) -> bool
     at < spots.len() && spots[at].page == page
 }
 
-/// Puts a spot at an index, and moves those from there on up by one. Where memory for it is refused, all stay.
-///
-/// The kit's `insert` moves one spot after another, and `copy_within` four at once.
-fn put_in(spots: &mut Vec<Spot>, at: usize, spot: Spot) -> Result<(), Fault>
-    requires { at ≤ length spots.old.items }
-    ensures put { OnOk result (spots.new.items ≡ insert spots.old.items at spot) }
-    ensures kept { OnErr result (spots.new.items ≡ spots.old.items) }
-{
-    let len = spots.len();
-    spots.push(spot)?;
-    spots.copy_within(at..len, at + 1);
-    spots[at] = spot;
-    Ok(())
-}
-
 /// Counts so many pages that would be moved, if they are many. Tells whether those counted come to a walk over so many
 /// rows.
 #[inline(always)]
@@ -224,7 +210,7 @@ impl Restless {
             self.known = false;
             return;
         }
-        match put_in(&mut self.spots, at, spot) {
+        match insert_at(&mut self.spots, at, spot) {
             Ok(()) => {}
             Err(_) => self.known = false,
         }

@@ -11,7 +11,7 @@ ghost use Rattle.std.specs.Prelude.{length, map, not, option_map, slice_get};
 ghost use Rattle.ksm_base.specs.declared.limits.TheConstants.{MOST_FRAMES};
 ghost use Rattle.ksm_base.specs.declared.page.GuestPage.{GuestPage};
 ghost use Rattle.ksm_base.specs.declared.row.PageState.TheVariants.{Private, Waiting, Merged, Zero};
-ghost use Rattle.ksm_base.specs.Apply.{fresh_row};
+ghost use Rattle.ksm_base.specs.Apply.{fresh_row, let_go as as_let_go};
 ghost use Rattle.ksm_base.specs.Rows.{InPageOrder, settled, shared_state};
 ghost use Rattle.ksm_base.specs.Visit.{after_cursor};
 ghost use Rattle.ksm_pages.specs.Ahead.{EndsAt, FindsNext, last_of, mergeable_pages, pages_behind, pages_between};
@@ -459,10 +459,10 @@ impl Rows {
         self.entries[key].home = home;
     }
 
-    /// A scan visits the row from now on, or does not.
-    pub fn set_mergeable(&mut self, spot: Spot, mergeable: bool)
+    /// A scan visits the row from now on.
+    pub fn make_mergeable(&mut self, spot: Spot)
         ensures { self.new ≡ record self.old {
-          held = change_held spot.page (on_row (λ r. record r { mergeable = mergeable })) self.old.held;
+          held = change_held spot.page (on_row (λ r. record r { mergeable = true })) self.old.held;
         } }
     {
         let Some(key) = key_of(&self.entries, &self.order, spot) else {
@@ -470,20 +470,65 @@ impl Rows {
         };
         let entry = &mut self.entries[key];
         let was = entry.mergeable;
-        entry.mergeable = mergeable;
+        entry.mergeable = true;
         let restless = entry.is_restless();
-        if was == mergeable {
+        if was {
             return;
         }
-        self.order.mark(spot.page, mergeable);
+        self.order.mark(spot.page, true);
         if restless {
             let spot = Spot {
                 page: spot.page,
                 key,
             };
             self.restless.add(spot, self.order.len());
-        } else {
+        }
+    }
+
+    /// The row waits no more, is not unchanged, and no scan visits it.
+    pub fn let_go(&mut self, spot: Spot)
+        ensures { self.new ≡ record self.old {
+          held = change_held spot.page (on_row (λ r. record (settled r) { mergeable = false; unchanged = false }))
+              self.old.held;
+        } }
+    {
+        let Some(key) = key_of(&self.entries, &self.order, spot) else {
+            return;
+        };
+        let entry = &mut self.entries[key];
+        let old = entry.state(self.pass);
+        let was = entry.mergeable;
+        entry.mergeable = false;
+        entry.unchanged = false;
+        entry.forget_pass();
+        let new = entry.state(self.pass);
+        self.tally.change(old, new);
+        if was {
+            self.order.mark(spot.page, false);
             self.restless.let_be();
+        }
+    }
+
+    /// The page of a row gets a frame of its own in the stead of what it had, and the row is let go.
+    pub fn let_go_on(&mut self, spot: Spot, frame: u32)
+        ensures { self.new ≡ record self.old {
+          held = change_held spot.page (λ h. record { row = as_let_go h.row; frame = Some frame }) self.old.held;
+        } }
+    {
+        let Some(key) = key_of(&self.entries, &self.order, spot) else {
+            return;
+        };
+        let entry = &mut self.entries[key];
+        let old = entry.state(self.pass);
+        let was = entry.mergeable;
+        entry.kind = Kind::Own;
+        entry.number = 0;
+        entry.at = frame;
+        entry.mergeable = false;
+        entry.unchanged = false;
+        self.tally.change(old, PageState::Private);
+        if was {
+            self.order.mark(spot.page, false);
         }
     }
 

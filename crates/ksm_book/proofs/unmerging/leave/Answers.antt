@@ -1,5 +1,5 @@
 use Rattle.ksm_book.proofs.Names.{refl, sym, ◌∙◌}
-use Rattle.ksm_book.proofs.Unmerged.{left_alone, left_any, left_guest, left_still}
+use Rattle.ksm_book.proofs.Unmerged.{left_alone, left_any, left_still}
 use Rattle.ksm_book.proofs.Singles.{found_resettled, row_held}
 use Rattle.ksm_book.proofs.unmerging.leave.Goals as goal
 
@@ -10,14 +10,6 @@ returns-then-is_some-clause-left c = left_alone _ c.requires.held c.requires.lai
 pub returns-else-is_some-clause-left : goal.returns-else-is_some-clause-left
 returns-else-is_some-clause-left c = left_still _ c.requires.held c.requires.laid c.lie_in_order.ensures.rise c.if-not-held.true
     (sym c.is_some.ensures ∙ c.if-is_some.false)
-
-pub let_go-requires-then-is_some-2 : goal.let_go-requires-then-is_some-2
-let_go-requires-then-is_some-2 c = rw (found_resettled c.in_default.ensures.resettled (row_held c.requires.held)) refl
-
-pub returns-then-is_some-2-clause-left : goal.returns-then-is_some-2-clause-left
-returns-then-is_some-2-clause-left c = left_guest _ c.requires.held c.requires.laid c.lie_in_order.ensures.rise
-    c.if-not-held.false c.bytes-bytes.ensures c.in_default.ensures.resettled
-    (sym c.is_some-2.ensures ∙ c.if-is_some-2.true) c.let_go-then-is_some-2.ensures
 
 pub forget_unchanged-requires : goal.forget_unchanged-requires
 forget_unchanged-requires c = rw (found_resettled c.in_default.ensures.resettled (row_held c.requires.held)) refl

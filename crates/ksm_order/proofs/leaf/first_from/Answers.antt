@@ -5,10 +5,8 @@ use Rattle.ksm_order.proofs.leaf.first_from.Goals as goal
 
 pub returns-then-at-items : goal.returns-then-at-items
 returns-then-at-items c =
-    let at = c.place_of-at.ensures in
-    grind (arith, from_cut c.args.key c.args.items.now c.place_of-at.result c.requires at.ahead at.behind, slice_get-get_or)
+    grind (arith, from_cut c.requires c.place_of-at.ensures, slice_get-get_or)
 
 pub returns-else-at-items : goal.returns-else-at-items
 returns-else-at-items c =
-    let at = c.place_of-at.ensures in
-    grind (arith, from_cut c.args.key c.args.items.now c.place_of-at.result c.requires at.ahead at.behind, slice_get_past)
+    grind (arith, from_cut c.requires c.place_of-at.ensures, slice_get_past)

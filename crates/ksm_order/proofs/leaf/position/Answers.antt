@@ -5,19 +5,16 @@ use Rattle.ksm_order.proofs.leaf.position.Goals as goal
 
 pub returns-then-at-items-clause-missing : goal.returns-then-at-items-clause-missing
 returns-then-at-items-clause-missing c =
-    let at = c.place_of-at.ensures in
-    find_next c.args.key c.args.items.now _ c.requires at.ahead at.behind (λ d lt is. absurd (omega arith))
+    find_next c.requires c.place_of-at.ensures (λ d lt is. absurd (omega arith))
 
 pub returns-then-items-at-clause-here : goal.returns-then-items-at-clause-here
 returns-then-items-at-clause-here c =
-    let at = c.place_of-at.ensures in
     record {
       within = omega arith;
-      ahead = at.ahead;
+      ahead = c.place_of-at.ensures.ahead;
       is = λ d. grind (arith, get_or_default);
     }
 
 pub returns-else-items-at-clause-missing : goal.returns-else-items-at-clause-missing
 returns-else-items-at-clause-missing c =
-    let at = c.place_of-at.ensures in
-    find_next c.args.key c.args.items.now _ c.requires at.ahead at.behind (λ d lt is. grind (arith, get_or_default))
+    find_next c.requires c.place_of-at.ensures (λ d lt is. grind (arith, get_or_default))

@@ -5,10 +5,10 @@ use Rattle.ksm_order.proofs.Changes.{byte_of, with_rises}
 use Rattle.ksm_order.proofs.leaf.LeafPart.insert.Goals as goal
 
 -- the item is put in behind those before its key
-added : (c : goal.After-self-1) → c.insert.new.self.items ≡ with_item c.args.item c.self.inside.items.items
+added : (c : goal.After-self-2-1) → c.insert_at.new.items.items ≡ with_item c.args.item c.self.inside.items.items
 added c =
     let at = rw c.as_slice.ensures.value at c.place_of-at.ensures in
-    grind (arith, c.in_ok-insert.ensures.items, insert_here c.args.item c.self.inside.items.items c.place_of-at.result at.ahead at.behind)
+    grind (arith, c.in_ok-insert_at.ensures.put, insert_here c.args.item c.self.inside.items.items c.place_of-at.result at)
 
 pub invariant_of-self-2 : goal.invariant_of-self-2
 invariant_of-self-2 c =

@@ -23,7 +23,7 @@ returns-then-found c =
     }
 
 -- the spot is put in at its place
-put : (c : In-Ok) → c.put_in.new.spots.items ≡ filter (λ s. comes_before s.page c.args.spot.page) c.self.inside.spots.items ++ c.args.spot ∷ filter (λ s. comes_before c.args.spot.page s.page) c.self.inside.spots.items
+put : (c : In-Ok) → c.insert_at.new.items.items ≡ filter (λ s. comes_before s.page c.args.spot.page) c.self.inside.spots.items ++ c.args.spot ∷ filter (λ s. comes_before c.args.spot.page s.page) c.self.inside.spots.items
 put c =
     c.in-Ok.ensures.put
     ∙ insert_at pages_ordered page_of c.args.spot.page _ c.self.invariant c.as_slice.ensures.value c.as_slice-2.ensures.value c.place_near-at.ensures.count

@@ -2,7 +2,7 @@ use Rattle.std.proofs.Common.{ℕ, List, length, take, drop, ◌-◌, ◌≤◌}
 use Rattle.std.specs.Prelude.{flat_map}
 use Rattle.ksm_order.specs.declared.item.Item.{Item}
 use Rattle.ksm_order.specs.Listed.{AreBefore, AreBehind}
-use Rattle.ksm_order.proofs.node.part_of.Given as goal
+use Rattle.ksm_order.proofs.node.search.Given as goal
 
 -- the parts in front of the last below `low` come before the key, and those from `high` on come behind it
 pub record IsSearched {P : Type 0} (f : P → List Item) (parts : List P) (key low high : ℕ) : Type 0 where

@@ -1,6 +1,6 @@
 use Rattle.ksm_pages.proofs.Names.{arith, refl, rules, sym, ◌∙◌}
 use Rattle.ksm_pages.proofs.Writing.{listed_calm, listed_now, nothing, still_marked, untouched, viewed, viewed_marked}
-use Rattle.ksm_pages.proofs.rows.Rows.set_mergeable.Goals as goal
+use Rattle.ksm_pages.proofs.rows.Rows.make_mergeable.Goals as goal
 
 pub returns-in_default : goal.returns-in_default
 returns-in_default c = search (rules, nothing)
@@ -10,8 +10,8 @@ pub invariant_of-self : goal.invariant_of-self
 invariant_of-self c =
     untouched c.self.inside c.self.invariant c.in-Some.ensures.there c.index_mut-entry.ensures.value _ refl refl refl (grind arith)
 
-pub returns-then-was-mergeable : goal.returns-then-was-mergeable
-returns-then-was-mergeable c = search (rules, viewed c.self.inside c.self.invariant c.in-Some.ensures.there)
+pub returns-then-was : goal.returns-then-was
+returns-then-was c = search (rules, viewed c.self.inside c.self.invariant c.in-Some.ensures.there)
 
 pub invariant_of-self-then-restless : goal.invariant_of-self-then-restless
 invariant_of-self-then-restless c =
@@ -30,7 +30,7 @@ invariant_of-self-else-restless c =
     let there = c.in-Some.ensures.there in
     let stood = c.index_mut-entry.ensures.value in
     rw c.mark.ensures
-    (still_marked s c.self.invariant there stood _ refl refl refl (listed_calm s c.self.invariant there stood _ refl (sym c.is_restless-restless.ensures ∙ c.if-restless.false) c.let_be.ensures))
+    (still_marked s c.self.invariant there stood _ refl refl refl (listed_calm s c.self.invariant there stood _ refl (sym c.is_restless-restless.ensures ∙ c.if-restless.false) refl))
 
 pub returns-then-restless : goal.returns-then-restless
 returns-then-restless c =

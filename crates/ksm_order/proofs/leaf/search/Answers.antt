@@ -1,6 +1,6 @@
 use Rattle.std.proofs.Common.{arith, ◌+◌, ◌-◌, ◌/◌}
 use Rattle.std.proofs.lemmas.List.{get_or-drop, get_or-take, get_or_default, length-drop, length-take-le}
-use Rattle.ksm_order.proofs.leaf.place_of.Goals as goal
+use Rattle.ksm_order.proofs.leaf.search.Goals as goal
 
 pub returns : goal.returns
 returns c =

@@ -1,6 +1,6 @@
 use Rattle.std.proofs.Common.{ℕ, ◌-◌, ◌≤◌, ◌<◌, List, length, get_or}
 use Rattle.ksm_order.specs.declared.item.Item.{Item}
-use Rattle.ksm_order.proofs.leaf.place_of.Given as goal
+use Rattle.ksm_order.proofs.leaf.search.Given as goal
 
 -- the items below `low` come before the key, and those from `high` on do not
 pub record IsSearched (items : List Item) (key low high : ℕ) : Type 0 where

@@ -1,0 +1,42 @@
+use Rattle.ksm_book.proofs.Names.{ap, change_row, IsKnown, let_go, lies_on, not, on_its_own, PagesView, refl, rules, seen, Some, ◌≡◌}
+use Rattle.ksm_book.proofs.ByPage.{change_twice}
+use Rattle.ksm_book.proofs.Resettled.{may_left, resettled, turned}
+use Rattle.ksm_book.proofs.Singles.{row_held}
+use Rattle.ksm_book.proofs.Unmerged.{left_guest}
+use Rattle.ksm_book.proofs.unmerging.leave_scan.Goals as goal
+use Rattle.ksm_book.proofs.unmerging.leave_scan.Goals.{After-let_go_on-left}
+
+known : (c : After-let_go_on-left) → IsKnown c.args.held.spot.page c.args.pages.now.rows
+known c = rw (row_held c.requires.held) refl
+
+-- the pages as they would be if the page got its frame alone
+abbrev settled : After-let_go_on-left → PagesView
+settled c =
+    let p = seen c.args.pages.now in
+    record p {
+      rows = change_row c.args.held.spot.page on_its_own p.rows;
+      frame = lies_on c.args.held.spot.page (Some c.in-Some.frame) p.frame;
+    }
+
+-- its row was let go then
+gone : (c : After-let_go_on-left) → seen c.let_go_on-left.new.self
+    ≡ record (settled c) { rows = change_row c.args.held.spot.page let_go (settled c).rows }
+gone c = rw (change_twice c.args.held.spot.page on_its_own let_go let_go c.args.pages.now.rows (λ x. refl) (λ i x lt at. refl))
+    c.let_go_on-left.ensures.gone
+
+pub release_if-requires-clause-may : goal.release_if-requires-clause-may
+release_if-requires-clause-may c =
+    let s = (goal.at.release_if-requires-clause-may c).After-let_go_on-left in
+    may_left c.requires.laid c.lie_in_order.ensures.rise _ (known s) c.in-Some.ensures.provides c.in-Some.ensures.took _ c.let_go_on-left.ensures.left
+
+pub returns-in_default-clause-turned : goal.returns-in_default-clause-turned
+returns-in_default-clause-turned c =
+    search (rules, turned c.requires.laid c.requires.home c.in_default.ensures.provides)
+
+pub returns-clause-left : goal.returns-clause-left
+returns-clause-left c =
+    let s = (goal.at.returns-clause-left c).After-let_go_on-left in
+    let got = resettled c.requires.laid c.lie_in_order.ensures.rise _ (known s) c.in-Some.ensures.provides c.in-Some.ensures.took
+    _ c.let_go_on-left.ensures.left (settled s) _ refl c.release_if.ensures in
+    left_guest _ c.requires.held c.requires.laid c.lie_in_order.ensures.rise (ap not c.requires.shared)
+    c.bytes-bytes.ensures got c.requires.guest (gone s)

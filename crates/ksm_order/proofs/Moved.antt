@@ -1,0 +1,20 @@
+-- One more element of a list, and those behind it moved up by one: it is put in.
+use Rattle.std.proofs.Common.{◌≡◌, ℕ, ◌+◌, ◌≤◌, List, [], ◌∷◌, ◌++◌, add-one, ap, ap₂, arith, drop, get_or, length, sym, take, ◌∙◌}
+use Rattle.std.specs.Prelude.{insert, set}
+use Rattle.std.specs.List.{copy_within}
+use Rattle.std.proofs.Math.Seq.{take-append_seam, take-suc}
+use Rattle.std.proofs.lemmas.List.{append-nil, append_assoc, drop-take, drop_all, length-append, length-take-le, set_at, take-append-le}
+
+-- one more behind a list, the elements from an index on moved up by one, and that one written there: it is put in
+pub moved_up : {X : Type 0} (xs : List X) (at : ℕ) (x : X) → at ≤ length xs → set (copy_within (xs ++ x ∷ []) at (length xs) (at + 1)) at x ≡ insert xs at x
+moved_up xs at x within =
+    let l = xs ++ x ∷ [] in
+    let many = length-append xs (x ∷ []) in
+    let front =
+    ap (λ n. take n l) (add-one at) ∙ take-suc l at x (omega arith) ∙ ap (λ ys. ys ++ get_or l at x ∷ []) (take-append-le at xs (x ∷ []) within) in
+    let back =
+    sym (drop-take at _ l) ∙ ap (λ n. drop at (take n l)) (omega arith) ∙ ap (drop at) (take-append_seam xs (x ∷ [])) in
+    ap (λ ys. set ys at x) (ap₂ (λ a b. a ++ b) (ap₂ (λ a b. a ++ b) front back) (drop_all _ l (omega arith))
+    ∙ append-nil ((take at xs ++ get_or l at x ∷ []) ++ drop at xs)
+    ∙ append_assoc (take at xs) (get_or l at x ∷ []) (drop at xs))
+    ∙ set_at (take at xs) (get_or l at x) (drop at xs) x at (length-take-le at xs within)
