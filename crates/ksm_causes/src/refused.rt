@@ -66,10 +66,9 @@ impl Display for Why {
 
     fn fmt<W: Write>(&self, f: &mut Formatter<W>) -> fmt::Result {
         f.write_str(match self.0 {
-            Refusal::Book(Fault::NoFrame(node)) => return write!(
-                f,
-                "no frame of node {node} is free"
-            ),
+            Refusal::Book(Fault::NoFrame(node)) => {
+                return write!(f, "no frame of node {node} is free");
+            }
             Refusal::Book(Fault::Memory) => "memory was refused, and the line may be sent again",
             Refusal::Book(Fault::UnknownPage) => "there is no such page, or no page of the guest",
             Refusal::Book(Fault::AlreadyRegistered) => "the page is registered already",

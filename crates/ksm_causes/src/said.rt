@@ -69,16 +69,13 @@ impl Display for Cause {
     fn fmt<W: Write>(&self, f: &mut Formatter<W>) -> fmt::Result {
         f.write_str(match *self {
             Cause::Missing(part) => return write!(f, "the {} is missing", noun(part)),
-            Cause::NotANumber(part) => return write!(
-                f,
-                "a {} that is not a decimal number",
-                noun(part)
-            ),
+            Cause::NotANumber(part) => {
+                return write!(f, "a {} that is not a decimal number", noun(part));
+            }
             Cause::TooLarge(part) => return write!(f, "a {} above {}", noun(part), most(part)),
-            Cause::ContentLength => return write!(
-                f,
-                "content of neither 2 digits nor {PAGE_DIGITS}"
-            ),
+            Cause::ContentLength => {
+                return write!(f, "content of neither 2 digits nor {PAGE_DIGITS}");
+            }
             Cause::LongLine => "the line is longer than 256 bytes",
             Cause::SpaceBefore => "a space before the first word",
             Cause::TwoSpaces => "two spaces between words",

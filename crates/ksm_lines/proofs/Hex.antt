@@ -1,22 +1,15 @@
 -- The values of hexadecimal digits.
-use Rattle.ksm_lines.proofs.Names.{and_parts, arith, Bool, cases_lt, digit_or_none, DIGIT_VALUES, eqb, eqb-true, hex_value, inl, inr, lt-ltb, ltb, not, refl, slice_index, suc, true, zero, ℕ, ◌&&◌}
-use Rattle.ksm_lines.proofs.Names.{◌<◌, ◌==◌, ◌||◌, ◌∙◌, ◌≡◌}
+use Rattle.ksm_lines.proofs.Names.{agree_below, agree_below_at, arith, Bool, digit_or_none, DIGIT_VALUES, eqb, eqb-true, hex_value, lt-ltb, ltb, not, refl, slice_index, true, ℕ, ◌<◌, ◌==◌, ◌||◌, ◌∙◌}
+use Rattle.ksm_lines.proofs.Names.{◌≡◌}
 use Rattle.ksm_lines.proofs.Booleans.{implied}
 
--- a test of all numbers below n
+-- all numbers below n pass a test
 abbrev pub passes_below : (ℕ → Bool) → ℕ → Bool
-passes_below test zero = true
-passes_below test (suc n) = test n && passes_below test n
+passes_below test = agree_below test (λ _. true)
 
--- a test that all numbers below n pass is passed by each of them
+-- then each of them does
 pub passes_at : (test : ℕ → Bool) (n d : ℕ) → passes_below test n ≡ true → d < n → test d ≡ true
-passes_at test zero d h lt = absurd (omega arith)
-passes_at test (suc n) d h lt =
-    let parts = and_parts (test n) (passes_below test n) h in
-    elim (cases_lt d n) [
-      | inl below ↦ passes_at test n d parts.1 below
-      | inr top ↦ let e : d ≡ n = omega arith in rw e parts.0
-    ]
+passes_at test = agree_below_at test (λ _. true)
 
 -- the table has the value of each byte as a digit, or none
 pub value_of : (byte : ℕ) → byte < 256 → slice_index DIGIT_VALUES byte ≡ digit_or_none byte

@@ -1,24 +1,17 @@
 -- Digits, many at once.
-use Rattle.ksm_lines.proofs.Names.{[], and_parts, ap, ap₂, arith, bitmask_splat, Bool, byte_at, cond, digits_of_word, Each1, eqb, eqb-true, false, Fits, get_or, get_or-chunk, get_or-map}
-use Rattle.ksm_lines.proofs.Names.{get_or_append_left, hex_value, is_ascii_hexdigit, is_small, length, length-chunk, List, list_all, list_all-append, list_all-map, lt-ltb, ltb, ltb-false, ltb-true}
-use Rattle.ksm_lines.proofs.Names.{map, map-id, mask_l, ne_eqb, not, pair_in, range_with_len, refl, replicate, sel_l, splat_is_map, suc, sym, take, take-add, take_all, top, true, zero, zip2}
-use Rattle.ksm_lines.proofs.Names.{zip2_of_maps, zip2_splat, zip2_splat_left, ℕ, ◌%◌, ◌&&◌, ◌*◌, ◌++◌, ◌+◌, ◌<◌, ◌^◌, ◌||◌, ◌∙◌, ◌∷◌, ◌≡◌, ◌≤◌}
+use Rattle.ksm_lines.proofs.Names.{[], act2, agree_below, agree_below_at, and_comm, and_parts, ap, ap₂, arith, bitmask_splat, Bool, byte_at, cond, digits_of_word, Each1, eqb, eqb-true, false, Fits}
+use Rattle.ksm_lines.proofs.Names.{get_or, get_or-chunk, get_or-map, get_or_append_left, hex_value, is_ascii_hexdigit, is_small, length, length-chunk, List, list_all, list_all-append}
+use Rattle.ksm_lines.proofs.Names.{list_all-from_AllPass, list_all-map, lt, lt-ltb, ltb, ltb-false, ltb-true, map, map-id, mask, mask_l, ne_eqb, not, pair_in, range_with_len, refl, replicate, s_int}
+use Rattle.ksm_lines.proofs.Names.{sel_l, suc, sym, take, take-add, take_all, top, true, unsigned, zero, zip2, zip2_splat, zip2_splat_left, ℕ, ◌%◌, ◌&&◌, ◌*◌, ◌++◌, ◌+◌, ◌<◌, ◌^◌, ◌||◌, ◌∙◌, ◌∷◌, ◌≡◌}
+use Rattle.ksm_lines.proofs.Names.{◌≤◌}
 use Rattle.std.proofs.Common.{w8}
 use Rattle.ksm_lines.proofs.Booleans.{implied}
 use Rattle.ksm_lines.proofs.Front.{passes_in}
-use Rattle.ksm_lines.proofs.Hex.{passes_below, passes_at}
+use Rattle.ksm_lines.proofs.Hex.{passes_at, passes_below}
 
 -- a list is what the map that changes nothing makes of it
 pub itself : (v : List ℕ) → v ≡ map (λ x. x) v
 itself v = sym (map-id v)
-
--- an operation on two vectors computed lane by lane from v is computed lane by lane from v
-pub joined : (h : ℕ → ℕ → ℕ) (f g : ℕ → ℕ) (v : List ℕ) {a b : List ℕ} → a ≡ map f v → b ≡ map g v → zip2 h a b ≡ map (λ x. h (f x) (g x)) v
-joined h f g v p q = zip2_of_maps h f g v p q
-
--- a list of one value is the map of any list of its length to that value
-pub splat_is : (v : List ℕ) (n y : ℕ) → length v ≡ n → replicate n y ≡ map (λ _. y) v
-splat_is v n y e = splat_is_map v n y e
 
 -- a pick by a mask, of lanes that were all computed from v, is computed lane by lane from v
 pub picked : (m f g : ℕ → ℕ) (v : List ℕ) {a b c : List ℕ} → a ≡ map m v → b ≡ map f v → c ≡ map g v
@@ -29,13 +22,20 @@ picked m f g v {b = b} {c = c} p q r = ap (λ a. sel_l (map (top 7) a) b c) p �
     of [] = refl
     of (x ∷ xs) = ap (λ r. cond (top 7 (m x)) (f x) (g x) ∷ r) (of xs)
 
--- what one function computed of each byte is what another computes, where both agree on all bytes
-pub agrees : (f g : ℕ → ℕ) (v : List ℕ) {a : List ℕ} → a ≡ map f v → Each1 (Fits w8) v → passes_below (λ k. eqb (f k) (g k)) 256 ≡ true → a ≡ map g v
-agrees f g v p fits all = p ∙ of v fits
+-- what one function computed of each byte is what another computes, where both agree on all bytes that pass a test and all bytes there do
+agrees_where : (p : ℕ → Bool) (f g : ℕ → ℕ) (v : List ℕ) {a : List ℕ} → a ≡ map f v → Each1 (Fits w8) v → passes_below (λ k. not (p k) || eqb (f k) (g k)) 256 ≡ true → list_all p v ≡ true → a ≡ map g v
+agrees_where p f g v is fits all passes = is ∙ of v fits passes
   where
-    of : (v : List ℕ) → Each1 (Fits w8) v → map f v ≡ map g v
-    of [] h = refl
-    of (x ∷ xs) h = ap₂ (λ y ys. y ∷ ys) (eqb-true _ _ (passes_at (λ k. eqb (f k) (g k)) 256 x all h.0.fits)) (of xs h.1)
+    of : (v : List ℕ) → Each1 (Fits w8) v → list_all p v ≡ true → map f v ≡ map g v
+    of [] h e = refl
+    of (x ∷ xs) h e =
+        let parts = and_parts (p x) (list_all p xs) e in
+        let told = passes_at (λ k. not (p k) || eqb (f k) (g k)) 256 x all h.0.fits in
+        ap₂ (λ y ys. y ∷ ys) (eqb-true _ _ (implied (p x) _ parts.0 told)) (of xs h.1 parts.1)
+
+-- the same, where both agree on all bytes
+pub agrees : (f g : ℕ → ℕ) (v : List ℕ) {a : List ℕ} → a ≡ map f v → Each1 (Fits w8) v → passes_below (λ k. eqb (f k) (g k)) 256 ≡ true → a ≡ map g v
+agrees f g v is fits all = agrees_where (λ _. true) f g v is fits all (list_all-from_AllPass (λ _. true) v (λ k d lt. refl))
 
 -- no bit of a mask is set exactly where no lane passes the test
 pub none_set : (p : ℕ → Bool) (v : List ℕ) → eqb (mask_l (map p v)) 0 ≡ list_all (λ x. not (p x)) v
@@ -51,15 +51,9 @@ none_set p (x ∷ xs) = of (p x) (none_set p xs)
     of false h = doubled (mask_l (map p xs)) ∙ h
 
 -- tests that agree on all bytes are passed by the same lists of them
-same_test : (p q : ℕ → Bool) (v : List ℕ) → Each1 (Fits w8) v → passes_below (λ k. (not (p k) || q k) && (p k || not (q k))) 256 ≡ true → list_all p v ≡ list_all q v
+same_test : (p q : ℕ → Bool) (v : List ℕ) → Each1 (Fits w8) v → agree_below p q 256 ≡ true → list_all p v ≡ list_all q v
 same_test p q [] fits all = refl
-same_test p q (x ∷ xs) fits all = ap₂ (λ a b. a && b) (of (p x) (q x) (passes_at (λ k. (not (p k) || q k) && (p k || not (q k))) 256 x all fits.0.fits)) (same_test p q xs fits.1 all)
-  where
-    of : (a b : Bool) → ((not a || b) && (a || not b)) ≡ true → a ≡ b
-    of true true h = refl
-    of false false h = refl
-    of true false h = absurd cc
-    of false true h = absurd cc
+same_test p q (x ∷ xs) fits all = ap₂ (λ a b. a && b) (agree_below_at p q 256 x all fits.0.fits) (same_test p q xs fits.1 all)
 
 -- where one answer is the contrary of another, the other is the contrary of the first
 pub other_way : (a b : Bool) → a ≡ not b → b ≡ not a
@@ -68,21 +62,13 @@ other_way a false e = sym (ap not e)
 
 -- where a small value is computed exactly of digits, all values are small exactly where all bytes are digits
 pub small_for_digits : (f : ℕ → ℕ) (v : List ℕ) {a : List ℕ} → a ≡ map f v → Each1 (Fits w8) v
-    → passes_below (λ k. (not (is_small (f k)) || is_ascii_hexdigit k) && (is_small (f k) || not (is_ascii_hexdigit k))) 256 ≡ true
-    → list_all is_small a ≡ list_all is_ascii_hexdigit v
+    → agree_below (λ k. is_small (f k)) is_ascii_hexdigit 256 ≡ true → list_all is_small a ≡ list_all is_ascii_hexdigit v
 small_for_digits f v is fits all = ap (list_all is_small) is ∙ list_all-map is_small f v ∙ same_test (λ k. is_small (f k)) is_ascii_hexdigit v fits all
 
 -- where each digit's value is computed of the digit, what is computed of a text of digits is their values
 pub values_of_digits : (f : ℕ → ℕ) (v : List ℕ) {a : List ℕ} → a ≡ map f v → Each1 (Fits w8) v
     → passes_below (λ k. not (is_ascii_hexdigit k) || eqb (f k) (hex_value k)) 256 ≡ true → list_all is_ascii_hexdigit v ≡ true → a ≡ map hex_value v
-values_of_digits f v is fits all digits = is ∙ of v fits digits
-  where
-    of : (v : List ℕ) → Each1 (Fits w8) v → list_all is_ascii_hexdigit v ≡ true → map f v ≡ map hex_value v
-    of [] h e = refl
-    of (x ∷ xs) h e =
-        let parts = and_parts (is_ascii_hexdigit x) (list_all is_ascii_hexdigit xs) e in
-        let told = passes_at (λ k. not (is_ascii_hexdigit k) || eqb (f k) (hex_value k)) 256 x all h.0.fits in
-        ap₂ (λ y ys. y ∷ ys) (eqb-true _ _ (implied (is_ascii_hexdigit x) _ parts.0 told)) (of xs h.1 parts.1)
+values_of_digits f = agrees_where is_ascii_hexdigit f hex_value
 
 -- a bit of the mask of values above 15 is set exactly where not all values are small
 pub none_above : (v : List ℕ) → length v ≡ 16 → Each1 (Fits w8) v
@@ -94,27 +80,21 @@ none_above v long fits =
     ∙ ap not (none_set (λ x. ltb 15 x) v ∙ same_test (λ x. not (ltb 15 x)) is_small v fits refl)
 
 -- the larger of two values in each lane is small in all lanes exactly where all values of both are
-pub larger_small : (a b : List ℕ) → length a ≡ length b
-    → list_all is_small (sel_l (map (top 7) (zip2 (λ x y. cond (ltb x y) 255 0) a b)) b a) ≡ (list_all is_small a && list_all is_small b)
-larger_small [] [] e = refl
-larger_small [] (y ∷ ys) e = absurd (omega (arith, e))
-larger_small (x ∷ xs) [] e = absurd (omega (arith, e))
-larger_small (x ∷ xs) (y ∷ ys) e = ap₂ (λ a b. a && b) (of (ltb x y) refl) (larger_small xs ys (omega (arith, e))) ∙ four (is_small x) (is_small y) _ _
+pub larger_small : (a b : List ℕ) {n : ℕ} → length a ≡ n → length b ≡ n
+    → list_all is_small (sel_l (map (top 7) (zip2 (act2 (mask (lt unsigned)) (s_int w8) (s_int w8) (s_int w8)) a b)) b a) ≡ (list_all is_small a && list_all is_small b)
+larger_small [] [] p q = refl
+larger_small [] (y ∷ ys) p q = absurd (omega arith)
+larger_small (x ∷ xs) [] p q = absurd (omega arith)
+larger_small (x ∷ xs) (y ∷ ys) p q = ap₂ (λ a b. a && b) (of (ltb x y) refl) (larger_small xs ys {n = length xs} refl (omega arith)) ∙ four (is_small x) (is_small y) _ _
   where
     both : (p q : Bool) → (p ≡ true → q ≡ true) → p ≡ (q && p)
     both true q h = sym (ap (λ c. c && true) (h refl))
     both false true h = refl
     both false false h = refl
 
-    turned : (p q : Bool) → (p && q) ≡ (q && p)
-    turned true true = refl
-    turned true false = refl
-    turned false true = refl
-    turned false false = refl
-
     of : (less : Bool) → ltb x y ≡ less → is_small (cond (top 7 (cond less 255 0)) y x) ≡ (is_small x && is_small y)
     of true h = both (is_small y) (is_small x) (λ s. lt-ltb _ _ (omega (arith, ltb-true _ _ h, ltb-true _ _ s)))
-    of false h = both (is_small x) (is_small y) (λ s. lt-ltb _ _ (omega (arith, ltb-false _ _ h, ltb-true _ _ s))) ∙ turned (is_small y) (is_small x)
+    of false h = both (is_small x) (is_small y) (λ s. lt-ltb _ _ (omega (arith, ltb-false _ _ h, ltb-true _ _ s))) ∙ and_comm (is_small y) (is_small x)
 
     four : (p q r s : Bool) → ((p && q) && (r && s)) ≡ ((p && r) && (q && s))
     four true true r s = refl
@@ -139,8 +119,8 @@ word_is text i inside =
     (at_digit (2 * j + 1) (omega (arith, high)) ∙ ap (λ k. hex_value (get_or text k 0)) second))
   where
     at_digit : (k : ℕ) → k < 16 → get_or (map hex_value (digits_of_word text i)) k 0 ≡ hex_value (get_or text (16 * i + k) 0)
-    at_digit k lt =
-        get_or-map hex_value (digits_of_word text i) k 0 0 (omega (arith, length-chunk (16 * i) 16 text inside, lt)) ∙ ap hex_value (get_or-chunk (16 * i) 16 text k 0 lt)
+    at_digit k below =
+        get_or-map hex_value (digits_of_word text i) k 0 0 (omega (arith, length-chunk (16 * i) 16 text inside, below)) ∙ ap hex_value (get_or-chunk (16 * i) 16 text k 0 below)
 
 -- sixteen small values make eight bytes in pairs, and no sum of a pair wraps
 pub pairs_told : (values : List ℕ) → length values ≡ 16 → list_all is_small values ≡ true
@@ -154,7 +134,7 @@ pairs_told values long small =
     ap₂ (λ x y. (x * 16 % 256 + y) % 256) first second ∙ omega (arith, a, b))
   where
     value : (k : ℕ) → k < 16 → get_or values k 0 < 16
-    value k lt = ltb-true _ _ (passes_in is_small values 16 k (ap (list_all is_small) (take_all 16 values (omega (arith, long))) ∙ small) lt (omega (arith, long)))
+    value k below = ltb-true _ _ (passes_in is_small values 16 k (ap (list_all is_small) (take_all 16 values (omega (arith, long))) ∙ small) below (omega (arith, long)))
 
 -- ---- the digits of a page, word by word
 

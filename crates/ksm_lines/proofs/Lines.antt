@@ -1,9 +1,9 @@
 -- Bytes are read as a line exactly where they write it.
-use Rattle.ksm_lines.proofs.Names.{IfErr, Bool, list_all, ltb, ap, AreWritten, arith, bytes_eq, bytes_eq-Decides, cond, content, Err, Form, form_in, Gives, guest, IfOk, IsLine, IsOf, IsWritten, Kind}
-use Rattle.ksm_lines.proofs.Names.{kind_of, knob, Knob, knob_name, knob_of, left_out, Line, line_at, line_of, LineFault, List, made, MaxPageSharing, MergeAcrossNodes, named_in, None, number, OfKnob}
-use Rattle.ksm_lines.proofs.Names.{Ok, Option, option_map, PagesToScan, Part, read, refl, Result, Run, Shown, shown, shown_name, shown_of, Some, sym, Told, true, false, UseZeroPages, Values, values}
-use Rattle.ksm_lines.proofs.Names.{visits, ZeroPages, append-nil, ℕ, [], ◌++◌, ◌>>=◌, ◌^◌, ◌∙◌, ◌∷◌, ◌≡◌, ◌≢◌}
-use Rattle.ksm_lines.proofs.Numbers.{number_takes, number_again}
+use Rattle.ksm_lines.proofs.Names.{[], all_knobs, all_shown, ap, append-nil, AreWritten, arith, Bool, bytes_eq, bytes_eq-Decides, cond, content, Err, false, Form, form_in, Gives, guest, IfErr, IfOk}
+use Rattle.ksm_lines.proofs.Names.{IsLine, IsOf, IsWritten, Kind, kind_of, Knob, knob, knob_name, knob_of, left_out, Line, line_at, line_of, LineFault, List, list_all, ltb, made, MaxPageSharing}
+use Rattle.ksm_lines.proofs.Names.{MergeAcrossNodes, named_in, None, number, OfKnob, Ok, Option, PagesToScan, Part, read, refl, Result, Run, Shown, shown, shown_name, shown_of, Some, sym, Told, true}
+use Rattle.ksm_lines.proofs.Names.{UseZeroPages, values, Values, visits, ZeroPages, ℕ, ◌++◌, ◌>>=◌, ◌^◌, ◌∙◌, ◌∷◌, ◌≡◌, ◌≢◌}
+use Rattle.ksm_lines.proofs.Numbers.{number_again, number_takes}
 
 -- values that are there and equal are equal
 pub some_is : {A : Type 0} (x y : A) → Some x ≡ Some y → x ≡ y
@@ -51,37 +51,24 @@ name_is name_of (x ∷ xs) name found e =
       | false ↦ λ same h. name_is name_of xs name found h
     ] (bytes_eq-Decides name (name_of x)).0 e
 
--- a word that is read as a knob is its name
-pub knob_is : (named : Knob) (word : List ℕ) → knob_of word ≡ Some named → word ≡ knob_name named
-knob_is named word e = name_is knob_name (Run ∷ PagesToScan ∷ MergeAcrossNodes ∷ MaxPageSharing ∷ UseZeroPages ∷ []) word named e
-
--- a word that is read as what is shown is its name
-pub shown_is : (named : Shown) (word : List ℕ) → shown_of word ≡ Some named → word ≡ shown_name named
-shown_is named word e =
-    elim (bytes_eq word (shown_name ZeroPages)) as (λ b. (b ≡ true → word ≡ shown_name ZeroPages) → cond b (Some ZeroPages) (option_map OfKnob (knob_of word)) ≡ Some named → word ≡ shown_name named) [
-      | true ↦ λ same h. same refl ∙ ap shown_name (some_is ZeroPages named h)
-      | false ↦ λ same h. go (knob_of word) refl h
-    ] (bytes_eq-Decides word (shown_name ZeroPages)).0 e
+-- what has the name of none of some things is found by none
+none_named : {A : Type 0} (name_of : A → List ℕ) (all : List A) (word : List ℕ) → ((found : A) → word ≢ name_of found) → named_in name_of all word ≡ None
+none_named {A = A} name_of all word none = go (named_in name_of all word) refl
   where
-    go : (o : Option Knob) → knob_of word ≡ o → option_map OfKnob o ≡ Some named → word ≡ shown_name named
-    go None is h = absurd cc
-    go (Some found) is h = knob_is found word is ∙ ap shown_name (some_is (OfKnob found) named h)
+    go : (o : Option A) → named_in name_of all word ≡ o → o ≡ None
+    go None is = refl
+    go (Some found) is = absurd (none found (name_is name_of all word found is))
+
+begun_by_none : {A : Type 0} (name_of : A → List ℕ) (all : List A) (word : List ℕ) → ((found : A) (left : List ℕ) → word ≢ name_of found ++ left) → named_in name_of all word ≡ None
+begun_by_none name_of all word none = none_named name_of all word (λ found is. none found [] (is ∙ sym (append-nil (name_of found))))
 
 -- what no name of a knob begins is read as no knob
 pub no_knob : (word : List ℕ) → ((named : Knob) (left : List ℕ) → word ≢ knob_name named ++ left) → knob_of word ≡ None
-no_knob word none = go (knob_of word) refl
-  where
-    go : (o : Option Knob) → knob_of word ≡ o → o ≡ None
-    go None is = refl
-    go (Some named) is = absurd (none named [] (knob_is named word is ∙ sym (append-nil (knob_name named))))
+no_knob = begun_by_none knob_name all_knobs
 
 -- and so of what is shown
 pub no_shown : (word : List ℕ) → ((named : Shown) (left : List ℕ) → word ≢ shown_name named ++ left) → shown_of word ≡ None
-no_shown word none = go (shown_of word) refl
-  where
-    go : (o : Option Shown) → shown_of word ≡ o → o ≡ None
-    go None is = refl
-    go (Some named) is = absurd (none named [] (shown_is named word is ∙ sym (append-nil (shown_name named))))
+no_shown = begun_by_none shown_name all_shown
 
 abbrev pub above_space : ℕ → Bool
 above_space byte = ltb 32 byte
@@ -97,11 +84,7 @@ shown_above ZeroPages = refl
 
 -- a word with such a byte is not shown
 pub not_shown : (word : List ℕ) → list_all above_space word ≡ false → shown_of word ≡ None
-not_shown word e = go (shown_of word) refl
-  where
-    go : (o : Option Shown) → shown_of word ≡ o → o ≡ None
-    go None is = refl
-    go (Some named) is = absurd (cc (sym e ∙ ap (list_all above_space) (shown_is named word is) ∙ shown_above named))
+not_shown word e = none_named shown_name all_shown word (λ named is. cc (sym e ∙ ap (list_all above_space) is ∙ shown_above named))
 
 -- a word that is read writes what it tells
 pub word_written : (kind : Kind) (told : Told kind) (word : List ℕ) → read kind word ≡ Some told → IsWritten kind told word
@@ -112,8 +95,8 @@ word_written visits told word e =
     let is = number_takes (2 ^ 32) word n.0 (omega arith) n.1 in
     (n.0, sym (some_is (Some n.0) told n.2), is.0, is.1)
 word_written content page word e = e
-word_written knob named word e = knob_is named word e
-word_written shown named word e = shown_is named word e
+word_written knob named word e = name_is knob_name all_knobs word named e
+word_written shown named word e = name_is shown_name all_shown word named e
 
 -- ---- the words of a line
 

@@ -1,8 +1,8 @@
 -- Lines at the front of a text, word by word, each with the byte behind it.
 use Rattle.ksm_lines.proofs.Names.{[], All, All-append, All-cons, ap, append_assoc, AreWritten, arith, BeginsWith, Bool, cond, content_of, decimal, decimal-digits_value, digits_decimal, digits_value}
-use Rattle.ksm_lines.proofs.Names.{drop, false, form_in, get_or, get_or-take, is_ascii_digit, is_ascii_hexdigit, IsLine, IsOf, IsReadTo, IsWritten, kind_of, knob_name, length, length-take-le, Line}
-use Rattle.ksm_lines.proofs.Names.{line_at, List, list_all, made, Makes, None, not, OfKnob, Option, Part, refl, Knob, Shown, shown_name, GuestPage, slice_split_at, slice_split_none, Some}
-use Rattle.ksm_lines.proofs.Names.{subst, sym, take, Told, true, Values, words_of, ℕ, ◌++◌, ◌+◌, ◌-◌, ◌<◌, ◌^◌, ◌∙◌, ◌∷◌, ◌≡◌, ◌≢◌, ◌≤◌}
+use Rattle.ksm_lines.proofs.Names.{drop, false, form_in, get_or, get_or-take, GuestPage, is_ascii_digit, is_ascii_hexdigit, IsLine, IsOf, IsReadTo, IsWritten, kind_of, Knob, knob_name, length}
+use Rattle.ksm_lines.proofs.Names.{length-take-le, Line, line_at, List, list_all, made, Makes, None, not, OfKnob, Option, Part, refl, Shown, shown_name, slice_split_at, slice_split_none, Some, subst}
+use Rattle.ksm_lines.proofs.Names.{sym, take, Told, true, Values, words_of, ℕ, ◌++◌, ◌+◌, ◌-◌, ◌<◌, ◌^◌, ◌∙◌, ◌∷◌, ◌≡◌, ◌≢◌, ◌≤◌}
 use Rattle.ksm_lines.proofs.Names.parts
 use Rattle.ksm_lines.proofs.Numbers.{own}
 use Rattle.ksm_lines.proofs.Front.{parted_at}
@@ -126,8 +126,9 @@ module _ {text behind rest : List ℕ} {others : List Part} {told : Values other
   guest_more n is fits later = number_more parts.Guest n is (omega arith) (fits, refl) later
 
   -- the name of a knob stands before others
-  pub knob_more : {named : Knob} → text ≡ knob_name named ++ 32 ∷ behind → Leads others told behind rest → Leads (parts.Knob ∷ others) (named, told) text rest
-  knob_more {named = named} is later = more (knob_name named) _ _ _ (shown_is_word (OfKnob named)) is _ _ later parts.Knob named refl
+  pub knob_more : {named : Knob} {left : List ℕ} → text ≡ knob_name named ++ left → left ≡ 32 ∷ behind → Leads others told behind rest → Leads (parts.Knob ∷ others) (named, told) text rest
+  knob_more {named = named} is space later =
+      more (knob_name named) _ _ _ (shown_is_word (OfKnob named)) (is ∙ ap (λ l. knob_name named ++ l) space) _ _ later parts.Knob named refl
 
 -- the last two words are a page
 pub page_last : {text rest : List ℕ} (page : GuestPage) → text ≡ decimal page.guest ++ 32 ∷ (decimal page.page ++ 10 ∷ rest) → (page.guest < 2 ^ 16) × (page.page < 2 ^ 32)
@@ -135,5 +136,5 @@ pub page_last : {text rest : List ℕ} (page : GuestPage) → text ≡ decimal p
 page_last page is fits = guest_more page.guest is fits.0 (number_last parts.Page page.page refl fits.1 (fits.1, refl))
 
 -- the last word is the name of what is shown
-pub shown_last : {text rest : List ℕ} {named : Shown} → text ≡ shown_name named ++ 10 ∷ rest → Leads (parts.Shown ∷ []) (named, tt) text rest
-shown_last {named = named} is = last parts.Shown named (shown_name named) _ _ (shown_is_word named) refl is
+pub shown_last : {text left rest : List ℕ} {named : Shown} → text ≡ shown_name named ++ left → left ≡ 10 ∷ rest → Leads (parts.Shown ∷ []) (named, tt) text rest
+shown_last {named = named} is newline = last parts.Shown named (shown_name named) _ _ (shown_is_word named) refl (is ∙ ap (λ l. shown_name named ++ l) newline)

@@ -1,8 +1,9 @@
 -- Words, parted at each space.
-use Rattle.ksm_lines.proofs.Names.{[], ◌≢◌, number, after_first, arith, All, All-weaker, AllPass-from_list_all, ap, before_first, Bool, cases_lt, drop, ended, eqb, eqb-true, fails_before_first, Err}
-use Rattle.ksm_lines.proofs.Names.{false, get_or, Gives, GivesLast, inl, inr, is_ok, is_some, kind_of, length, LineFault, List, list_all, list_all_at, lt-ltb, ltb-true, None, ne_eqb, Ok, Option, Part}
-use Rattle.ksm_lines.proofs.Names.{passes_at_first, position, position_or_len, read, refl, Result, slice_split_first, slice_split_none, Some, sym, take, take_rest, true, values, words_of, ℕ, ◌+◌, ◌-◌}
-use Rattle.ksm_lines.proofs.Names.{◌<◌, ◌>>=◌, ◌∙◌, ◌∷◌, ◌≡◌}
+use Rattle.ksm_lines.proofs.Names.{[], after_first, All, All-weaker, AllPass-from_list_all, ap, arith, before_first, Bool, cases_lt, drop, ended, eqb, eqb-true, Err, fails_before_first, false, get_or}
+use Rattle.ksm_lines.proofs.Names.{Gives, GivesLast, inl, inr, is_ok, is_some, kind_of, length, LineFault, List, list_all, list_all_at, lt-ltb, ltb-true, ne_eqb, None, number, Ok, Option, Part}
+use Rattle.ksm_lines.proofs.Names.{passes_at_first, position, position_or_len, read, refl, Result, slice_split_first, slice_split_none, Some, sym, take, take_rest, Told, true, values, words_left}
+use Rattle.ksm_lines.proofs.Names.{words_of, ℕ, ◌+◌, ◌-◌, ◌<◌, ◌>>=◌, ◌∙◌, ◌∷◌, ◌≡◌, ◌≢◌}
+use denote.Ref.{Bor}
 use Rattle.ksm_lines.proofs.Names.parts
 use Rattle.ksm_lines.proofs.Booleans.{is_chosen}
 
@@ -58,7 +59,7 @@ abbrev ends : {A : Type 0} → Option (A × List (List ℕ)) → Option (A × Un
 ends first = first >>= λ next. ended next.1 >>= λ end. Some (next.0, end)
 
 -- what is read as the last word of a text is read of the text, where no word with a space is read
-pub last_text : (part : Part) (test : ℕ → Bool) (text : List ℕ) → test 32 ≡ false → ((word : List ℕ) → list_all test word ≡ false → read (kind_of part) word ≡ None)
+last_text : (part : Part) (test : ℕ → Bool) (text : List ℕ) → test 32 ≡ false → ((word : List ℕ) → list_all test word ≡ false → read (kind_of part) word ≡ None)
     → values (part ∷ []) (words_of text) ≡ alone (read (kind_of part) text)
 last_text part test text space none =
     by_space text (λ lt is.
@@ -75,10 +76,14 @@ last_text part test text space none =
     more None words e = refl
     more (Some a) words e = rw e refl
 
--- a call that gives what is read of a text gives what is read as its last word
-pub gives_last : {A : Type 0} (r : Result A LineFault) (o : Option A) → Gives r o → GivesLast r (alone o)
-gives_last (Ok a) o h = rw h refl
-gives_last (Err e) o h = rw h refl
+-- a call that gives what is read of what is left, where nothing with a space is read, gives what is read as its last word
+pub gives_last : (part : Part) (test : ℕ → Bool) (r : Result (Told (kind_of part)) LineFault) (left : Option (Bor (List ℕ))) (text : Bor (List ℕ)) → left ≡ Some text → test 32 ≡ false
+    → ((word : List ℕ) → list_all test word ≡ false → read (kind_of part) word ≡ None) → Gives r (read (kind_of part) text.now) → GivesLast r (values (part ∷ []) (words_left left))
+gives_last part test r left text is space none gives = rw (is, last_text part test text.now space none) (of r (read (kind_of part) text.now) gives)
+  where
+    of : {A : Type 0} (r : Result A LineFault) (o : Option A) → Gives r o → GivesLast r (alone o)
+    of (Ok a) o h = rw h refl
+    of (Err e) o h = rw h refl
 
 -- ---- whether a word is read as a part, told by a call
 

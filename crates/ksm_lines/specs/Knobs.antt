@@ -1,5 +1,5 @@
 -- The knobs, and what else is shown, by their names (admin-guide/mm/ksm).
-use Rattle.std.specs.Prelude.{ℕ, List, [], ◌∷◌, Option, Some, None, option_map, codes, bytes_eq, if◌then◌else◌}
+use Rattle.std.specs.Prelude.{ℕ, List, [], ◌∷◌, Option, Some, None, map, codes, bytes_eq, if◌then◌else◌}
 use Rattle.ksm_base.specs.declared.command.Command.{Command}
 use Rattle.ksm_base.specs.declared.command.Command.TheVariants.{SetRun, SetPagesToScan, SetAcross, SetLimit, SetZeroPages}
 use Rattle.ksm_base.specs.declared.knobs.Knobs.{Knobs}
@@ -28,13 +28,19 @@ abbrev pub named_in : {A : Type 0} → (A → List ℕ) → List A → List ℕ 
 named_in name_of [] name = None
 named_in name_of (x ∷ xs) name = if bytes_eq name (name_of x) then Some x else named_in name_of xs name
 
+abbrev pub all_knobs : List Knob
+all_knobs = Run ∷ PagesToScan ∷ MergeAcrossNodes ∷ MaxPageSharing ∷ UseZeroPages ∷ []
+
+abbrev pub all_shown : List Shown
+all_shown = ZeroPages ∷ map OfKnob all_knobs
+
 -- a knob by its name
 abbrev pub knob_of : List ℕ → Option Knob
-knob_of = named_in knob_name (Run ∷ PagesToScan ∷ MergeAcrossNodes ∷ MaxPageSharing ∷ UseZeroPages ∷ [])
+knob_of = named_in knob_name all_knobs
 
 -- what is shown, by its name
 abbrev pub shown_of : List ℕ → Option Shown
-shown_of name = if bytes_eq name (shown_name ZeroPages) then Some ZeroPages else option_map OfKnob (knob_of name)
+shown_of = named_in shown_name all_shown
 
 -- the command that sets a knob
 abbrev pub setting : Knob → ℕ → Command

@@ -46,6 +46,7 @@ fn first_space(text: &[u8]) -> Option<usize>
 }
 
 /// The first word of a text, and what follows the space behind it.
+#[tactic(auto, using(crate::proofs::Words::cut_at, crate::proofs::Words::cut_none))]
 pub fn cut(text: &[u8]) -> (&[u8], Option<&[u8]>)
     ensures words { words_of text.now ≡ result.0.now ∷ words_left result.1 }
     ensures fits { length result.0.now + left_length result.1 ≡ length text.now }
@@ -101,21 +102,15 @@ pub fn behind<'a, const N: usize>(text: &'a [u8], name: &[u8; N]) -> Option<&'a 
 
 /// Whether a word is this name. The first byte that differs ends it.
 #[inline(always)]
+#[tactic(auto, using(crate::proofs::Front::is_name))]
 pub fn is<const N: usize>(word: &[u8], name: &[u8; N]) -> bool
     ensures { result ≡ bytes_eq word.now name.now }
 {
-    if word.len() != N {
-        return false;
-    }
-    for i in 0..N {
-        if word[i] != name[i] {
-            return false;
-        }
-    }
-    true
+    word.len() == N && behind(word, name).is_some()
 }
 
 /// Nothing, where no word is left.
+#[tactic(auto, using(crate::proofs::Words::not_ended))]
 pub fn ended(left: Option<&[u8]>) -> Result<(), LineFault>
     ensures { Gives result (ended (words_left left.entry)) }
 {
@@ -211,14 +206,12 @@ pub fn knob(left: Option<&[u8]>) -> Result<(Knob, Option<&[u8]>), LineFault>
 pub fn shown_alone(left: Option<&[u8]>) -> Result<Shown, LineFault>
     ensures { GivesLast result (values (parts.Shown ∷ []) (words_left left.entry)) }
 {
-    let Some(text) = left else {
-        return Err(LineFault::Bad);
-    };
-    shown_named(text)
+    shown_named(left.ok_or(LineFault::Bad)?)
 }
 
 /// The byte that two digits write, where they are digits.
 #[inline(always)]
+#[tactic(auto, using(crate::proofs::Hex::small_value))]
 fn byte_in(word: &[u8]) -> Option<u8>
     requires { length word.now ≡ 2 }
     ensures digits { IsSome result ↔ (list_all is_ascii_hexdigit word.now ≡ true) }
@@ -233,6 +226,7 @@ fn byte_in(word: &[u8]) -> Option<u8>
 }
 
 /// The value of a hexadecimal digit, 255 of any other byte.
+#[tactic(auto, using(crate::proofs::Hex::value_of))]
 fn digit_value(byte: u8) -> u8
     ensures { result ≡ digit_or_none byte }
 {
@@ -255,6 +249,7 @@ fn digit_values(digits: u8x16) -> u8x16
 
 /// The larger of two values in each lane.
 #[inline(always)]
+#[tactic(auto, using(crate::proofs::Lanes::larger_small))]
 fn larger(a: u8x16, b: u8x16) -> u8x16
     ensures { list_all is_small result ≡ (list_all is_small a && list_all is_small b) }
 {
@@ -263,6 +258,7 @@ fn larger(a: u8x16, b: u8x16) -> u8x16
 
 /// Whether a value is that of no digit.
 #[inline(always)]
+#[tactic(auto, using(crate::proofs::Lanes::none_above))]
 fn has_other(values: u8x16) -> bool
     ensures { result ≡ not (list_all is_small values) }
 {
@@ -271,6 +267,7 @@ fn has_other(values: u8x16) -> bool
 
 /// The word of a page whose digits have these values.
 #[inline(always)]
+#[tactic(auto, using(crate::proofs::Lanes::pairs_told))]
 fn word_of(values: u8x16) -> u64
     ensures { list_all is_small values ≡ true → result ≡ from_le_bytes w64 (map (pair_in values) (range_with_len 0 8)) }
 {
@@ -318,8 +315,5 @@ pub fn content_in(word: &[u8]) -> Result<PageBytes, LineFault>
 pub fn content_alone(left: Option<&[u8]>) -> Result<PageBytes, LineFault>
     ensures { GivesLast result (values (parts.Content ∷ []) (words_left left.entry)) }
 {
-    let Some(text) = left else {
-        return Err(LineFault::Bad);
-    };
-    content_in(text)
+    content_in(left.ok_or(LineFault::Bad)?)
 }

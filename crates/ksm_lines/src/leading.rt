@@ -5,12 +5,11 @@
 //! line; `read_line` tells.
 ghost use Rattle.std.specs.Prelude.{◌≡◌, ◌<◌, ◌≤◌, ◌^◌, ◌++◌, ◌∷◌, ℕ, List, IfSome, Some, decimal, length};
 ghost use Rattle.ksm_lines.specs.Content.{content_of};
-ghost use Rattle.ksm_lines.specs.Knobs.{knob_name, shown_name};
 ghost use Rattle.ksm_lines.specs.Leading.{BeginsWith};
 ghost use Rattle.ksm_lines.specs.declared.line.Line.TheVariants as lines;
 
-use crate::field::{PAGE_DIGITS, behind_name, content_in, first_four};
-use crate::knob::{Knob, Shown, knob_at, shown_at};
+use crate::field::{PAGE_DIGITS, behind, behind_name, content_in, first_four};
+use crate::knob::{knob_at, shown_at};
 use crate::line::{PageLine, RareLine, ShortLine};
 use ksm_base::{GuestPage, PageBytes};
 
@@ -61,7 +60,8 @@ pub fn leading_short_line(text: &[u8]) -> Option<(ShortLine, &[u8])>
         return Some((ShortLine::Stat, left));
     }
     if front == first_four(b"show ") {
-        let (shown, left) = shown_to_newline(behind_name(text, b"show ")?)?;
+        let (shown, left) = shown_at(behind_name(text, b"show ")?)?;
+        let left = behind(left, b"\n")?;
         return Some((ShortLine::Show { shown }, left));
     }
     None
@@ -97,8 +97,8 @@ pub fn leading_rare_line(text: &[u8]) -> Option<(RareLine, &[u8])>
     }
     let front = first_four(text);
     if front == first_four(b"set ") {
-        let (knob, left) = knob_to_space(behind_name(text, b"set ")?)?;
-        let (value, left) = number_to(left, b'\n')?;
+        let (knob, left) = knob_at(behind_name(text, b"set ")?)?;
+        let (value, left) = number_to(behind(left, b" ")?, b'\n')?;
         return Some((RareLine::Set { knob, value }, left));
     }
     if front == first_four(b"prune\n") {
@@ -255,27 +255,4 @@ fn content_of_length(text: &[u8], digits: usize) -> Option<(PageBytes, &[u8])>
         Ok(bytes) => Some((bytes, &text[digits + 1..])),
         Err(_) => None,
     }
-}
-
-/// The knob whose name is at the front of a text, and what is behind the space that ends it.
-fn knob_to_space(text: &[u8]) -> Option<(Knob, &[u8])>
-    ensures { IfSome result (λ r. text.now ≡ knob_name r.0 ++ 32 ∷ r.1.now) }
-{
-    let (knob, left) = knob_at(text)?;
-    let [b' ', left @ ..] = left else {
-        return None;
-    };
-    Some((knob, left))
-}
-
-/// What is shown by the name at the front of a text, and what is behind the newline that ends it.
-#[inline(always)]
-fn shown_to_newline(text: &[u8]) -> Option<(Shown, &[u8])>
-    ensures { IfSome result (λ r. text.now ≡ shown_name r.0 ++ 10 ∷ r.1.now) }
-{
-    let (shown, left) = shown_at(text)?;
-    let [b'\n', left @ ..] = left else {
-        return None;
-    };
-    Some((shown, left))
 }

@@ -40,11 +40,6 @@ pieces_more f xs i d lt =
     ap (flat_map f) (take_more xs i d lt) ∙ flat_map-append f (take i xs) (get_or xs i d ∷ [])
     ∙ ap (λ (t : List ℕ). flat_map f (take i xs) ++ t) (append-nil (f (get_or xs i d)))
 
-pub pieces_whole : {X : Type 0} (f : X → List ℕ) (xs : List X) (i : ℕ) (d : X) (text : List ℕ) (a b c : Option (List ℕ)) → i < length xs → text ≡ f (get_or xs i d)
-    → Appends a b (flat_map f (take i xs)) → Appends b c text → Appends a c (flat_map f (take (i + 1) xs))
-pieces_whole f xs i d text a b c lt is p q =
-    subst (Appends a c) (sym (pieces_more f xs i d lt)) (Appends-trans a b c _ _ p (subst (Appends b c) is q))
-
 -- the texts up to one of the elements, and a part of its own
 pub pieces_part : {X : Type 0} (f : X → List ℕ) (xs : List X) (i : ℕ) (d : X) (text : List ℕ) (a b c : Option (List ℕ)) → i < length xs → text ≡ f (get_or xs i d)
     → Appends a b (flat_map f (take i xs)) → AppendsPart b c text → AppendsPart a c (flat_map f xs)

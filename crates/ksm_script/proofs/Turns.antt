@@ -1,9 +1,9 @@
 -- A run goes on by one line.
 use Rattle.ksm_script.proofs.Names.{[], AllRead, Answered, AnsweredAll, AnsweredLast, AnsweredToBad, Answers, ap, append-nil, append_assoc, Appends, Appends-kept, Appends-nil, Appends-trans}
-use Rattle.ksm_script.proofs.Names.{AppendsPart, AtOnce, Bad, bad_line, BadLine, Bool, BreaksOff, CarriesOut, Consumes, Consumes-nil, Consumes-trans, Dialogue, Empty, End, end_at, EndsAs, EndsBad}
+use Rattle.ksm_script.proofs.Names.{AppendsPart, at, AtOnce, Bad, bad_line, BadLine, Bool, BreaksOff, CarriesOut, Consumes, Consumes-nil, Consumes-trans, Dialogue, Empty, End, end_at, EndsAs, EndsBad}
 use Rattle.ksm_script.proofs.Names.{EndsOpen, Err, false, Goes, GoesOn, HasReplied, inl, Input, inr, IsAtEnd, IsBad, IsDone, IsErrAnd, IsNoLine, IsPlain, IsReadAs, IsReplied, IsSaid, IsSoFar}
-use Rattle.ksm_script.proofs.Names.{IsWithin, Keeps, length, Line, LineEnd, LineFault, LineReply, List, more, Newline, None, none, Ok, Option, Read, ReadFor, refl, reply_text, Result, result_and}
-use Rattle.ksm_script.proofs.Names.{ReturnsReply, RunFault, ScriptState, SessionView, silent, Some, some_is, streams, subst, sym, TakesForm, Talks, text_of, Took, took, TooLong, true, waited, Write}
+use Rattle.ksm_script.proofs.Names.{IsWithin, Keeps, length, Line, LineEnd, LineFault, LineReply, List, more, Newline, nil_from_length, None, none, Ok, Option, Read, ReadFor, refl, reply_text, Result}
+use Rattle.ksm_script.proofs.Names.{result_and, RunFault, ScriptState, SessionView, silent, Some, some_is, streams, subst, sym, TakesForm, Talks, text_of, took, Took, TooLong, true, waited, Write}
 use Rattle.ksm_script.proofs.Names.{WritesReply, ℕ, ◌++◌, ◌+◌, ◌∙◌, ◌∷◌, ◌≡◌, ◌≢◌, ◌≤◌, ◌⊎◌}
 use Rattle.ksm_script.proofs.Parts.{broken_after}
 
@@ -166,12 +166,6 @@ module _ {R W : Type 0} (remaining : R → Option (List ℕ)) (takes : R → R �
       let cut = said.2.1 in (cut.0, cut.1, (taken.0, said.0, carried_as (Some said.0) said.1, taken.4.0, cut.2), taken.4.1)
   said_once (Err e) (inr quiet) = absurd (cc quiet.2)
 
--- the reply that was returned for a line, or none, is what the line is answered
-pub kept_answer : (form : Line) (from to : SessionView) (new : Option LineReply) (r : Result (Unit {0}) RunFault) → IsSaid ReturnsReply (Answers form) from to None new r
-    → Answers form from.state new to.state
-kept_answer form from to new r (inl said) = subst (λ (x : Option LineReply). Answers form from.state x to.state) (sym said.2.0) said.1
-kept_answer form from to new r (inr quiet) = subst (λ (x : Option LineReply). Answers form from.state x to.state) (sym quiet.1) quiet.0
-
 -- a failed write ends a run
 pub broke_on : (Line : List ℕ → Type 0) (lines : List ℕ) (first now begun written : Option (List ℕ)) (from : ScriptState) (session : SessionView) (number : ℕ) (told : Result (Option End) RunFault)
     → told ≡ Err Write → Goes (streams first now begun written) from session.state (Err Write) → GoesOn Line lines first now begun written from session number told
@@ -242,10 +236,6 @@ bad_of left Newline line bad last = bad (λ e. absurd cc)
 bad_of left Input line bad last = (bad (λ e. absurd cc), last refl)
 bad_of left TooLong line bad last = tt
 
-empty_of : (line : List ℕ) → length line ≡ 0 → line ≡ []
-empty_of [] nil = refl
-empty_of (byte ∷ line) nil = absurd (cc nil)
-
 module _ (Line : List ℕ → Type 0) (lines : List ℕ) (first now later : Option (List ℕ)) (begun written : Option (List ℕ)) (from state : ScriptState) (number : ℕ) (line : List ℕ) (end : LineEnd)
     (so : IsSoFar lines first now begun written from state number) (read : IsRead Line now later line end) where
   consumed_then : Consumes first later (lines ++ read.bytes)
@@ -289,7 +279,7 @@ module _ (Line : List ℕ → Type 0) (lines : List ℕ) (first now later : Opti
   -- nothing was left to read
   pub all_read : end ≡ Input → length line ≡ 0 → AnsweredAll first later from state so.text
   all_read last nil =
-      let empty : line ≡ [] = empty_of line nil in
+      let empty : line ≡ [] = nil_from_length line nil in
       let nothing : read.bytes ≡ [] = (subst (λ (e : LineEnd). EndsAs e line read.bytes) last read.ends).0 ∙ empty in
       let all : lines ++ read.bytes ≡ lines = ap (λ (t : List ℕ). lines ++ t) nothing ∙ append-nil lines in
       (lines, lines, so.count, so.answered, inl refl, subst (λ (t : List ℕ). Consumes first later t) all consumed_then)

@@ -1,9 +1,8 @@
 -- The worked lines hold.
-use Rattle.ksm_script.proofs.Names.{[], AllZip, Answer, ap, arith, at, Audit, AuditedBy, BadNode, BadValue, Book, BookState, both_hold, bytes_of, Command, commanded, CommandLines, Commands, Content}
-use Rattle.ksm_script.proofs.Names.{content_reply, Done, Err, Found, frames_of, full, GivesUp, Gone, GuestPage, Held, HeldView, Holding, HoldsStill, Idle, idle_of, inl, inr, is_known}
-use Rattle.ksm_script.proofs.Names.{IsAnswerOrMemory, IsVacant, KeepsBook, length, LineReply, List, LooksAt, LookupLines, Memory, merged, None, NotRunning, OfKnob, Ok, one_holds, Option, PassState}
-use Rattle.ksm_script.proofs.Names.{PassView, Pruned, ReaderLog, ReadingLines, Reads, refl, Refused, register, reply_to, Row, Run, Scanned, ScriptState, shape, shown_in, Some, start, subst, sym}
-use Rattle.ksm_script.proofs.Names.{TableName, ticket_of, ticket_reply, UnknownPage, UnknownPlace, Unmerged, Vacant, Value, word_loads, ℕ, ⊎_elim, ◌++◌, ◌<◌, ◌∙◌, ◌∷◌, ◌≡◌, ◌≤◌}
+use Rattle.ksm_script.proofs.Names.{[], AllZip, Answer, ap, arith, at, Audit, AuditedBy, BadNode, BadValue, Book, both_hold, Command, commanded, CommandLines, Commands, Content, Done, Err, Found}
+use Rattle.ksm_script.proofs.Names.{frames_of, full, GivesUp, Gone, Held, HeldView, Holding, HoldsStill, Idle, idle_of, inl, inr, IsAnswerOrMemory, IsVacant, KeepsBook, length, LineReply, List}
+use Rattle.ksm_script.proofs.Names.{LooksAt, LookupLines, Memory, merged, None, NotRunning, Ok, one_holds, Option, PassState, PassView, Pruned, ReaderLog, refl, Refused, register, reply_to, Row}
+use Rattle.ksm_script.proofs.Names.{Scanned, ScriptState, shape, Some, start, subst, sym, TableName, UnknownPage, UnknownPlace, Unmerged, Vacant, word_loads, ℕ, ⊎_elim, ◌++◌, ◌<◌, ◌∙◌, ◌∷◌, ◌≡◌, ◌≤◌}
 use Rattle.ksm_base.specs.declared.command.Command.TheVariants as commands
 use Rattle.ksm_base.specs.declared.reply.Reply.TheVariants as replies
 
@@ -73,44 +72,6 @@ command_lines t =
       not_moved_dup = never m (commands.MoveDup 3 0) (Ok replies.Done) (λ e. cc e);
       bad_value = leads m (commands.SetRun 3) (Err BadValue) refl;
       not_set = never m (commands.SetRun 3) (Ok replies.Done) (λ e. cc e);
-    }
-
--- ---- readings
-
-module _ (s : ScriptState) (told : BookState → Option LineReply) where
-  reads : Reads told s (told s.book) s × ((n : ScriptState) → Reads told s (told s.book) n → n ≡ s)
-  reads = ((refl, refl), λ n d. d.1)
-
-first_word : Option LineReply → ℕ
-first_word (Some (Content (word ∷ words))) = word
-first_word _ = 0
-
-fewer : {A : Type 0} (x y : A) → (let o : Option (List A) = Some (x ∷ []) in o) ≡ Some (x ∷ y ∷ []) → ⊥
-fewer x y e = cc e
-
-pub reading_lines : (t : TableName) → ReadingLines t
-unfolding first_word
-reading_lines t =
-    let m = merged t in
-    let page = at 0 0 in
-    let content = λ (p : GuestPage) (b : BookState). let o : Option LineReply = Some (content_reply (bytes_of p b)) in o in
-    let place = λ (p : GuestPage) (b : BookState). let o : Option LineReply = Some (ticket_reply (is_known b p) (ticket_of p b)) in o in record {
-      nothing = reads m (λ b. None);
-      not_done = λ n d. cc d.0;
-      content = reads m (content page);
-      not_another = λ n d. absurd (omega (arith, ap first_word d.0));
-      no_page = reads m (content (at 7 0));
-      place = reads m (place (at 0 1));
-      not_private = λ n d. cc d.0;
-      mappers = λ pages e. ((ap (λ (l : List GuestPage). let o : Option (List GuestPage) = Some l in o) (sym e), refl), λ n d. d.1);
-      not_fewer = λ pages e n d. fewer (at 0 0) (at 0 1) (sym (d.0 ∙ ap (λ (l : List GuestPage). let o : Option (List GuestPage) = Some l in o) e));
-      not_without = λ n d. cc d.0;
-      no_memory = ((refl, refl), λ n d. d.1);
-      not_for_memory = λ n d. cc d.0;
-      no_mappers = ((refl, refl), λ n d. d.1);
-      not_empty = λ pages n d. cc d.0;
-      value = reads m (λ b. Some (Value (shown_in (OfKnob Run) b)));
-      not_zero = λ n d. cc d.0;
     }
 
 -- ---- lookups

@@ -37,10 +37,8 @@ fn found(held: Held) -> (PassState, LineReply)
     ensures state { result.0 ≡ holding held }
     ensures reply { result.1 ≡ LineReply.Held held.frame held.generation }
 {
-    let reply = LineReply::Held {
-        frame: held.frame(),
-        generation: held.generation(),
-    };
+    let (frame, generation) = (held.frame(), held.generation());
+    let reply = LineReply::Held { frame, generation };
     (PassState::Holding(held), reply)
 }
 
@@ -50,10 +48,8 @@ fn differs(held: Held) -> (PassState, LineReply)
     ensures state { result.0 ≡ holding held }
     ensures reply { result.1 ≡ LineReply.Differs held.frame held.generation }
 {
-    let reply = LineReply::Differs {
-        frame: held.frame(),
-        generation: held.generation(),
-    };
+    let (frame, generation) = (held.frame(), held.generation());
+    let reply = LineReply::Differs { frame, generation };
     (PassState::Holding(held), reply)
 }
 

@@ -87,38 +87,27 @@ pub(crate) fn put_reply<S: Sends<W>, W: Write>(writer: &mut W, reply: &LineReply
         LineReply::Place(place) => write_count::<S, _, W>(writer, b"place ", u64::from(*place)),
         LineReply::Private => write_text::<S, W>(writer, b"private\n"),
         LineReply::Mappers(pages) => write_mappers::<S, W>(writer, pages.as_slice()),
-        LineReply::Scanned { visits, stop } => write_stopped::<S, _, W>(
-            writer,
-            b"scanned ",
-            *visits,
-            *stop,
-        ),
+        LineReply::Scanned { visits, stop } => {
+            write_stopped::<S, _, W>(writer, b"scanned ", *visits, *stop)
+        }
         LineReply::Pruned(count) => write_count::<S, _, W>(writer, b"pruned ", *count),
-        LineReply::Unmerged { pages, stop } => write_stopped::<S, _, W>(
-            writer,
-            b"unmerged ",
-            *pages,
-            *stop,
-        ),
+        LineReply::Unmerged { pages, stop } => {
+            write_stopped::<S, _, W>(writer, b"unmerged ", *pages, *stop)
+        }
         LineReply::Value(value) => write_count::<S, _, W>(writer, b"", *value),
         LineReply::Counters(counters) => write_counters::<S, W>(writer, counters),
-        LineReply::Held { frame, generation } => write_held::<S, _, W>(
-            writer,
-            b"held ",
-            *frame,
-            *generation,
-        ),
+        LineReply::Held { frame, generation } => {
+            write_held::<S, _, W>(writer, b"held ", *frame, *generation)
+        }
         LineReply::Differs { frame, generation } => {
             write_held::<S, _, W>(writer, b"differs ", *frame, *generation)
         }
         LineReply::Gone(why) => write_count::<S, _, W>(writer, b"gone ", why.number()),
         LineReply::Busy => write_text::<S, W>(writer, b"busy\n"),
         LineReply::Audit(report) => write_audit::<S, W>(writer, report.rows()),
-        LineReply::Refused(refusal) => write_count::<S, _, W>(
-            writer,
-            b"refused ",
-            u64::from(refusal.number()),
-        ),
+        LineReply::Refused(refusal) => {
+            write_count::<S, _, W>(writer, b"refused ", u64::from(refusal.number()))
+        }
         LineReply::BadLine(number) => write_count::<S, _, W>(writer, b"bad line ", *number),
     }
 }

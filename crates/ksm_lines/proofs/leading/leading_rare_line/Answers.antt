@@ -9,7 +9,7 @@ pub returns-then-front-first_four : goal.returns-then-front-first_four
 returns-then-front-first_four c =
     let value = c.in_ok-value in
     line (codes "set") refl refl c.in_ok-behind_name.ensures
-    (knob_more c.in_ok-knob.ensures (number_last parts.Value value.value value.ensures.text value.ensures.fits (value.ensures.fits, refl)))
+    (knob_more c.in_ok-knob.ensures.some c.in_ok-behind.ensures.some (number_last parts.Value value.value value.ensures.text value.ensures.fits (value.ensures.fits, refl)))
 
 pub returns-then-front-first_four-2 : goal.returns-then-front-first_four-2
 returns-then-front-first_four-2 c = bare (codes "prune") (Rare Prune) refl refl c.in_ok-left.ensures

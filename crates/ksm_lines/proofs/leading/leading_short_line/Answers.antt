@@ -38,4 +38,4 @@ pub returns-then-front-first_four-8 : goal.returns-then-front-first_four-8
 returns-then-front-first_four-8 c = bare (codes "stat") (Short Stat) refl refl c.in_ok-left.ensures
 
 pub returns-then-front-first_four-9 : goal.returns-then-front-first_four-9
-returns-then-front-first_four-9 c = line (codes "show") refl refl c.in_ok-behind_name-7.ensures (shown_last c.in_ok-shown.ensures)
+returns-then-front-first_four-9 c = line (codes "show") refl refl c.in_ok-behind_name-7.ensures (shown_last c.in_ok-shown.ensures.some c.in_ok-left-2.ensures.some)

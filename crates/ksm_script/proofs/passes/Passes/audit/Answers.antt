@@ -20,22 +20,10 @@ invariant_of-self g c =
     let room : vec_len c.put_idle.new.slots ≤ vec_capacity c.replace-unused.new.dest = search rules in
     (back.0, empty, room)
 
-pub returns-clause-audits : goal.returns-clause-audits
-returns-clause-audits g c =
+pub returns : goal.returns
+returns g c =
     let count = c.audit_by-reply.ensures.count ∙ ap (λ (l : List PassView). length l) c.take_idle.ensures.idle in
     let back = put_back g.N.Naming.parts.frames c.self.inside.slots.items c.take_idle.new.slots.items c.put_idle.new.slots.items _ c.audit_by-reply.result.1.items c.self.invariant.0 c.self.view_is c.requires.own c.take_idle.ensures.slots count c.audit_by-reply.ensures.own c.put_idle.ensures.slots in
     let reply = c.audit_by-reply.result.0 in
     let audited = subst (λ (l : List PassView). AuditedBy l reply c.audit_by-reply.result.1.items) (c.take_idle.ensures.idle ∙ ap idle_of c.self.view_is) c.audit_by-reply.ensures.audited in
-    (subst (AuditedBy _ reply) (sym back.2) audited, back.1)
-
-pub returns-clause-own : goal.returns-clause-own
-returns-clause-own g c =
-    let count = c.audit_by-reply.ensures.count ∙ ap (λ (l : List PassView). length l) c.take_idle.ensures.idle in
-    let back = put_back g.N.Naming.parts.frames c.self.inside.slots.items c.take_idle.new.slots.items c.put_idle.new.slots.items _ c.audit_by-reply.result.1.items c.self.invariant.0 c.self.view_is c.requires.own c.take_idle.ensures.slots count c.audit_by-reply.ensures.own c.put_idle.ensures.slots in
-    back.3
-
-pub returns-clause-count : goal.returns-clause-count
-returns-clause-count g c =
-    let count = c.audit_by-reply.ensures.count ∙ ap (λ (l : List PassView). length l) c.take_idle.ensures.idle in
-    let back = put_back g.N.Naming.parts.frames c.self.inside.slots.items c.take_idle.new.slots.items c.put_idle.new.slots.items _ c.audit_by-reply.result.1.items c.self.invariant.0 c.self.view_is c.requires.own c.take_idle.ensures.slots count c.audit_by-reply.ensures.own c.put_idle.ensures.slots in
-    back.4
+    record { audits = (subst (AuditedBy _ reply) (sym back.1.1) audited, back.1.0); own = back.1.2; count = back.1.3 }

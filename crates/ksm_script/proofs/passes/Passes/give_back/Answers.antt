@@ -14,18 +14,13 @@ invariant_of-self c =
     let room : vec_len c.give_back_all.new.slots ≤ vec_capacity c.self.inside.room = omega (arith, c.give_back_all.ensures.len, c.self.invariant.2) in
     (all.0, c.self.invariant.1, room)
 
-pub returns-clause-given : goal.returns-clause-given
-returns-clause-given c =
-    subst (λ (l : List PassState). AllZip EndsIdle l (present c.give_back_all.new.slots.items)) c.self.view_is
-    (all_there EndsIdle c.self.inside.slots.items c.give_back_all.new.slots.items c.self.invariant.0 c.give_back_all.ensures.given).1
-
-pub returns-clause-own : goal.returns-clause-own
-returns-clause-own c = present_own (λ (s : PassState). table_of s ≡ c.args.table.now) c.give_back_all.new.slots.items c.give_back_all.ensures.own
-
-pub returns-clause-count : goal.returns-clause-count
-returns-clause-count c =
+pub returns : goal.returns
+returns c =
     let all = all_there EndsIdle c.self.inside.slots.items c.give_back_all.new.slots.items c.self.invariant.0 c.give_back_all.ensures.given in
     let now = as_many c.give_back_all.new.slots.items all.0 in
     let then = as_many c.self.inside.slots.items c.self.invariant.0 in
-    let view = ap (λ (l : List PassState). length l) c.self.view_is in
-    omega (arith, now, then, view, c.give_back_all.ensures.len, c.give_back_all.new.slots.ok.0, c.self.inside.slots.ok.0)
+    let view = ap (λ (l : List PassState). length l) c.self.view_is in record {
+      given = subst (λ (l : List PassState). AllZip EndsIdle l (present c.give_back_all.new.slots.items)) c.self.view_is all.1;
+      own = present_own (λ (s : PassState). table_of s ≡ c.args.table.now) c.give_back_all.new.slots.items c.give_back_all.ensures.own;
+      count = omega (arith, now, then, view, c.give_back_all.ensures.len, c.give_back_all.new.slots.ok.0, c.self.inside.slots.ok.0);
+    }

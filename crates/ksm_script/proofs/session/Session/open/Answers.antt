@@ -18,17 +18,14 @@ invariant_of-result g c =
     let own = are_own t t.shape.passes _ (are_idle t c.table.result.now _ _ _ c.new-passes.ensures c.table.ensures count) in
     (sym (ap (λ (p : PartsId). p.callers) c.requires.name) ∙ c.requires.alone, own.0, own.1)
 
-pub returns-clause-book : goal.returns-clause-book
-returns-clause-book g c =
-    ap (λ (seen : List Owned). replay (opening g.N.Naming.parts.frames.shape) (entries seen)) (share_new _ _ _ _ (sym (ap (λ (p : PartsId). p.callers) c.requires.name) ∙ c.requires.alone) c.in-Ok-open.ensures.shares c.in-Some.ensures.items)
-
-pub returns-clause-journal : goal.returns-clause-journal
-returns-clause-journal g c =
-    ap entries (share_new _ _ _ _ (sym (ap (λ (p : PartsId). p.callers) c.requires.name) ∙ c.requires.alone) c.in-Ok-open.ensures.shares c.in-Some.ensures.items)
-
-pub returns-clause-passes : goal.returns-clause-passes
-returns-clause-passes g c =
+pub returns : goal.returns
+returns g c =
     let t = g.N.Naming.parts.frames in
     let long = ap (λ (l : List PassView). length l) c.in-Ok-open.ensures.passes ∙ length-replicate t.shape.passes (new_pass t) in
     let count : vec_len c.in-Ok-open.opened.1 ≡ t.shape.passes = omega (arith, long, c.in-Ok-open.opened.1.ok.0) in
-    are_idle t c.table.result.now _ _ _ c.new-passes.ensures c.table.ensures count
+    let new = share_new _ _ _ _ (sym (ap (λ (p : PartsId). p.callers) c.requires.name) ∙ c.requires.alone) c.in-Ok-open.ensures.shares c.in-Some.ensures.items in record {
+      book = ap (λ (seen : List Owned). replay (opening t.shape) (entries seen)) new;
+      journal = ap entries new;
+      passes = are_idle t c.table.result.now _ _ _ c.new-passes.ensures c.table.ensures count;
+      memory = tt;
+    }
