@@ -13,7 +13,7 @@ ghost use Rattle.ksm_base.specs.Visit.{after_cursor};
 ghost use Rattle.ksm_rmap.specs.Items.{has_item};
 
 use ksm_base::{Fault, GuestPage};
-use ksm_pages::{Order, Spot};
+use ksm_pages::{ShortOrder, Spot};
 use std::alloc::Global;
 use std::marker::Model;
 use std::mem::replace;
@@ -25,7 +25,7 @@ use std::mem::replace;
 #[derive(Drop)]
 pub struct Due {
     alloc: Global,
-    order: Order,
+    order: ShortOrder,
     added: Vec<Spot>,
     known: bool,
     room: usize,
@@ -55,7 +55,7 @@ impl Due {
     {
         Due {
             alloc,
-            order: Order::new(alloc),
+            order: ShortOrder::new(alloc),
             added: Vec::new(alloc),
             known: false,
             room: 0,
@@ -89,7 +89,7 @@ impl Due {
     pub fn begin(&mut self, room: usize)
         ensures { self.new ≡ record { pages = []; known = true; ready = true } }
     {
-        self.order = Order::new(self.alloc);
+        self.order = ShortOrder::new(self.alloc);
         self.added.clear();
         self.known = true;
         self.room = room;

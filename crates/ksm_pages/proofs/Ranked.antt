@@ -1,6 +1,6 @@
 -- The pages in order as the items that are kept for them: what stands before a key, what comes behind it, and in between.
 use Rattle.ksm_pages.proofs.Names.{after_cursor, All, All-head, All-tail, ap, arith, Bool, comes_before, count_by, count_none, drop, false, filter, filter_all, find, get_or, GuestPage, if◌then◌else◌}
-use Rattle.ksm_pages.proofs.Names.{is_of, is_some, key_of, last_of, length, length-filter, length-map, List, map, marked, Named, named_by, nat_lt, nat_tests, None, not, Option, option_map, page_of}
+use Rattle.ksm_pages.proofs.Names.{is_of, is_some, key_of, last_of, length, length-filter, length-map, List, map, map-append, marked, Named, named_by, nat_lt, nat_tests, None, not, Option, option_map, page_of}
 use Rattle.ksm_pages.proofs.Names.{pages_behind, pages_between, pairs_head, pairs_tail, refl, rules, slice_get, slice_get-get_or, slice_get-map, slice_get_past, Some, suc, sym, take, true, visited}
 use Rattle.ksm_pages.proofs.Names.{with_named, zero, ℕ, [], ◌&&◌, ◌+◌, ◌-◌, ◌<◌, ◌^◌, ◌∙◌, ◌∷◌, ◌≡◌, ◌≤◌}
 use Rattle.std.proofs.lemmas.List.{drop-map, length-drop, length-take-le, nil_from_length, take-map}
@@ -24,6 +24,12 @@ module _ (page : GuestPage) (few : page.page < 2 ^ 32) where
 
   pub behind_its : (x : Item) → comes_before page (named_by x).page ≡ nat_lt (key_of page) x.key
   behind_its x = grind arith
+
+  -- with the page put in among others, what is kept has its item
+  pub put_its : (value : ℕ) (items : List Item)
+      → with_named (record { page = page; key = value; mergeable = true }) (map named_by items)
+      ≡ map named_by (with_item (record { key = key_of page; value = value; marked = true }) items)
+  put_its value items = grind (arith, filter_mapped, before_its, behind_its, map-append)
 
 -- ---------------------------------------------------------------- all pages and all items
 

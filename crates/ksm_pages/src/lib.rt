@@ -21,7 +21,7 @@ mod visited;
 
 pub use ahead::Ahead;
 pub use named::Named;
-pub use order::Order;
+pub use order::{Order, ShortOrder};
 pub use pages::{Find, Glance, Held, Pages};
 pub use restless::Restless;
 pub use row::Spot;

@@ -14,17 +14,21 @@ use ksm_order::{Item, Leaf, Node, Part};
 use std::alloc::Global;
 use std::marker::Model;
 
-/// Pages in order, each with the key of its row, and whether a scan visits it.
+/// Pages in order, each with the key of its row, and whether a scan visits it: parts of some height side by side.
 ///
-/// No call costs more than the logarithm of the number of pages, in whatever order they came, and of however many
-/// guests they are.
+/// Where the parts are as high as they are for all pages, no call costs more than the logarithm of the number of pages,
+/// in whatever order they came, and of however many guests they are. Over lower parts a call passes through fewer
+/// heights, and a part that is cut in two moves more of the others.
 #[derive(Drop)]
-pub struct Order {
-    pages: Node<Node<Node<Leaf>>>,
+pub struct Order<P: Part = Node<Node<Leaf>>> {
+    pages: Node<P>,
     len: usize,
 }
 
-impl Model for Order {
+/// Pages of which there are few, and whose rank nobody asks for.
+pub type ShortOrder = Order<Leaf>;
+
+impl<P: Part> Model for Order<P> {
     ghost use Rattle.std.specs.Prelude.{List, map};
     ghost use Rattle.ksm_pages.specs.declared.named.Named.{Named};
     ghost use Rattle.ksm_pages.specs.Ordered.{IsOrder, named_by};
@@ -79,9 +83,9 @@ fn named_by(item: Item) -> Named
     }
 }
 
-impl Order {
+impl<P: Part> Order<P> {
     /// No pages.
-    pub fn new(alloc: Global) -> Order
+    pub fn new(alloc: Global) -> Order<P>
         ensures { result ≡ [] }
     {
         Order {

@@ -6,21 +6,23 @@ use Rattle.ksm_pages.proofs.order.Order.ahead.Goals as goal
 use Rattle.ksm_pages.proofs.order.Order.ahead.Goals.{After-count}
 
 -- as many are ahead as are visited and not passed
-many : (c : After-count) → length (pages_behind c.args.cursor (visited c.args.self.now)) ≡ c.count.result - c.passed-passed.result
-many c = search (rules, length-drop, visited_many)
+many : (g : _) (c : After-count g) → length (pages_behind c.args.cursor (visited c.args.self.now)) ≡ c.count.result - c.passed-passed.result
+many g c = search (rules, length-drop, visited_many)
 
 pub overflow_sub-left : goal.overflow_sub-left
-overflow_sub-left c = search (rules, visited_many)
+overflow_sub-left g c = search (rules, visited_many)
 
 pub returns-then-left-visits : goal.returns-then-left-visits
-returns-then-left-visits c = grind (arith, many)
+returns-then-left-visits g c =
+    let a = (goal.at.returns-then-left-visits g c).After-count in grind (arith, many g a)
 
 pub page_of-requires : goal.page_of-requires
-page_of-requires c = small_at (λ n. n < 2 ^ 48) _ _
+page_of-requires g c = small_at (λ n. n < 2 ^ 48) _ _
     (All-filter _ (λ (x : Item). x.key < 2 ^ 48) _ c.self.invariant.small) (sym c.nth.ensures ∙ c.in-Some.is)
 
 pub returns-in-Some : goal.returns-in-Some
-returns-in-Some c = search (rules, many, get_dropped, visited_at)
+returns-in-Some g c =
+    let a = (goal.at.returns-in-Some g c).After-count in search (rules, many g a, get_dropped, visited_at)
 
 pub returns-in-None : goal.returns-in-None
-returns-in-None c = search (rules, some_at, length-filter)
+returns-in-None g c = search (rules, some_at, length-filter)

@@ -6,42 +6,44 @@ use Rattle.ksm_pages.proofs.Ranked.{passed_last, passed_many, passed_none, small
 use Rattle.ksm_pages.proofs.order.Order.between.Goals as goal
 use Rattle.ksm_pages.proofs.order.Order.between.Goals.{After-up_to-before}
 
-before : (c : After-up_to-before) → c.up_to-before.result ≡ up_to (key_of c.args.page) c.self.inside.pages
-before c = c.up_to-before.ensures ∙ ap (λ n. up_to n c.self.inside.pages) c.key_of.ensures.key
+before : (g : _) (c : After-up_to-before g) → c.up_to-before.result ≡ up_to (key_of c.args.page) c.self.inside.pages
+before g c = c.up_to-before.ensures ∙ ap (λ n. up_to n c.self.inside.pages) c.key_of.ensures.key
 
 -- so many come in between
-many : (c : After-up_to-before) → length (pages_between c.args.cursor c.args.page (visited c.args.self.now)) ≡ c.up_to-before.result - c.passed-passed.result
-many c = search (rules, passed_many)
+many : (g : _) (c : After-up_to-before g) → length (pages_between c.args.cursor c.args.page (visited c.args.self.now)) ≡ c.up_to-before.result - c.passed-passed.result
+many g c = search (rules, passed_many)
 
 pub returns-then-before-passed-clause-count : goal.returns-then-before-passed-clause-count
-returns-then-before-passed-clause-count c = search (rules, many)
+returns-then-before-passed-clause-count g c =
+    let a = (goal.at.returns-then-before-passed-clause-count g c).After-up_to-before in search (rules, many g a)
 
 pub returns-then-before-passed-clause-last : goal.returns-then-before-passed-clause-last
-returns-then-before-passed-clause-last c =
+returns-then-before-passed-clause-last g c =
     sym (ap (last_of c.args.cursor) (passed_none _ c.self.view_is _ _ c.key_of.ensures.few c.self.invariant.ascending
     _ c.passed-passed.ensures.ahead (grind (arith, before)) c.if-before-passed.true))
 
 pub page_of-requires : goal.page_of-requires
-page_of-requires c = small_at (λ n. n < 2 ^ 48) _ _
+page_of-requires g c = small_at (λ n. n < 2 ^ 48) _ _
     (All-filter _ (λ (x : Item). x.key < 2 ^ 48) _ c.self.invariant.small) (sym c.nth.ensures ∙ c.in-Some.is)
 
 pub returns-in-Some-clause-count : goal.returns-in-Some-clause-count
-returns-in-Some-clause-count c = search (rules, many)
+returns-in-Some-clause-count g c =
+    let a = (goal.at.returns-in-Some-clause-count g c).After-up_to-before in search (rules, many g a)
 
 pub returns-in-Some-clause-last : goal.returns-in-Some-clause-last
-returns-in-Some-clause-last c =
-    let a = (goal.at.returns-in-Some-clause-last c).After-up_to-before in
+returns-in-Some-clause-last g c =
+    let a = (goal.at.returns-in-Some-clause-last g c).After-up_to-before in
     ap Some c.page_of.ensures
     ∙ sym (passed_last _ c.self.view_is _ _ c.key_of.ensures.few c.self.invariant.ascending
-    _ c.passed-passed.ensures.ahead (before a) (omega arith) (sym c.nth.ensures ∙ c.in-Some.is))
+    _ c.passed-passed.ensures.ahead (before g a) (omega arith) (sym c.nth.ensures ∙ c.in-Some.is))
 
-no_such : (c : goal.In-None) → ⊥
-no_such c =
+no_such : (g : _) (c : goal.In-None g) → ⊥
+no_such g c =
     let items = c.self.inside.pages in
     some_at (marked items) _ (omega (arith, c.if-before-passed.false, c.up_to-before.ensures, up_to_few c.key_of.result items, length-filter (λ (x : Item). x.marked) items)) (sym c.nth.ensures ∙ c.in-None.is)
 
 pub returns-in-None-clause-count : goal.returns-in-None-clause-count
-returns-in-None-clause-count c = absurd (no_such c)
+returns-in-None-clause-count g c = absurd (no_such g c)
 
 pub returns-in-None-clause-last : goal.returns-in-None-clause-last
-returns-in-None-clause-last c = absurd (no_such c)
+returns-in-None-clause-last g c = absurd (no_such g c)

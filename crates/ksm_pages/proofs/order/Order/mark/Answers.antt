@@ -5,7 +5,7 @@ use Rattle.ksm_pages.proofs.Ranked.{marked_by}
 use Rattle.ksm_pages.proofs.order.Order.mark.Goals as goal
 
 pub invariant_of-self : goal.invariant_of-self
-invariant_of-self c =
+invariant_of-self g c =
     let key = c.key_of.result in
     let mark = c.args.mergeable in
     let Small : Item → Type 0 = λ y. y.key < 2 ^ 48 in
@@ -16,4 +16,4 @@ invariant_of-self c =
     }
 
 pub returns : goal.returns
-returns c = search (rules, marked_by)
+returns g c = search (rules, marked_by)

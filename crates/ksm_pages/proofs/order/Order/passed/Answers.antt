@@ -4,7 +4,7 @@ use Rattle.ksm_pages.proofs.Ranked.{behind_is, visited_many}
 use Rattle.ksm_pages.proofs.order.Order.passed.Goals as goal
 
 pub returns-in-Some : goal.returns-in-Some
-returns-in-Some c =
+returns-in-Some g c =
     let items = c.self.inside.pages in
     record {
       ahead = behind_is items c.self.view_is c.args.cursor c.from_of.result c.from_of.ensures c.self.invariant.ascending
@@ -13,4 +13,4 @@ returns-in-Some c =
     }
 
 pub returns-in-None-clause-ahead : goal.returns-in-None-clause-ahead
-returns-in-None-clause-ahead c = grind (arith, filter_all)
+returns-in-None-clause-ahead g c = grind (arith, filter_all)

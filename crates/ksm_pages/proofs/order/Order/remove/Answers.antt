@@ -8,7 +8,7 @@ use Rattle.ksm_pages.proofs.Ranked.{found_by, gone_one, is_its}
 use Rattle.ksm_pages.proofs.order.Order.remove.Goals as goal
 
 pub invariant_of-self : goal.invariant_of-self
-invariant_of-self c =
+invariant_of-self g c =
     let there =
     ap (λ n. is_some (find (is_at n) c.self.inside.pages)) c.key_of.ensures.key
     ∙ sym (some_mapped _ _)
@@ -21,4 +21,4 @@ invariant_of-self c =
     }
 
 pub returns : goal.returns
-returns c = grind (arith, filter_mapped, is_its)
+returns g c = grind (arith, filter_mapped, is_its)
