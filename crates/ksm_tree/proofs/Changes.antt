@@ -1,7 +1,7 @@
 -- Dups and their rows: what a dup that comes or goes and a change of items changes of the rows, and where a dup is found.
 use Rattle.ksm_tree.proofs.Names.{All, ap, arith, Bool, change_at, change_items, Dup, dup_of, DupRow, filter, find, find_passes, get_or-map, GuestPage, has_number, if◌then◌else◌, InPlaceOrder}
-use Rattle.ksm_tree.proofs.Names.{length-map, let_out, List, map, map-append, Merged, None, not, Option, option_map, PageState, Private, refl, rows_of, Some, stands_at, subst, sym, Waiting, with_dup}
-use Rattle.ksm_tree.proofs.Names.{with_new, without_place, Zero, ℕ, [], ◌==◌, ◌∙◌, ◌∷◌, ◌≡◌}
+use Rattle.ksm_tree.proofs.Names.{length-map, let_out, List, map, map-append, Merged, None, not, Option, option_map, PageState, refl, rows_of, Some, stands_at, subst, sym, with_dup}
+use Rattle.ksm_tree.proofs.Names.{with_new, without_place, ℕ, [], ◌==◌, ◌∙◌, ◌∷◌, ◌≡◌}
 use Rattle.ksm_tree.proofs.Alike.{filter_mapped, find_mapped}
 use Rattle.ksm_tree.proofs.Rows.{alone}
 
@@ -27,10 +27,8 @@ rows_items number = rows_same _
 
 -- a page let out of its dup changes no row
 pub rows_out : (state : PageState) (page : GuestPage) (dups : List Dup) → rows_of (let_out state page dups) ≡ rows_of dups
-rows_out Private page dups = refl
-rows_out Waiting page dups = refl
-rows_out Zero page dups = refl
 rows_out (Merged number) page dups = rows_items _ _ _
+rows_out state page dups = refl
 
 -- a dup is found where its row is
 pub row_found : (test : Dup → Bool) (by : DupRow → Bool) → ((d : Dup) → test d ≡ by d.row) → (dups : List Dup) → option_map (λ d. d.row) (find test dups) ≡ find by (rows_of dups)

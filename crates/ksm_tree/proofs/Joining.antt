@@ -1,11 +1,12 @@
 -- The best dup to join: a walk over a group, keeping the better of two, ends at the one that the definition chooses of all.
-use Rattle.ksm_tree.proofs.Names.{add-one, All, All-filter, All-map, ap, ArePlacesToJoin, arith, best_of, Bool, cases_Bool, cond, drop, drop-cons, Dup, dup_at, false, filter, filter_map}
+use Rattle.ksm_tree.proofs.Names.{add-one, All, All-filter, All-map, ap, ArePlacesToJoin, arith, best_of, Bool, candidate_of, cases_Bool, cond, drop, drop-cons, Dup, dup_at, false, filter, filter_map}
 use Rattle.ksm_tree.proofs.Names.{filter_passes, find, get_or, group_places, if◌then◌else◌, in_group, inl, InPlaceOrder, inr, is_no_worse, is_open, items_in, length, List, list_all, map, may_join}
-use Rattle.ksm_tree.proofs.Names.{nat_le, nat_lt, nat_tests, None, not, of_group, Option, pairs_head, pairs_tail, refl, rows_of, Some, suc, sym, true, unless_behind, zero, ℕ, [], ◌%◌, ◌&&◌, ◌+◌, ◌-◌}
+use Rattle.ksm_tree.proofs.Names.{nat_le, nat_lt, nat_tests, None, not, Option, pairs_head, pairs_tail, refl, rows_of, Some, suc, sym, true, zero, ℕ, [], ◌%◌, ◌&&◌, ◌+◌, ◌-◌}
 use Rattle.ksm_tree.proofs.Names.{◌<◌, ◌==◌, ◌^◌, ◌||◌, ◌∙◌, ◌∷◌, ◌≡◌, ◌≤◌}
 use Rattle.ksm_tree.proofs.Alike.{filter_mapped, map_mapped}
 use Rattle.ksm_tree.proofs.Changes.{all_rows}
 use Rattle.ksm_base.proofs.Orders.{Lower}
+use Rattle.std.specs.Option.{option_or}
 
 -- a walk that keeps the better of two, over dups that pass a test
 module _ (may : Dup → Bool) where
@@ -86,11 +87,6 @@ abbrev pub least_of : Option Dup → ℕ
 least_of None = 1
 least_of (Some d) = length d.items
 
--- the dup that is taken, or where there is none the best so far
-abbrev pub or_else : Option Dup → Option Dup → Option Dup
-or_else acc None = acc
-or_else acc (Some d) = Some d
-
 -- one comparison tells of a count whether it is the least or more, and below the limit
 pub in_room : (items least limit : ℕ) → items < 2 ^ 32 → least < 2 ^ 32 → limit < 2 ^ 32
     → nat_lt ((items + (2 ^ 32 - least)) % 2 ^ 32) (limit - least) ≡ (nat_le least items && nat_lt items limit)
@@ -103,7 +99,7 @@ module _ (t : ℕ) (b : List ℕ) (limit : ℕ) (dups : List Dup) where
 
   -- the dup at a place is taken where it is the better one
   pub stepped : (acc : Option Dup) (places : List ℕ) (i : ℕ) {items least : ℕ} → i < length places → items ≡ length (items_in (dup_at (get_or places i 0) dups)) → least ≡ least_of acc → 1 ≤ least
-      → walked_at (if nat_le least items && nat_lt items limit then or_else acc (unless_behind (if items == least then acc else None) (of_group t b (dup_at (get_or places i 0) dups))) else acc) (drop (i + 1) places)
+      → walked_at (if nat_le least items && nat_lt items limit then option_or (candidate_of t b (if items == least then acc else None) false (dup_at (get_or places i 0) dups)) acc else acc) (drop (i + 1) places)
       ≡ walked_at acc (drop i places)
   stepped acc places i within has is one =
       let rest : drop i places ≡ get_or places i 0 ∷ drop (i + 1) places = rw (add-one, drop-cons places i 0) in
@@ -130,10 +126,9 @@ module _ (t : ℕ) (b : List ℕ) (limit : ℕ) (dups : List Dup) where
       each_found = All-filter (tried is_chain) (λ d. dup_at d.row.place dups ≡ Some d) dups (found_self dups rise)
 
       -- a dup of the chain needs no comparison: its place is one of the group
-      pub candidate_is : (i : ℕ) → i < length found → (if is_chain then dup_at (get_or found i 0) dups else of_group t b (dup_at (get_or found i 0) dups)) ≡ of_group t b (dup_at (get_or found i 0) dups)
-      candidate_is i within =
-          let Same : ℕ → Type 0 =
-          λ p. (if is_chain then dup_at p dups else of_group t b (dup_at p dups)) ≡ of_group t b (dup_at p dups) in
+      pub candidate_is : (rival : Option Dup) (i : ℕ) → i < length found → candidate_of t b rival is_chain (dup_at (get_or found i 0) dups) ≡ candidate_of t b rival false (dup_at (get_or found i 0) dups)
+      candidate_is rival i within =
+          let Same : ℕ → Type 0 = λ p. candidate_of t b rival is_chain (dup_at p dups) ≡ candidate_of t b rival false (dup_at p dups) in
           let each : All Same found = rw (listed found is_chain join)
           (All-map Same (λ d. d.row.place) (filter (tried is_chain) dups)
           (λ k d lt. grind (arith, each_found k d lt, filter_passes (tried is_chain) dups k d lt))) in
@@ -156,7 +151,3 @@ module _ (t : ℕ) (b : List ℕ) (limit : ℕ) (dups : List Dup) where
   -- where none of the dups at the places of a tree and bytes is open, none is best
   pub closed_best : {places : List ℕ} → InPlaceOrder (rows_of dups) → places ≡ group_places t b (rows_of dups) → All (λ p. is_open limit (length (items_in (dup_at p dups))) ≡ false) places → best_of t b limit dups ≡ None
   closed_best {places} rise group closed = sym (walk_best places true group rise) ∙ none_walked places closed
-
-  -- where a tree and bytes have no place, no dup of theirs is best
-  pub none_best : InPlaceOrder (rows_of dups) → [] ≡ group_places t b (rows_of dups) → None ≡ best_of t b limit dups
-  none_best rise none = walk_best [] true none rise

@@ -1,11 +1,11 @@
 -- The definitions, and the laws of the libraries and crates below, by their names, for proofs.
-pub use Rattle.ksm_base.proofs.Edits.{count-append, count_more, count_none, find_all, find_none, find_nothing, find_over, find_passes}
+pub use Rattle.ksm_base.proofs.Edits.{count-append, count_more, count_none, find_all, find_none, find_nothing, find_passes}
 pub use Rattle.ksm_base.proofs.Orders.{filter_none, ordered_map, pairs_head, pairs_tail}
 pub use Rattle.ksm_base.proofs.Pages.{same_page_refl}
 pub use Rattle.ksm_base.proofs.RowCounts.{each_at_page, filter_all}
 pub use Rattle.ksm_base.specs.Counting.{group_size, in_chain, leads_group}
 pub use Rattle.ksm_base.specs.Reading.{items_of}
-pub use Rattle.ksm_base.specs.Rows.{change_row, change_rows, comes_before, has_items, InPageOrder, InPlaceOrder, item_count, merged_into, merged_state, row_at, same_group, same_page, waiting_state}
+pub use Rattle.ksm_base.specs.Rows.{change_row, comes_before, has_items, InPageOrder, InPlaceOrder, item_count, merged_into, merged_state, row_at, same_group, same_page, waiting_state}
 pub use Rattle.ksm_base.specs.Rows.{with_dup, with_row, without_page}
 pub use Rattle.ksm_base.specs.State.{tree_of}
 pub use Rattle.ksm_base.specs.Visit.{best_dup, empty_from, new_place, partner}
@@ -22,13 +22,13 @@ pub use Rattle.ksm_rmap.proofs.Pages.{pages_ordered}
 pub use Rattle.ksm_rmap.specs.Items.{has_item, with_item, without_item}
 pub use Rattle.ksm_tree.specs.Bridge.{AreCounted, AreTied, let_out, place_in}
 pub use Rattle.ksm_tree.specs.Chains.{AreChained, dups_seen, group_places, in_group}
-pub use Rattle.ksm_tree.specs.Choosing.{ArePlacesToJoin, best_of, choice_of, empty_place, found_at, is_best, is_no_worse, may_join, of_group, unless_behind}
+pub use Rattle.ksm_tree.specs.Choosing.{ArePlacesToJoin, best_of, candidate_of, choice_of, empty_place, found_at, is_best, is_no_worse, may_join}
 pub use Rattle.ksm_tree.specs.CountedSets.{IsMarked, MayBeMarked}
 pub use Rattle.ksm_tree.specs.Counts.{is_open, places_where}
 pub use Rattle.ksm_tree.specs.Dups.{change_items, dup_at, dup_of, DupsState, has_number, is_live, is_stale, items_in, places_open, rows_of, stands_at, with_new, without_place}
 pub use Rattle.ksm_tree.specs.Grouping.{AreGroups, content_in, is_occupied, IsIdle, places_in, waits_in}
-pub use Rattle.ksm_tree.specs.Groups.{chain_in, HasRoomAt, is_used_in, IsAsWas, IsCounted, IsCountedAnew, IsSwept, SameChains, SameWaits, StandsAsWas, under, waiting_in}
-pub use Rattle.ksm_tree.specs.NumberSets.{AreSummed, has, HasBelow, HasNoBit, HasNone, IsLeast, IsLowestBit, IsSummed, Marks}
+pub use Rattle.ksm_tree.specs.Groups.{chain_in, is_used_in, IsAsWas, IsCountedAnew, IsSwept, SameChains, SameWaits, StandsAsWas, under, waiting_in}
+pub use Rattle.ksm_tree.specs.NumberSets.{AreSummed, has, HasNoBit, HasNone, IsLeast, IsLowestBit, IsSummed, Marks}
 pub use Rattle.ksm_tree.specs.Numbered.{AreNumbered, content_of, content_order, IsUnused, number_of, Numbers}
 pub use Rattle.ksm_tree.specs.Places.{with_place, without}
 pub use Rattle.ksm_tree.specs.Shelf.{change_items_of, change_slot, has_room, kept_at, ShelfState, slots_by}

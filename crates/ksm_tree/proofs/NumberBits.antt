@@ -12,10 +12,7 @@ module _ (words : List ℕ) where
   further from at none found h = grind arith
 
   module _ {upper : List ℕ} (h : IsSummed words upper) where
-    -- a word whose number is in the upper set is not 0, and stands among the words
-    word_set : (w : ℕ) → w < 64 * length upper → has upper w ≡ true → get_or words w 0 ≢ 0
-    word_set w low one zero = grind arith
-
+    -- a word that is not 0 stands among the words
     word_within : (w : ℕ) → get_or words w 0 ≢ 0 → w < length words
     word_within w some = grind (arith, get_or_past)
 

@@ -1,7 +1,8 @@
 -- Slots that are all empty, the open places as the counts change, and counts over the slots.
 use Rattle.ksm_tree.proofs.Names.{ArePlaced, arith, Bool, cond, count_by, count_in, count_more, CountedSet, Dup, get_or-replicate, has, holds, is_empty_slot, is_live, is_open, is_stale, IsSetOf}
-use Rattle.ksm_tree.proofs.Names.{length, List, map, None, Option, places_open, places_where, present, refl, replicate, Some, suc, sym, zero, zero-mul, ℕ, [], ◌*◌, ◌+◌, ◌<◌, ◌∷◌, ◌≡◌, ◌≤◌}
+use Rattle.ksm_tree.proofs.Names.{length, List, map, None, Option, places_open, places_where, present, refl, replicate, Some, suc, zero, ℕ, [], ◌*◌, ◌+◌, ◌<◌, ◌∷◌, ◌≡◌, ◌≤◌}
 use Rattle.std.proofs.lemmas.List.{length-replicate}
+use Rattle.std.proofs.lemmas.List.Folds.{sum_by-replicate}
 
 -- a list of n empty slots
 abbrev pub none_of : ℕ → List (Option Dup)
@@ -16,23 +17,14 @@ pub none_placed : (k n : ℕ) → ArePlaced k (none_of n)
 none_placed k zero = tt
 none_placed k (suc n) = none_placed _ n
 
-none_passes : (test : Option Dup → Bool) (n : ℕ) → count_by test (none_of n) ≡ n * cond (test None) 1 0
-none_passes test zero = sym (zero-mul (cond (test None) 1 0))
-none_passes test (suc n) = grind (arith, none_passes test n, count_more)
-
 -- a set that has all of so many places, or none, is that of the empty slots that pass a test
 pub none_set : {test : Option Dup → Bool} (n : ℕ) {places : CountedSet} → n ≤ 64 * length places.set → ((p : ℕ) → p < n → has places.set p ≡ test None) → places.count ≡ n * cond (test None) 1 0 → IsSetOf test (none_of n) places
-none_set n wide each count = grind (arith, length-replicate, get_or-replicate, none_passes)
+none_set n wide each count = grind (arith, length-replicate, get_or-replicate, sum_by-replicate)
 
 -- in empty slots no place has an item
 pub none_counted : (n : ℕ) → replicate n 0 ≡ map count_in (none_of n)
 none_counted zero = refl
 none_counted (suc n) = grind (arith, none_counted n)
-
--- where no place has an item, none is open
-pub none_open : (limit k n : ℕ) → places_where (is_open limit) k (replicate n 0) ≡ []
-none_open limit k zero = refl
-none_open limit k (suc n) = grind (arith, none_open limit (suc k) n)
 
 -- by the limit 0 no place is open
 pub none_kept : (k : ℕ) (counts : List ℕ) → places_where (is_open 0) k counts ≡ []
@@ -58,9 +50,3 @@ three_kinds [] = refl
 three_kinds (None ∷ slots) = grind (arith, count_more is_empty_slot None slots, three_kinds slots)
 three_kinds (Some d ∷ slots) =
     grind (arith, count_more (holds is_stale) (Some d) slots, count_more is_live d (present slots), three_kinds slots)
-
--- what the slots say of how many dups there are of each kind
-pub ruleset counts = (open_seen, stale_slots, three_kinds)
-
--- where no place is open
-pub ruleset none = (none_kept, none_open)

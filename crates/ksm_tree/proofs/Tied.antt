@@ -1,9 +1,9 @@
 -- The pages of the rows merged into a dup, after a change of one row.
 use Rattle.ksm_tree.proofs.Alike.{change_none, chosen, kept_append}
-use Rattle.ksm_rmap.proofs.Ordered.{absent_parts, found_parts, none_same, none_same_low, without_between}
-use Rattle.ksm_tree.proofs.Names.{absent_kept, All, ap, AreCounted, AreTied, arith, Bool, change_row, comes_before, Dup, DupRow, false, filter, filter_passes, find_passes, GuestPage, InPageOrder}
-use Rattle.ksm_tree.proofs.Names.{is_some, items_of, length-filter, length-map, List, map, map-append, merged_into, None, not, Option, pages_ordered, refl, Row, row_at, same_page, Some, suc, sym}
-use Rattle.ksm_tree.proofs.Names.{true, with_item, without_item, without_page, [], ◌++◌, ◌∙◌, ◌∷◌, ◌≡◌}
+use Rattle.ksm_rmap.proofs.Ordered.{found_parts, none_same, none_same_low}
+use Rattle.ksm_tree.proofs.Names.{All, AreCounted, AreTied, arith, Bool, change_row, comes_before, Dup, DupRow, false, filter, filter_passes, find_passes, GuestPage, InPageOrder, is_some, items_of}
+use Rattle.ksm_tree.proofs.Names.{length-filter, length-map, List, map, map-append, merged_into, None, not, Option, pages_ordered, refl, Row, row_at, same_page, Some, suc, true, with_item, without_item}
+use Rattle.ksm_tree.proofs.Names.{without_page, [], ◌++◌, ◌∷◌, ◌≡◌}
 
 abbrev pub page_of : Row → GuestPage
 page_of r = r.page
@@ -30,19 +30,7 @@ module _ (page : GuestPage) where
           let parts = found_parts pages_ordered page_of page rows r rise found in
           grind (arith, map-append, find_passes (λ s. same_page s.page page) rows)
 
-  -- in the order of pages, the rows of pages other than one are those ahead of that page, then those behind
-  pub without_splits : (rows : List Row) → InPageOrder rows → without_page page rows ≡ filter ahead rows ++ filter behind rows
-  without_splits rows rise = go _ refl
-    where
-      go : (o : Option Row) → row_at page rows ≡ o → without_page page rows ≡ filter ahead rows ++ filter behind rows
-      go None none = sym (absent_kept pages_ordered _ page _ none) ∙ absent_parts pages_ordered _ page _ rise none
-      go (Some r) found =
-          ap (without_page page) (found_parts pages_ordered page_of page rows r rise found)
-          ∙ without_between pages_ordered page_of page _ (r ∷ []) _ (filter_passes ahead rows)
-          (filter_passes behind rows)
-          ∙ rw (find_passes _ rows r found) refl
-
-module _ (rows : List Row) (d : DupRow) (rise : InPageOrder rows) (page : GuestPage) where
+module _ (rows : List Row) (d : DupRow) (page : GuestPage) where
   abbrev merged : Row → Bool
   merged r = merged_into d.number r.state
 
@@ -51,13 +39,13 @@ module _ (rows : List Row) (d : DupRow) (rise : InPageOrder rows) (page : GuestP
   items_dropped = chosen page_of merged (λ p. not (same_page p page)) rows
 
   -- the items of a dup have the page once the page's row is merged into it
-  pub items_joined : (new : Row) → new.page ≡ page → is_some (row_at page rows) ≡ true → merged new ≡ true → items_of (change_row page (λ _. new) rows) d ≡ with_item page (items_of rows d)
-  items_joined new at there passes = grind (arith, change_splits page new rows rise, kept_append, chosen page_of merged)
+  pub items_joined : InPageOrder rows → (new : Row) → new.page ≡ page → is_some (row_at page rows) ≡ true → merged new ≡ true → items_of (change_row page (λ _. new) rows) d ≡ with_item page (items_of rows d)
+  items_joined rise new at there passes = grind (arith, change_splits page new rows rise, kept_append, chosen page_of merged)
 
-  -- the items of a dup are without the page once the page's row is not merged into it
-  pub items_left : (new : Row) → is_some (row_at page rows) ≡ true → merged new ≡ false → items_of (change_row page (λ _. new) rows) d ≡ without_item page (items_of rows d)
-  items_left new there fails =
-      grind (arith, change_splits page new rows rise there, kept_append, without_splits page rows rise, items_dropped)
+-- the items of a dup are without the page once the page's row is not merged into it
+pub items_left : (rows : List Row) (d : DupRow) (page : GuestPage) (new : Row) → merged_into d.number new.state ≡ false → items_of (change_row page (λ _. new) rows) d ≡ without_item page (items_of rows d)
+items_left [] d page new fails = refl
+items_left (r ∷ rows) d page new fails = grind (arith, items_left rows d page new)
 
 -- the items of a dup stay where each row changes but for its page and its dup
 pub items_kept : (rows : List Row) (d : DupRow) (f : Row → Row) → All (λ r. ((f r).page ≡ r.page) × (merged_into d.number (f r).state ≡ merged_into d.number r.state)) rows → items_of (map f rows) d ≡ items_of rows d

@@ -1,12 +1,14 @@
 -- The items of each dup stay the pages of the rows merged into it: the dups after a change of one row, and after a change of all.
 use Rattle.ksm_tree.proofs.Names.{absent_kept, All, All-append, All-cons, All-filter, All-map, ap, AreTied, arith, change_items, change_row, Dup, dup_of, DupRow, each_at_page, eqb-true, false}
-use Rattle.ksm_tree.proofs.Names.{filter_all, filter_none, find_all, find_none, find_passes, GuestPage, has_item, InPageOrder, is_some, item_count, items_in, items_of, length, let_out, List, map}
-use Rattle.ksm_tree.proofs.Names.{Merged, merged_into, merged_state, None, none_found, not, Option, ordered_map, pages_ordered, PageState, Private, refl, Row, row_at, rows_of, same_page, Some, suc}
-use Rattle.ksm_tree.proofs.Names.{sym, true, Waiting, with_item, with_new, with_row, without_item, without_page, without_place, Zero, ℕ, [], ◌<◌, ◌==◌, ◌∷◌, ◌≡◌}
+use Rattle.ksm_tree.proofs.Names.{filter_none, find_all, find_passes, get_or, GuestPage, has_item, InPageOrder, item_count, items_in, items_of, length, let_out, List, map}
+use Rattle.ksm_tree.proofs.Names.{Merged, merged_into, merged_state, None, none_found, Option, ordered_map, pages_ordered, PageState, refl, Row, row_at, rows_of, same_page, Some, suc}
+use Rattle.ksm_tree.proofs.Names.{sym, true, with_item, with_new, with_row, without_item, without_page, without_place, ℕ, [], ◌<◌, ◌==◌, ◌∙◌, ◌∷◌, ◌≡◌}
 use Rattle.ksm_tree.specs.Dups.{items_of as items_numbered}
 use Rattle.ksm_tree.proofs.Alike.{kept_append}
 use Rattle.ksm_tree.proofs.Changes.{all_rows}
-use Rattle.ksm_tree.proofs.Tied.{items_dropped, items_joined, items_kept, items_left, tied_counted, without_splits}
+use Rattle.ksm_tree.proofs.Tied.{items_dropped, items_joined, items_kept, items_left, page_of, tied_counted}
+use Rattle.ksm_tree.proofs.Waiters.{at_written}
+use Rattle.ksm_rmap.proofs.Ordered.{absent_parts}
 
 abbrev IsTied : List Row → Dup → Type 0
 IsTied rows d = d.items ≡ items_of rows d.row
@@ -27,9 +29,7 @@ module _ (rows : List Row) (page : GuestPage) (old : Row) (rise : InPageOrder ro
   -- where the page is no item any more
   out_of : (state : PageState) → old.state ≡ state → (new : List Row) (dups : List Dup) → ((d : DupRow) → items_of new d ≡ without_item page (items_of rows d)) → AreTied rows dups → AreTied new (let_out state page dups)
   out_of (Merged n) is new dups less tied = All-map (IsTied new) _ dups (λ k e lt. grind (arith, unlike))
-  out_of Private is new dups less tied = λ k d lt. grind (arith, unlike)
-  out_of Waiting is new dups less tied = λ k d lt. grind (arith, unlike)
-  out_of Zero is new dups less tied = λ k d lt. grind (arith, unlike)
+  out_of state is new dups less tied = λ k d lt. grind (arith, unlike)
 
   -- rows and dups stay tied where a row goes and its page leaves its dup
   pub tied_dropped : (dups : List Dup) → AreTied rows dups → AreTied (without_page page rows) (let_out old.state page dups)
@@ -38,7 +38,7 @@ module _ (rows : List Row) (page : GuestPage) (old : Row) (rise : InPageOrder ro
   -- rows and dups stay tied where a row becomes one that is not merged and its page leaves its dup
   pub tied_left : (row : Row) (dups : List Dup) → merged_state row.state ≡ false → AreTied rows dups → AreTied (change_row page (λ _. row) rows) (let_out old.state page dups)
   tied_left row dups alone tied =
-      out_of _ refl (change_row page (λ _. row) rows) _ (λ d. grind (arith, items_left rows d rise page row)) tied
+      out_of _ refl (change_row page (λ _. row) rows) _ (λ d. grind (arith, items_left rows d page row)) tied
 
   -- rows and dups stay tied where a row that was not merged is merged, and its page becomes an item
   pub tied_joined : (row : Row) (number : ℕ) (dups : List Dup) → merged_state old.state ≡ false → row.page ≡ page → row.state ≡ Merged number → AreTied rows dups → AreTied (change_row page (λ _. row) rows) (change_items number (with_item page) dups)
@@ -62,11 +62,6 @@ tied_count rows dups number d tied found =
 pub number_found : (number : ℕ) (dups : List Dup) (d : Dup) → dup_of number dups ≡ Some d → d.row.number ≡ number
 number_found number dups d found = search (eqb-true, find_passes)
 
--- a change that keeps the page of each row finds a row at a page exactly where one was
-pub row_stays : (page : GuestPage) (f : Row → Row) (rows : List Row) → ((r : Row) → (f r).page ≡ r.page) → is_some (row_at page (map f rows)) ≡ is_some (row_at page rows)
-row_stays page f [] same = refl
-row_stays page f (r ∷ rows) same = grind (arith, row_stays page f rows same)
-
 -- what holds of each dup and of a new one holds of each with it
 all_with_new : (P : Dup → Type 0) (dup : Dup) (dups : List Dup) → All P dups → P dup → All P (with_new dup dups)
 all_with_new P dup dups each one = search (All-append, All-filter, All-cons)
@@ -86,26 +81,21 @@ module _ (rows : List Row) (first second : Row) (row : DupRow) (rise : InPageOrd
   abbrev whole : List Row
   whole = change_row second.page (λ _. second_in) half
 
-  half_rises : InPageOrder half
-  half_rises = ordered_map _ _ (λ r. grind arith) rise
-
-  there : is_some (row_at second.page half) ≡ true
-  there = grind (arith, row_stays)
-
   -- the items of another dup
   others : (d : DupRow) → (row.number == d.number) ≡ false → items_of whole d ≡ items_of rows d
   others d fails =
-      let left = items_left half d half_rises second.page second_in there in
+      let left = items_left half d second.page second_in in
       let one = unlike rows first.page first rise found d in
       let two = unlike rows second.page second rise also d in
-      grind (arith, left, one, two, items_left rows d rise first.page first_in)
+      grind (arith, left, one, two, items_left rows d first.page first_in)
 
   -- the items of the new dup are the two pages
   both_in : items_of whole row ≡ with_item second.page (first.page ∷ [])
   both_in =
-      let joined = items_joined half row half_rises second.page second_in refl there in
+      let rises : InPageOrder half = ordered_map _ _ (λ r. grind arith) rise in
+      let joined = items_joined half row second.page rises second_in refl (grind (arith, at_written first_in second.page rows)) in
       let none_in = filter_none (λ r. merged_into row.number r.state) rows none in
-      grind (arith, joined, none_in, items_joined rows row rise first.page first_in refl)
+      grind (arith, joined, none_in, items_joined rows row first.page rise first_in refl)
 
   -- rows and dups stay tied where two pages make a dup whose number is above all others
   pub tied_made : (dups : List Dup) → All (λ r. r.number < row.number) (rows_of dups) → AreTied rows dups → AreTied whole (with_new (record { row = row; items = with_item second.page (first.page ∷ []) }) dups)
@@ -115,8 +105,8 @@ module _ (rows : List Row) (first second : Row) (row : DupRow) (rise : InPageOrd
 -- rows and dups stay tied where a row that is not merged comes
 pub tied_inserted : (rows : List Row) (row : Row) (dups : List Dup) → InPageOrder rows → row_at row.page rows ≡ None → merged_state row.state ≡ false → AreTied rows dups → AreTied (with_row row rows) dups
 tied_inserted rows row dups rise absent alone tied k d lt =
-    let same : without_page row.page rows ≡ rows = filter_all _ _ (λ k e lt. ap not (find_none _ _ absent k e lt)) in
-    grind (arith, kept_append, without_splits row.page rows rise)
+    let parts = absent_parts pages_ordered page_of row.page rows rise absent in
+    tied k d lt ∙ ap (λ rs. items_of rs (get_or dups k d).row) parts ∙ grind (arith, kept_append)
 
 -- rows and dups stay tied where each row changes but for its page and its dup
 pub tied_mapped : (f : Row → Row) (rows : List Row) (dups : List Dup) → All (λ r. ((f r).page ≡ r.page) × ((number : ℕ) → merged_into number (f r).state ≡ merged_into number r.state)) rows → AreTied rows dups → AreTied (map f rows) dups

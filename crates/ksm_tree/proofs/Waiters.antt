@@ -1,5 +1,5 @@
 -- The waiting pages beside the rows that wait: what a look-up tells, and what a change of rows does.
-use Rattle.ksm_tree.proofs.Names.{All, AreWaiting, arith, Bool, bytes_eq-Decides, cases_Bool, change_row, change_rows, comes_before, each_at_page, false, filter, find-append, find_all, find_nothing}
+use Rattle.ksm_tree.proofs.Names.{All, AreWaiting, arith, Bool, bytes_eq-Decides, cases_Bool, change_row, comes_before, each_at_page, false, filter, find-append, find_all, find_nothing}
 use Rattle.ksm_tree.proofs.Names.{GuestPage, if◌then◌else◌, inl, InPageOrder, inr, IsAdded, IsAlike, IsStopped, Knobs, List, map, names, nat_tests, None, not, Option, option_and_then, option_map}
 use Rattle.ksm_tree.proofs.Names.{partner, refl, Row, row_at, same_page, same_page_refl, Some, suc, tree_of, true, Waiting, waiting_page, waiting_state, WaitingPage, waits_there, with_row}
 use Rattle.ksm_tree.proofs.Names.{without_page, ℕ, [], ◌&&◌, ◌∙◌, ◌∷◌, ◌≡◌}
@@ -7,16 +7,14 @@ use Rattle.ksm_base.specs.Visit.{waits_for}
 use Rattle.ksm_tree.proofs.Alike.{find_alike}
 use Rattle.ksm_tree.proofs.Rows.{eq_bytes}
 
-at_written : (row : Row) (q : GuestPage) (rows : List Row) → row_at q (change_row row.page (λ _. row) rows) ≡ (if same_page row.page q then option_map (λ _. row) (row_at q rows) else row_at q rows)
+-- a write of the row of one page, as a look-up at a page finds it
+pub at_written : (row : Row) (q : GuestPage) (rows : List Row) → row_at q (change_row row.page (λ _. row) rows) ≡ (if same_page row.page q then option_map (λ _. row) (row_at q rows) else row_at q rows)
 at_written row q [] = grind arith
 at_written row q (r ∷ rs) = grind (arith, at_written row q rs)
 
 -- a write of the row of one page leaves the rows of other pages as they were
 pub at_others : (row : Row) (q : GuestPage) (rows : List Row) → same_page row.page q ≡ false → row_at q (change_row row.page (λ _. row) rows) ≡ row_at q rows
 at_others row q rows other = grind (arith, at_written)
-
-at_changed : (row : Row) {old : Row} (rows : List Row) → row_at row.page rows ≡ Some old → (q : GuestPage) → row_at q (change_row row.page (λ _. row) rows) ≡ (if same_page row.page q then Some row else row_at q rows)
-at_changed row rows found q = grind (arith, at_written)
 
 -- a choice of rows by page
 at_chosen : (by : GuestPage → Bool) (q : GuestPage) (rows : List Row) → row_at q (filter (λ r. by r.page) rows) ≡ (if by q then row_at q rows else None)
@@ -76,13 +74,13 @@ module _ (knobs : Knobs) (rows : List Row) (w : List WaitingPage) (are : AreWait
   pub row_stopped : (new : List WaitingPage) (row old : Row) → row_at row.page rows ≡ Some old → waiting_state row.state ≡ false → IsStopped knobs old w new
       → AreWaiting knobs (change_row row.page (λ _. row) rows) new
   row_stopped new row old found still stopped t b q =
-      grind (arith, nat_tests, at_changed row rows found q, are t b row.page)
+      grind (arith, nat_tests, at_written row q rows, are t b row.page)
 
   -- the waiting pages are those of the rows, once a row waits that did not and its page was added
   pub row_begun : (new : List WaitingPage) (row old : Row) → row_at row.page rows ≡ Some old → waiting_state old.state ≡ false → row.state ≡ Waiting
       → waiting_page (tree_of knobs row) row.bytes w ≡ None → IsAdded (tree_of knobs row) row.bytes row.page w new → AreWaiting knobs (change_row row.page (λ _. row) rows) new
   row_begun new row old found still waits none added t b q =
-      let changed = at_changed row rows found q in
+      let changed = at_written row q rows in
       grind (arith, nat_tests, same_page_refl row.page, are t b q, are t b row.page, (bytes_eq-Decides b row.bytes).0)
 
   -- a new row that does not wait changes no waiting page
@@ -92,17 +90,7 @@ module _ (knobs : Knobs) (rows : List Row) (w : List WaitingPage) (are : AreWait
   -- a row that changes into one that waits alike changes no waiting page
   pub row_kept : (row old : Row) → row_at row.page rows ≡ Some old → IsAlike old row → AreWaiting knobs (change_row row.page (λ _. row) rows) w
   row_kept row old found alike t b q =
-      grind (arith, nat_tests, at_changed row rows found q, are t b row.page)
-
-  -- where each row changes into one that waits alike, no waiting page changes
-  pub rows_mapped : (f : Row → Row) → All (λ r. IsAlike r (f r)) rows → AreWaiting knobs (map f rows) w
-  rows_mapped f alike t b q =
-      let each = find_all (λ s. same_page s.page q) (λ s. IsAlike s (f s)) rows in
-      grind (arith, are t b q, at_mapped f q rows (λ k d lt. (alike k d lt).0))
-
-  -- where some rows change, each into one that waits alike, no waiting page changes
-  pub rows_changed : (test : Row → Bool) (f : Row → Row) → All (λ r. test r ≡ true → IsAlike r (f r)) rows → AreWaiting knobs (change_rows test f rows) w
-  rows_changed test f alike = rows_mapped _ (λ k d lt. grind (arith, alike k d lt))
+      grind (arith, nat_tests, at_written row q rows, are t b row.page)
 
   -- knobs with the same merge_across_nodes leave the waiting pages those of the rows
   pub knobs_tuned : (tuned : Knobs) → tuned.merge_across_nodes ≡ knobs.merge_across_nodes → AreWaiting tuned rows w

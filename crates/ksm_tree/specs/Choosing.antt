@@ -57,15 +57,11 @@ abbrev pub is_behind : Dup → Option Dup → Bool
 is_behind d None = false
 is_behind d (Some rival) = nat_le rival.row.number d.row.number
 
--- a dup that does not stand behind a rival
-abbrev pub unless_behind : Option Dup → Option Dup → Option Dup
-unless_behind rival None = None
-unless_behind rival (Some d) = if is_behind d rival then None else Some d
-
--- a dup, if it is of the tree and the bytes
-abbrev pub of_group : ℕ → List ℕ → Option Dup → Option Dup
-of_group tree bytes None = None
-of_group tree bytes (Some d) = if in_group tree bytes d.row then Some d else None
+-- a dup, if it does not stand behind a rival, and is of the tree and the bytes, unless it is known that it is
+abbrev pub candidate_of : ℕ → List ℕ → Option Dup → Bool → Option Dup → Option Dup
+candidate_of tree bytes rival known None = None
+candidate_of tree bytes rival known (Some d) =
+    if not (is_behind d rival) && (known || in_group tree bytes d.row) then Some d else None
 
 -- the places of a group, or those of all dups with an item and fewer than the limit:
 -- the best is at one of them, if there is one

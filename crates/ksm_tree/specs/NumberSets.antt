@@ -1,5 +1,5 @@
 -- Sets of numbers as words of bits. (own)
-use Rattle.std.specs.Prelude.{Bool, false, length, List, nat_lt, not, slice_index, true, ℕ, ◌%◌, ◌*◌, ◌/◌, ◌<◌, ◌==◌, ◌^◌, ◌≡◌, ◌≢◌, ◌≤◌}
+use Rattle.std.specs.Prelude.{Bool, false, length, List, not, slice_index, true, ℕ, ◌%◌, ◌*◌, ◌/◌, ◌<◌, ◌==◌, ◌^◌, ◌≡◌, ◌≢◌, ◌≤◌}
 use Rattle.std.specs.Int.{bit_at}
 
 -- the bit of the number is set
@@ -34,10 +34,6 @@ pub record AreSummed (most : ℕ) (words upper : List ℕ) : Type 0 where
   pub fits : 64 * length words ≤ 2 ^ 32
   pub few : length words ≤ most
   pub summed : 1 < most → IsSummed words upper
-
--- just the numbers below a count
-abbrev pub HasBelow : List ℕ → ℕ → Type 0
-HasBelow words count = (n : ℕ) → has words n ≡ nat_lt n count
 
 -- no bit of the word is set from low on
 abbrev pub HasNoBit : ℕ → ℕ → Type 0

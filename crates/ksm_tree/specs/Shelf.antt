@@ -1,5 +1,6 @@
 -- The dups by place, each under a key of its place: a key that leads to a dup of another place leads nowhere. (own)
-use Rattle.std.specs.Prelude.{Bool, if◌then◌else◌, List, nat_lt, None, Option, option_map, slice_index_or, slice_set, Some, suc, ℕ, [], ◌&&◌, ◌^◌, ◌∷◌}
+use Rattle.std.specs.Prelude.{Bool, if◌then◌else◌, length, List, map, nat_lt, None, Option, option_map, slice_index, slice_index_or, slice_set, Some, ℕ, ◌&&◌, ◌^◌}
+use Rattle.std.specs.List.{range_with_len}
 use Rattle.slab.specs.Slab.{get, Slab, slab_len}
 use Rattle.ksm_base.specs.declared.page.GuestPage.{GuestPage}
 use Rattle.ksm_tree.specs.declared.dup.Dup.{Dup}
@@ -16,10 +17,9 @@ abbrev pub kept_at : ℕ → Option Kept → Option Dup
 kept_at place None = None
 kept_at place (Some kept) = if stands_at place kept.dup then Some kept.dup else None
 
--- what the places from one on hold, each by its key
-abbrev pub slots_by : ℕ → List ℕ → Slab Kept → List (Option Dup)
-slots_by place [] dups = []
-slots_by place (key ∷ keys) dups = kept_at place (get dups key) ∷ slots_by (suc place) keys dups
+-- what the places hold, each by its key
+abbrev pub slots_by : List ℕ → Slab Kept → List (Option Dup)
+slots_by keys dups = map (λ place. kept_at place (get dups (slice_index keys place))) (range_with_len 0 (length keys))
 
 -- one more dup needs no memory, and its key has room in 32 bits
 abbrev pub has_room : Slab Kept → Bool

@@ -17,7 +17,7 @@ ghost use Rattle.ksm_base.specs.Rows.{same_page};
 ghost use Rattle.ksm_base.specs.declared.limits.TheConstants.{MOST_FRAMES, MOST_REFERENCES};
 ghost use Rattle.ksm_rmap.specs.Items.{has_item, with_item, without_item};
 ghost use Rattle.ksm_tree.specs.Chains.{AreChained, group_places, is_in_use};
-ghost use Rattle.ksm_tree.specs.Choosing.{ArePlacesToJoin, best_of, found_at, of_group, choice_of, unless_behind};
+ghost use Rattle.ksm_tree.specs.Choosing.{ArePlacesToJoin, best_of, candidate_of, choice_of, found_at};
 ghost use Rattle.ksm_tree.specs.Dups.{AreDups, MayBecomeDup, change_items, dup_at, dup_of, is_live, is_stale, items_in, items_of, rows_of, stands_at, with_new, without_place};
 ghost use Rattle.ksm_tree.specs.Groups.{HasRoomAt, IsCounted, SameWaits};
 ghost use Rattle.ksm_tree.specs.Numbered.{IsUnused, number_of};
@@ -554,9 +554,8 @@ impl Dups {
         tree: u32,
         bytes: &PageBytes,
     ) -> Option<&Dup>
-        ensures { let dup = dup_at place self.now.dups in
-            option_copied result
-            ≡ unless_behind (option_copied rival.entry) (if is_chain then dup else of_group tree bytes.now dup) }
+        ensures { option_copied result
+            ≡ candidate_of tree bytes.now (option_copied rival.entry) is_chain (dup_at place self.now.dups) }
     {
         let dup = self.slots.at(place)?;
         if rival.is_some_and(|rival| rival.row.number <= dup.row.number) {

@@ -252,7 +252,7 @@ impl Groups {
             → is_occupied self.now.pass (get self.now.groups number) ≡ true }
     {
         match self.groups.get(number) {
-            Some(group) => group.places.is_empty() && group.pass != self.pass,
+            Some(group) => group.places.list.is_empty() && group.pass != self.pass,
             None => false,
         }
     }
@@ -281,9 +281,9 @@ impl Groups {
         ensures waits { SameWaits self.old self.new }
     {
         if let Some(group) = self.groups.get_mut(number as usize) {
-            let before = group.places.len();
+            let before = group.places.list.len();
             group.places.insert(place);
-            self.totals = self.totals.regrouped(before, group.places.len());
+            self.totals = self.totals.regrouped(before, group.places.list.len());
         }
     }
 
@@ -299,9 +299,9 @@ impl Groups {
             return;
         };
         if let Some(group) = self.groups.get_mut(number as usize) {
-            let before = group.places.len();
+            let before = group.places.list.len();
             group.places.remove(place);
-            self.totals = self.totals.regrouped(before, group.places.len());
+            self.totals = self.totals.regrouped(before, group.places.list.len());
         }
     }
 

@@ -4,7 +4,7 @@
 //! The counts stand by themselves, four bytes each, so a walk along a chain reads no dup but one that may be joined.
 //! The open places are kept only while they are asked for: a store to a merged page may open or close one, and where
 //! all chains are short that costs more than it saves.
-#![tactic(auto, using(crate::proofs::Where::steps, crate::proofs::Opened::none))]
+#![tactic(auto, using(crate::proofs::Where::steps, crate::proofs::Opened::none_kept))]
 
 ghost use Rattle.std.specs.Prelude.{◌≡◌, ℕ, ◌<◌, ◌≤◌, All, IfErr, IfOk, IfSome, length, not, replicate, slice_index, slice_set};
 ghost use Rattle.std.specs.List.{list_all};
@@ -79,7 +79,7 @@ impl Counts {
         if limit == 0 {
             self.limit = 0;
             self.open_at.clear();
-        } else if self.each.len() <= self.open_at.room() {
+        } else if self.each.len() <= self.open_at.list.capacity() {
             self.limit = limit;
             open_anew(limit, self.each.as_slice(), &mut self.open_at);
         }

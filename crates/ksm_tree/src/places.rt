@@ -38,27 +38,6 @@ impl Places {
         })
     }
 
-    /// How many places there is room for.
-    pub fn room(&self) -> usize
-        ensures { result ≡ self.now.list.capacity }
-    {
-        self.list.capacity()
-    }
-
-    /// Whether no place is there.
-    pub fn is_empty(&self) -> bool
-        ensures { result ≡ (length self.now.list.items == 0) }
-    {
-        self.list.is_empty()
-    }
-
-    /// How many places there are.
-    pub fn len(&self) -> usize
-        ensures { result ≡ length self.now.list.items }
-    {
-        self.list.len()
-    }
-
     /// Takes all places out.
     pub fn clear(&mut self)
         ensures none { self.new.list.items ≡ [] }

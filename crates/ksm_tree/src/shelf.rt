@@ -46,7 +46,7 @@ impl Model for Shelf {
 
     ghost Value = { ShelfState };
 
-    ghost view = { λ s. record { slots = slots_by 0 s.keys.items s.dups; ready = has_room s.dups } };
+    ghost view = { λ s. record { slots = slots_by s.keys.items s.dups; ready = has_room s.dups } };
 }
 
 impl Shelf {

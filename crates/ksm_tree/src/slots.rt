@@ -1,5 +1,5 @@
 //! The dups by their places, a slot for each: a place leads to its dup in two steps, and an empty one takes few bytes.
-#![tactic(auto, using(crate::proofs::OneSlot::steps, crate::proofs::Opened::counts))]
+#![tactic(auto, using(crate::proofs::OneSlot::steps, crate::proofs::Opened::open_seen, crate::proofs::Opened::stale_slots, crate::proofs::Opened::three_kinds))]
 
 ghost use Rattle.std.specs.Prelude.{◌≡◌, ℕ, ◌<◌, ◌≤◌, [], true, false, None, Some, count_by, find, length, option_copied, option_map, is_some, slice_index_or, IfErr, IfOk, IfSome, OnErr, OnOk};
 ghost use Rattle.ksm_base.specs.declared.limits.TheConstants.{MOST_FRAMES, MOST_REFERENCES};

@@ -1,7 +1,7 @@
-use Rattle.ksm_tree.proofs.Names.{All, ap, arith, best_of, drop_of_length-le, dup_at, get_or, InPlaceOrder, items_in, length, option_copied, rows_of, ◌<◌, ◌∙◌, ◌≡◌}
+use Rattle.ksm_tree.proofs.Names.{All, ap, arith, drop_of_length-le, Dup, dup_at, get_or, InPlaceOrder, items_in, length, Option, option_copied, rows_of, ◌<◌, ◌∙◌, ◌≡◌}
 use Rattle.ksm_tree.proofs.Joining.{candidate_is, candidates_within, in_room, stepped, walk_best}
 use Rattle.ksm_tree.proofs.dups.Dups.best_in.Goals as goal
-use Rattle.ksm_tree.proofs.dups.Dups.best_in.Goals.{After-loop-place, else-items-least, then-items-least+in-Some, then-items-least+in_default}
+use Rattle.ksm_tree.proofs.dups.Dups.best_in.Goals.{else-items-least, then-items-least+in-Some, then-items-least+in_default}
 
 pub bounds-counts-place : goal.bounds-counts-place
 bounds-counts-place c =
@@ -25,7 +25,7 @@ loop-place-preserved c =
     c.counts-counts.ensures.each place ∙ ap (λ s. length (items_in (dup_at place s.dups))) c.self.view_is in
     let was = c.loop-place.invariant in
     let rise : InPlaceOrder (rows_of dups) = rw (← c.self.view_is) c.self.invariant.lawful.in_place_order in
-    let is = candidate_is tree bytes limit dups places _ (rw c.requires at c.places_to_join-is_chain.ensures) rise
+    let is = λ (rival : Option Dup). candidate_is tree bytes limit dups places _ (rw c.requires at c.places_to_join-is_chain.ensures) rise rival
     at c.loop-place-test.true in
     let tells = in_room items c.loop-place.least limit (omega (arith, c.type_inv.counts place))
     (omega (arith, c.loop-place.auto.least-fits)) (omega (arith, c.ranges.limit.fits)) in
@@ -38,13 +38,9 @@ loop-place-preserved c =
       | else-items-least w ↦ rw (w.least-is, w.room-is, w.best-is) (grind (arith, w.if-items-least.false))
     ]
 
--- over all places the loop comes to the best of them
-ended : (c : After-loop-place) → option_copied c.loop-place.best ≡ best_of c.args.tree c.args.bytes.now c.args.limit c.args.self.now.dups
-ended c =
+pub returns : goal.returns
+returns c =
     let over = drop_of_length-le c.places_to_join-is_chain.result.0.now {i = c.loop-place.place-index} (omega arith) in
     let rise : InPlaceOrder (rows_of c.args.self.now.dups) = rw (← c.self.view_is) c.self.invariant.lawful.in_place_order in
     let best = walk_best _ _ _ _ _ _ (rw c.requires at c.places_to_join-is_chain.ensures) rise in
     grind (arith, over)
-
-pub returns : goal.returns
-returns c = grind (arith, ended (goal.at.returns c).After-loop-place)

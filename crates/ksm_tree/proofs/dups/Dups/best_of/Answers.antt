@@ -1,19 +1,15 @@
-use Rattle.ksm_tree.proofs.Names.{ap, arith, content_in, found_at, length, List, option_map, refl, sym, true, ℕ, [], ◌==◌, ◌∙◌, ◌∷◌, ◌≡◌}
+use Rattle.ksm_tree.proofs.Names.{ap, arith, content_in, found_at, option_map, sym, true, [], ◌∙◌}
 use Rattle.ksm_tree.proofs.Chained.{content_here, group_here}
-use Rattle.ksm_tree.proofs.Joining.{none_best}
+use Rattle.ksm_tree.proofs.Joining.{walk_best}
 use Rattle.ksm_tree.proofs.Standing.{not_unused}
+use Rattle.std.proofs.lemmas.List.{nil_from_length}
 use Rattle.ksm_tree.proofs.dups.Dups.best_of.Goals as goal
-
--- a list of length 0
-none_of : (xs : List ℕ) → true ≡ (length xs == 0) → [] ≡ xs
-none_of [] none = refl
-none_of (x ∷ xs) none = grind arith
 
 pub returns-then-is_empty-clause-best : goal.returns-then-is_empty-clause-best
 returns-then-is_empty-clause-best c = rw (← c.self.view_is) (λ tree bytes is.
-    let none = none_of _ c.if-is_empty.ensures ∙ c.as_slice-chain.ensures ∙ group_here c.self.invariant _ _ is
-    c.in_ok-found.ensures in
-    ap (option_map found_at) (none_best _ _ _ _ c.self.invariant.lawful.in_place_order none))
+    let empty = sym (nil_from_length c.as_slice-chain.result.now (grind (arith, c.if-is_empty.ensures))) in
+    let none = empty ∙ c.as_slice-chain.ensures ∙ group_here c.self.invariant _ _ is c.in_ok-found.ensures in
+    ap (option_map found_at) (walk_best _ _ _ _ [] true none c.self.invariant.lawful.in_place_order))
 
 pub best_in-requires : goal.best_in-requires
 best_in-requires c =

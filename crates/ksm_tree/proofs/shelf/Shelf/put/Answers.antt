@@ -5,7 +5,7 @@ use Rattle.ksm_tree.proofs.shelf.Shelf.put.Goals.{After-insert_reserved-key}
 
 -- the place has a key
 within : (c : After-insert_reserved-key) → c.args.dup.row.place < length c.self.inside.keys.items
-within c = omega (arith, c.requires.place, many c.args.dup.row.place c.self.inside.keys.items c.self.inside.dups c.self.view_is)
+within c = omega (arith, c.requires.place, many c.args.dup.row.place _ _ c.self.view_is)
 
 pub index_mut-requires : goal.index_mut-requires
 index_mut-requires c = search (rules, within)
@@ -13,6 +13,5 @@ index_mut-requires c = search (rules, within)
 pub returns : goal.returns
 returns c =
     let kept : Kept = record { dup = c.args.dup; group = c.args.group } in
-    filled c.args.dup.row.place c.insert_reserved-key.result c.self.inside.keys.items c.self.inside.dups
-    c.insert_reserved-key.new.self c.args.self.now c.self.view_is kept refl
-    (within (goal.at.returns c).After-insert_reserved-key) c.insert_reserved-key.ensures.was_vacant c.insert_reserved-key.ensures.updates
+    filled _ _ _ c.self.view_is kept refl (within (goal.at.returns c).After-insert_reserved-key)
+    c.insert_reserved-key.ensures.was_vacant c.insert_reserved-key.ensures.updates
