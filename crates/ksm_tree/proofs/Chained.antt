@@ -1,15 +1,14 @@
--- The dups in their groups: what is found there, and how that stays right with a change of items and with a dup that goes.
+-- The dups in their groups: what is found there, and how that stays right with a change of items, with a dup that goes, and with a new one.
 use Rattle.ksm_tree.proofs.Names.{All, All-filter, ap, AreChained, AreTotals, arith, Bool, chain_in, change_at, change_items, content_of, Dup, dup_at, dup_of, DupRow, dups_seen, DupsState, false}
 use Rattle.ksm_tree.proofs.Names.{filter, filter_all, find, find_none, find_nothing, get, Group, group_places, Groups, GuestPage, has_number, if◌then◌else◌, in_group, InPlaceOrder, is_some}
-use Rattle.ksm_tree.proofs.Names.{IsCountedAnew, items_in, length, List, MOST_FRAMES, None, not, number_of, Option, option_map, pairs_head, pairs_tail, refl, rows_of, rules, SameChains, SlotsState}
-use Rattle.ksm_tree.proofs.Names.{Some, stands_at, Tells, true, without, without_place, ℕ, [], ◌&&◌, ◌<◌, ◌==◌, ◌∙◌, ◌∷◌, ◌≡◌, ◌≤◌}
-use Rattle.ksm_tree.specs.Groups.{IsMoved}
+use Rattle.ksm_tree.proofs.Names.{IsCountedAnew, IsMoved, items_in, length, List, MOST_FRAMES, nat_lt, None, not, number_of, Option, option_map, pairs_head, pairs_tail, refl, rows_of, rules, SameChains}
+use Rattle.ksm_tree.proofs.Names.{SameWaits, SlotsState, Some, stands_at, subst, Tells, true, with_dup, with_new, with_place, without, without_place, ℕ, [], ◌&&◌, ◌+◌, ◌<◌, ◌==◌, ◌∙◌, ◌∷◌, ◌≡◌, ◌≤◌}
 use Rattle.ksm_tree.proofs.Alike.{chosen, find_alike, map_alike}
 use Rattle.ksm_tree.proofs.OneSlot.{found_stands}
-use Rattle.ksm_tree.proofs.Grouped.{more_there, totals_less, totals_tell}
-use Rattle.ksm_tree.proofs.Rows.{alone, group_unlike, own_group, self_group}
-use Rattle.ksm_base.proofs.Orders.{Lower, ordered_filter}
-use Rattle.ksm_tree.proofs.Changes.{all_rows, one_dup, row_found, rows_changed, rows_without}
+use Rattle.ksm_tree.proofs.Grouped.{IsMore, more_there, more_with, totals_less, totals_more, totals_tell}
+use Rattle.ksm_tree.proofs.Rows.{alone, group_joined, group_passed, group_unlike, own_group, self_group}
+use Rattle.ksm_base.proofs.Orders.{all_with_dup, dups_with, Lower, ordered_filter}
+use Rattle.ksm_tree.proofs.Changes.{all_rows, one_dup, row_found, rows_new, rows_same, rows_without}
 
 -- where the place of a number is told, a search by the number finds the dup at that place
 placed_found : (q : ℕ) {p : ℕ} (dups : List Dup) → InPlaceOrder (rows_of dups) → Some p ≡ option_map (λ d. d.row.place) (dup_of q dups) → dup_of q dups ≡ dup_at p dups
@@ -42,7 +41,7 @@ by_rows rows is few rise places numbers counted grouped = record {
 module _ {s : SlotsState} {next : ℕ} {groups : Groups} (h : AreChained s next groups) where
   -- a change of items changes no row, and so nothing of the groups
   pub stays_chained : (p : ℕ) (f : List GuestPage → List GuestPage) (ready : Bool) → AreChained (with_dups s (change_at p f s.dups) ready) next groups
-  stays_chained p f ready = by_rows _ (rows_changed p f s.dups) h.few h.lawful.in_place_order h.lawful.places_below
+  stays_chained p f ready = by_rows _ (rows_same (stands_at p) f s.dups) h.few h.lawful.in_place_order h.lawful.places_below
       h.lawful.numbers_below h.counted h.grouped
 
   -- whether room for one more dup is taken tells nothing of the groups
@@ -106,10 +105,6 @@ module _ {s : SlotsState} {next : ℕ} {groups : Groups} (h : AreChained s next 
     pub content_here : g.content ≡ content_of tree bytes
     content_here = grind (arith, groups.lawful.numbered (content_of tree bytes) number)
 
-  -- a tree and bytes without a number have no dup
-  pub group_absent : number_of tree bytes groups.numbers.entries ≡ None → [] ≡ group_places tree bytes (rows_of s.dups)
-  group_absent none = grind (arith)
-
 -- once the dup of a place has gone, none stands there
 pub none_left : (p : ℕ) (dups : List Dup) → dup_at p (without_place p dups) ≡ None
 none_left p [] = refl
@@ -139,3 +134,41 @@ found_passing p test (d ∷ dups) rise =
     let behind = all_rows (Lower d.row) dups (pairs_head Lower d.row (rows_of dups) rise) in
     let rest = found_passing p test dups (pairs_tail Lower d.row (rows_of dups) rise) in
     grind (arith, find_nothing (λ e. stands_at p e && test e) dups, behind)
+
+-- where a new dup takes a place that is empty and joins its group, the groups stay right
+pub fresh_chained : {s : SlotsState} {next : ℕ} {groups new : Groups} (dup : Dup) (ready : Bool) → AreChained s next groups → dup.row.number ≡ next → dup.row.place < s.places → dup_at dup.row.place s.dups ≡ None
+    → IsMoved dup.row.tree dup.row.bytes (with_place dup.row.place) groups new → IsCountedAnew dup.row.tree dup.row.bytes groups new
+    → AreChained (with_dups s (with_new dup s.dups) ready) (next + 1) new
+fresh_chained {s} {next} {groups} {new} dup ready h number within none joined counted =
+    let r = dup.row in
+    let rows = rows_of s.dups in
+    let all = with_dup r rows in
+    let rise = h.lawful.in_place_order in
+    let new_rise : InPlaceOrder all = dups_with _ _ rise (λ k d lt. grind (arith, h.lawful.numbers_below k d lt)) in
+    let apart = find_none (λ (e : DupRow). e.place == r.place) rows (row_at_place r.place s.dups none) in
+    let kept : filter (λ e. not (e.place == r.place)) rows ≡ rows = filter_all _ rows (λ k d lt. ap not (apart k d lt)) in
+    let more = subst (λ l. IsMore r l all) kept (more_with r.place rows r rise) in
+    let grouped : (t : ℕ) (b : List ℕ) → chain_in t b new ≡ group_places t b all = λ t b.
+    let unlike = group_unlike r.place t b rows (λ k d lt. grind (arith, apart k d lt)) in
+    grind (arith, own_group t b r, group_joined t b r rows, group_passed t b r rows rise) in
+    by_rows all (rows_new dup s.dups) h.few new_rise
+    (all_with_dup (λ e. e.place < s.places) _ _ within h.lawful.places_below)
+    (all_with_dup (λ e. e.number < next + 1) r rows (omega arith) (λ k d lt. omega (arith, h.lawful.numbers_below k d lt)))
+    (totals_more r.tree r.bytes more (self_group r) rise new_rise (grind arith) h.counted) grouped
+
+-- a dup at a place comes in the stead of one that stood there, whether that went before or not
+pub new_again : (dup : Dup) (dups : List Dup) → with_new dup (without_place dup.row.place dups) ≡ with_new dup dups
+new_again dup dups = grind (arith, lower dups, higher dups)
+  where
+    lower : (ds : List Dup) → filter (λ d. nat_lt d.row.place dup.row.place) (without_place dup.row.place ds) ≡ filter (λ d. nat_lt d.row.place dup.row.place) ds
+    lower [] = refl
+    lower (d ∷ ds) = grind (arith, lower ds)
+
+    higher : (ds : List Dup) → filter (λ d. nat_lt dup.row.place d.row.place) (without_place dup.row.place ds) ≡ filter (λ d. nat_lt dup.row.place d.row.place) ds
+    higher [] = refl
+    higher (d ∷ ds) = grind (arith, higher ds)
+
+-- once a dup is made, callers see that dup among the others, and the next number one higher
+pub seen_made : (s : SlotsState) (next : ℕ) (groups new : Groups) (dup : ℕ → Dup) (ready : Bool) {old : DupsState} → dups_seen s next groups ≡ old → SameWaits groups new
+    → dups_seen (with_dups s (with_new (dup next) s.dups) ready) (next + 1) new ≡ record old { dups = with_new (dup old.next) old.dups; next = old.next + 1 }
+seen_made s next groups new dup ready view same = grind arith

@@ -1,5 +1,5 @@
 -- Dups and their rows: what a dup that comes or goes and a change of items changes of the rows, and where a dup is found.
-use Rattle.ksm_tree.proofs.Names.{All, ap, arith, Bool, change_at, change_items, Dup, dup_of, DupRow, filter, find, find_passes, get_or-map, GuestPage, has_number, if◌then◌else◌, InPlaceOrder}
+use Rattle.ksm_tree.proofs.Names.{All, ap, arith, Bool, change_items, Dup, dup_of, DupRow, filter, find, find_passes, get_or-map, GuestPage, has_number, if◌then◌else◌, InPlaceOrder}
 use Rattle.ksm_tree.proofs.Names.{length-map, let_out, List, map, map-append, Merged, None, not, Option, option_map, PageState, refl, rows_of, Some, stands_at, subst, sym, with_dup}
 use Rattle.ksm_tree.proofs.Names.{with_new, without_place, ℕ, [], ◌==◌, ◌∙◌, ◌∷◌, ◌≡◌}
 use Rattle.ksm_tree.proofs.Alike.{filter_mapped, find_mapped}
@@ -13,13 +13,10 @@ rows_new dup dups = grind (arith, filter_mapped, map-append)
 pub rows_without : (p : ℕ) (dups : List Dup) → rows_of (without_place p dups) ≡ filter (λ r. not (r.place == p)) (rows_of dups)
 rows_without p dups = grind (arith, filter_mapped)
 
-rows_same : (test : Dup → Bool) (f : List GuestPage → List GuestPage) (dups : List Dup) → rows_of (map (λ d. if test d then record d { items = f d.items } else d) dups) ≡ rows_of dups
+-- other items of the dups that pass a test change no row
+pub rows_same : (test : Dup → Bool) (f : List GuestPage → List GuestPage) (dups : List Dup) → rows_of (map (λ d. if test d then record d { items = f d.items } else d) dups) ≡ rows_of dups
 rows_same test f [] = refl
 rows_same test f (d ∷ dups) = let rest = rows_same test f dups in grind arith
-
--- other items at a place change no row
-pub rows_changed : (p : ℕ) (f : List GuestPage → List GuestPage) (dups : List Dup) → rows_of (change_at p f dups) ≡ rows_of dups
-rows_changed p = rows_same _
 
 -- other items of a dup change no row
 pub rows_items : (number : ℕ) (f : List GuestPage → List GuestPage) (dups : List Dup) → rows_of (change_items number f dups) ≡ rows_of dups

@@ -1,9 +1,11 @@
 -- The dups of one group, and all others: what each makes of the totals, and what a dup that comes or goes changes of them.
 use Rattle.ksm_tree.proofs.Names.{All, AreTotals, arith, Bool, bytes_eq-Decides, cases_Bool, chained_of, chains_of, count-append, count_by, count_by-le-length, count_more, count_none, DupRow, false}
-use Rattle.ksm_tree.proofs.Names.{filter, filter_all, find, get_or, group_places, group_size, if◌then◌else◌, in_chain, in_group, inl, InPlaceOrder, inr, IsRegrouped, leads_group, length}
-use Rattle.ksm_tree.proofs.Names.{length-filter, length-map, List, list_all, list_all-append, list_all-from_AllPass, MOST_FRAMES, nat_le, nat_lt, none-some, not, pairs_head, pairs_tail, refl}
-use Rattle.ksm_tree.proofs.Names.{same_group, Some, suc, Tells, Totals, true, with_dup, zero, ℕ, [], ◌&&◌, ◌+◌, ◌<◌, ◌==◌, ◌||◌, ◌∙◌, ◌∷◌, ◌≡◌, ◌≤◌}
+use Rattle.ksm_tree.proofs.Names.{filter, find, get_or, group_places, group_size, if◌then◌else◌, in_chain, in_group, inl, InPlaceOrder, inr, IsRegrouped, leads_group, length}
+use Rattle.ksm_tree.proofs.Names.{length-filter, length-map, List, list_all, list_all-append, list_all-from_AllPass, MOST_FRAMES, nat_le, nat_lt, nat_tests, not, pairs_head, pairs_tail, refl}
+use Rattle.ksm_tree.proofs.Names.{same_group, Some, subst, suc, sym, Tells, Totals, true, zero, ℕ, [], ◌&&◌, ◌++◌, ◌+◌, ◌<◌, ◌==◌, ◌||◌, ◌∙◌, ◌∷◌, ◌≡◌, ◌≤◌}
 use Rattle.ksm_tree.proofs.Alike.{count_alike}
+use Rattle.ksm_tree.proofs.Numbers.{places_ordered}
+use Rattle.ksm_rmap.proofs.Ordered.{found_parts}
 use Rattle.ksm_base.proofs.Orders.{dups_parted as rows_parted, Lower}
 
 -- rows count as others do with one row more
@@ -11,23 +13,16 @@ pub record IsMore (r : DupRow) (less more : List DupRow) : Type 0 where
   pub counts : (p : DupRow → Bool) → count_by p more ≡ (if p r then 1 else 0) + count_by p less
   pub all : (p : DupRow → Bool) → list_all p more ≡ (p r && list_all p less)
 
--- a new row is one row more than those at other places
-pub more_with : {r : DupRow} (rows : List DupRow) → InPlaceOrder rows → IsMore r (filter (λ e. not (e.place == r.place)) rows) (with_dup r rows)
-more_with {r} rows rise =
-    rw (rows_parted r.place rows rise) (grind (arith, count-append, count_more, list_all-append))
+-- a row between those below a place and those above it is one row more than those at other places
+pub more_with : (p : ℕ) (rows : List DupRow) (r : DupRow) → InPlaceOrder rows → IsMore r (filter (λ e. not (e.place == p)) rows) (filter (λ e. nat_lt e.place p) rows ++ r ∷ filter (λ e. nat_lt p e.place) rows)
+more_with p rows r rise = rw (rows_parted p rows rise) (grind (arith, count-append, count_more, list_all-append))
 
 -- the row at a place is one row more than those at other places
 pub more_there : (p : ℕ) (rows : List DupRow) (e : DupRow) → InPlaceOrder rows → find (λ r. r.place == p) rows ≡ Some e → IsMore e (filter (λ r. not (r.place == p)) rows) rows
-more_there p [] e rise found = absurd (none-some e found)
-more_there p (r ∷ rows) e rise found = elim (cases_Bool (r.place == p)) [
-  | inl here ↦
-      let kept = filter_all (λ s. not (s.place == p)) rows
-      (λ k d lt. grind (arith, pairs_head Lower r _ rise k d lt)) in
-      record { counts = λ q. grind (arith, kept, count_more q r rows); all = λ q. grind (arith, kept) }
-  | inr away ↦
-      let rest = more_there p rows e (pairs_tail Lower r rows rise) (grind arith) in
-      record { counts = λ q. grind (arith, rest.counts q, count_more q r); all = λ q. grind (arith, rest.all q) }
-]
+more_there p rows e rise found =
+    subst (IsMore e (filter (λ r. not (r.place == p)) rows))
+    (sym (found_parts places_ordered (λ (r : DupRow). r.place) p rows e (λ i j d less lt. grind (arith, nat_tests, (rise i j d less lt).0)) found))
+    (more_with p rows e rise)
 
 -- a test that is one value where another test passes, and elsewhere a third one, is counted in two parts
 count_split : (s p q : DupRow → Bool) (b : Bool) (rows : List DupRow) → All (λ d. (p d ≡ (if s d then b else q d)) × ((s d && q d) ≡ false)) rows

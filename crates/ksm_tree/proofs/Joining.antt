@@ -2,10 +2,9 @@
 use Rattle.ksm_tree.proofs.Names.{add-one, All, All-filter, All-map, ap, ArePlacesToJoin, arith, best_of, Bool, candidate_of, cases_Bool, cond, drop, drop-cons, Dup, dup_at, false, filter, filter_map}
 use Rattle.ksm_tree.proofs.Names.{filter_passes, find, get_or, group_places, if◌then◌else◌, in_group, inl, InPlaceOrder, inr, is_no_worse, is_open, items_in, length, List, list_all, map, may_join}
 use Rattle.ksm_tree.proofs.Names.{nat_le, nat_lt, nat_tests, None, not, Option, pairs_head, pairs_tail, refl, rows_of, Some, suc, sym, true, zero, ℕ, [], ◌%◌, ◌&&◌, ◌+◌, ◌-◌}
-use Rattle.ksm_tree.proofs.Names.{◌<◌, ◌==◌, ◌^◌, ◌||◌, ◌∙◌, ◌∷◌, ◌≡◌, ◌≤◌}
+use Rattle.ksm_tree.proofs.Names.{Lower, ◌<◌, ◌==◌, ◌^◌, ◌||◌, ◌∙◌, ◌∷◌, ◌≡◌, ◌≤◌}
 use Rattle.ksm_tree.proofs.Alike.{filter_mapped, map_mapped}
 use Rattle.ksm_tree.proofs.Changes.{all_rows}
-use Rattle.ksm_base.proofs.Orders.{Lower}
 use Rattle.std.specs.Option.{option_or}
 
 -- a walk that keeps the better of two, over dups that pass a test

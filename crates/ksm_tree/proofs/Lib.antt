@@ -5,7 +5,6 @@ pub mod Chained
 pub mod Changes
 pub mod Grouped
 pub mod Joining
-pub mod Made
 pub mod NumberBits
 pub mod Numbering
 pub mod Numbers

@@ -1,6 +1,6 @@
 -- The definitions, and the laws of the libraries and crates below, by their names, for proofs.
 pub use Rattle.ksm_base.proofs.Edits.{count-append, count_more, count_none, find_all, find_none, find_nothing, find_passes}
-pub use Rattle.ksm_base.proofs.Orders.{filter_none, ordered_map, pairs_head, pairs_tail}
+pub use Rattle.ksm_base.proofs.Orders.{filter_none, Lower, ordered_map, pairs_head, pairs_tail}
 pub use Rattle.ksm_base.proofs.Pages.{same_page_refl}
 pub use Rattle.ksm_base.proofs.RowCounts.{each_at_page, filter_all}
 pub use Rattle.ksm_base.specs.Counting.{group_size, in_chain, leads_group}
@@ -27,7 +27,7 @@ pub use Rattle.ksm_tree.specs.CountedSets.{IsMarked, MayBeMarked}
 pub use Rattle.ksm_tree.specs.Counts.{is_open, places_where}
 pub use Rattle.ksm_tree.specs.Dups.{change_items, dup_at, dup_of, DupsState, has_number, is_live, is_stale, items_in, places_open, rows_of, stands_at, with_new, without_place}
 pub use Rattle.ksm_tree.specs.Grouping.{AreGroups, content_in, is_occupied, IsIdle, places_in, waits_in}
-pub use Rattle.ksm_tree.specs.Groups.{chain_in, is_used_in, IsAsWas, IsCountedAnew, IsSwept, SameChains, SameWaits, StandsAsWas, under, waiting_in}
+pub use Rattle.ksm_tree.specs.Groups.{chain_in, is_used_in, IsAsWas, IsCountedAnew, IsMoved, IsSwept, SameChains, SameWaits, StandsAsWas, under, waiting_in}
 pub use Rattle.ksm_tree.specs.NumberSets.{AreSummed, has, HasNoBit, HasNone, IsLeast, IsLowestBit, IsSummed, Marks}
 pub use Rattle.ksm_tree.specs.Numbered.{AreNumbered, content_of, content_order, IsUnused, number_of, Numbers}
 pub use Rattle.ksm_tree.specs.Places.{with_place, without}
@@ -51,7 +51,7 @@ pub use Rattle.std.proofs.Common.{◌≢◌, ◌≤◌}
 pub use Rattle.std.proofs.Math.ListN.{drop_of_length-le, get_or-map}
 pub use Rattle.std.proofs.lemmas.Bool.{cases_Bool, eqb-true, le-ltb}
 pub use Rattle.std.proofs.lemmas.Bool.Decides.{nat_tests}
-pub use Rattle.std.proofs.lemmas.List.{get_or-replicate, get_or_default, get_or_past, length-map, map-append, map-set, set-get_or}
+pub use Rattle.std.proofs.lemmas.List.{get_or-replicate, get_or_default, get_or_past, length-map, length-replicate, map-append, map-set, set-get_or}
 pub use Rattle.std.proofs.lemmas.List.Elements.{All-append, All-cons, All-filter, All-head, All-map, All-tail, filter-append, filter_passes}
 pub use Rattle.std.proofs.lemmas.List.Folds.{find-append, list_all-append, list_all_more}
 pub use Rattle.std.proofs.lemmas.List.Kept.{AllPairs-cons}

@@ -7,10 +7,9 @@ use Rattle.ksm_tree.proofs.Names.{ShelfState, slots_seen, SlotsState, Some, stan
 use Rattle.ksm_tree.proofs.Names.{◌≡◌, ◌≤◌}
 use Rattle.ksm_tree.proofs.Alike.{change_none}
 
-module _ (test : Option Dup → Bool) (slots : List (Option Dup)) (p : ℕ) (s : Option Dup) (within : p < length slots) where
-  -- the set once a slot is put, and its place marked as the slot passes
-  pub set_marked : {old new : CountedSet} → IsMarked old new p (test s) → IsSetOf test slots old → IsSetOf test (set slots p s) new
-  set_marked marked h = grind (arith, length-set, get_or-set_same, get_or-set_other, sum_by-set)
+-- the set once a slot is put, and its place marked as the slot passes
+set_marked : {test : Option Dup → Bool} {slots : List (Option Dup)} {p : ℕ} (s : Option Dup) {old new : CountedSet} → p < length slots → IsMarked old new p (test s) → IsSetOf test slots old → IsSetOf test (set slots p s) new
+set_marked s within marked h = grind (arith, length-set, get_or-set_same, get_or-set_other, sum_by-set)
 
 -- a place is marked as its slot passes
 pub set_same : {test : Option Dup → Bool} {slots : List (Option Dup)} {places : CountedSet} {p : ℕ} {b : Bool} → IsSetOf test slots places → p < length slots → b ≡ test (get_or slots p None) → IsMarked places places p b
@@ -151,8 +150,8 @@ module _ {slots : Slots} {counts : List ℕ} {empty stale : CountedSet} (h : Are
     few = rw length-set h.few;
     placed = placed_set 0 p p s slots (omega arith) at h.placed;
     counted = grind (arith, map-set);
-    empties = set_marked _ _ _ _ within empties h.empties;
-    stales = set_marked _ _ _ _ within stales h.stales;
+    empties = set_marked s within empties h.empties;
+    stales = set_marked s within stales h.stales;
   }
 
   -- the slots are right once the items of one dup changed, and its place is marked as stale or not
@@ -167,10 +166,6 @@ module _ {slots : Slots} {counts : List ℕ} {empty stale : CountedSet} (h : Are
   pub slots_kept : (p : ℕ) {n : ℕ} (f : List GuestPage → List GuestPage) → is_some (get_or slots p None) ≡ true → n ≡ length (f (items_in (get_or slots p None)))
       → (n == 0) ≡ holds is_stale (get_or slots p None) → AreSlots (change_slot p f slots) (set counts p n) empty stale
   slots_kept p f some is same = slots_changed p f some is (set_same h.stales (grind (arith, get_or_past)) same)
-
--- each place that has a slot has a count
-pub count_within : (p : ℕ) (slots : Slots) {counts : List ℕ} → counts ≡ map count_in slots → p < length slots → p < length counts
-count_within p slots counted within = omega (arith, ap length counted ∙ length-map slots _)
 
 -- items with one more are not none, and were not where they are not one
 pub grown : (page : GuestPage) (pages : List GuestPage) {n : ℕ} → n ≡ length (with_item page pages) → ((n == 0) ≡ false) × ((n ≡ 1 → ⊥) → (length pages == 0) ≡ false)
@@ -209,4 +204,4 @@ pub slots_same : (p : ℕ) (page : GuestPage) (slots : Slots) → has_item page 
 slots_same p page slots absent = grind (arith, same_items, set-get_or)
 
 -- what the slots say of the dups that are seen
-pub ruleset steps = (count_within, first_empty, first_stale, length-set, may_be_marked, seen_slot, seen_within, slot_emptied, slot_filled, slot_put, view_changed)
+pub ruleset steps = (first_empty, first_stale, length-map, length-set, may_be_marked, seen_slot, seen_within, slot_emptied, slot_filled, slot_put, view_changed)

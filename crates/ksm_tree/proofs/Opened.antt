@@ -1,7 +1,6 @@
 -- Slots that are all empty, the open places as the counts change, and counts over the slots.
 use Rattle.ksm_tree.proofs.Names.{ArePlaced, arith, Bool, cond, count_by, count_in, count_more, CountedSet, Dup, get_or-replicate, has, holds, is_empty_slot, is_live, is_open, is_stale, IsSetOf}
-use Rattle.ksm_tree.proofs.Names.{length, List, map, None, Option, places_open, places_where, present, refl, replicate, Some, suc, zero, ℕ, [], ◌*◌, ◌+◌, ◌<◌, ◌∷◌, ◌≡◌, ◌≤◌}
-use Rattle.std.proofs.lemmas.List.{length-replicate}
+use Rattle.ksm_tree.proofs.Names.{length-replicate, length, List, map, None, Option, places_open, places_where, present, refl, replicate, Some, suc, zero, ℕ, [], ◌*◌, ◌+◌, ◌<◌, ◌∷◌, ◌≡◌, ◌≤◌}
 use Rattle.std.proofs.lemmas.List.Folds.{sum_by-replicate}
 
 -- a list of n empty slots

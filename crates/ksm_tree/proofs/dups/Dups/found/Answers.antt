@@ -1,6 +1,5 @@
 use Rattle.ksm_tree.proofs.Names.{ap, AreChained, arith, Dup, dups_seen, number_of, refl, Some, with_item, without_place, ℕ, [], ◌+◌, ◌∙◌, ◌∷◌, ◌≡◌}
-use Rattle.ksm_tree.proofs.Chained.{none_left, room_chained, told}
-use Rattle.ksm_tree.proofs.Made.{fresh_chained, new_again, seen_made}
+use Rattle.ksm_tree.proofs.Chained.{fresh_chained, new_again, none_left, room_chained, seen_made, told}
 use Rattle.ksm_tree.proofs.dups.Dups.found.Goals as goal
 use Rattle.ksm_tree.proofs.dups.Dups.found.Goals.{After-vacate}
 

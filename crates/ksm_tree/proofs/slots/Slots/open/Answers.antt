@@ -1,5 +1,4 @@
-use Rattle.ksm_tree.proofs.Names.{arith, ◌∙◌}
-use Rattle.std.proofs.lemmas.List.{length-replicate}
+use Rattle.ksm_tree.proofs.Names.{length-replicate, arith, ◌∙◌}
 use Rattle.ksm_tree.proofs.Opened.{none_counted, none_placed, none_present, none_set}
 use Rattle.ksm_tree.proofs.slots.Slots.open.Goals as goal
 
