@@ -125,13 +125,8 @@ rows_fit p [] below rise = omega arith
 rows_fit p (r ∷ rows) below rise =
     omega (arith, below (length rows) r (omega arith), place_most (r ∷ rows) rise (length rows) r (omega arith))
 
--- there are at most as many chains as frames, and as many dups in them
-totals_few : (p : ℕ) {rows : List DupRow} {totals : Totals} → p ≤ MOST_FRAMES → All (λ r. r.place < p) rows → InPlaceOrder rows → AreTotals rows totals → (totals.chains ≤ MOST_FRAMES) × (totals.dups ≤ MOST_FRAMES)
-totals_few p {rows} few below rise are =
-    let fit = rows_fit p rows below rise in
-    (omega (arith, count_by-le-length (leads rows) rows), omega (arith, count_by-le-length (in_chain rows) rows))
-
 -- the totals have room for each group as it is
 pub totals_tell : (t : ℕ) (b : List ℕ) (p : ℕ) {rows : List DupRow} {totals : Totals} → p ≤ MOST_FRAMES → All (λ r. r.place < p) rows → InPlaceOrder rows → AreTotals rows totals → Tells (length (group_places t b rows)) totals
 totals_tell t b p {rows} {totals} few below rise are =
-    rw (places_size t b rows) (omega (arith, chains_parted t b _ rise, dups_parted t b rows, totals_few p few below rise are))
+    rw (places_size t b rows) (omega (arith, chains_parted t b _ rise, dups_parted t b rows, rows_fit p rows below rise,
+    count_by-le-length (leads rows) rows, count_by-le-length (in_chain rows) rows))

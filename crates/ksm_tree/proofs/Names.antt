@@ -32,9 +32,9 @@ pub use Rattle.ksm_tree.specs.NumberSets.{AreSummed, has, HasNoBit, HasNone, IsL
 pub use Rattle.ksm_tree.specs.Numbered.{AreNumbered, content_of, content_order, IsUnused, number_of, Numbers}
 pub use Rattle.ksm_tree.specs.Places.{with_place, without}
 pub use Rattle.ksm_tree.specs.Shelf.{change_items_of, change_slot, has_room, kept_at, ShelfState, slots_by}
-pub use Rattle.ksm_tree.specs.Slots.{ArePlaced, AreSlots, change_at, count_in, holds, is_empty_slot, IsSetOf, present, slots_seen, SlotsState}
+pub use Rattle.ksm_tree.specs.Slots.{ArePlaced, AreSlots, change_at, count_in, holds, IsSetOf, present, slots_seen, SlotsState}
 pub use Rattle.ksm_tree.specs.Totals.{AreTotals, chained_of, chains_of, IsRegrouped, Tells}
-pub use Rattle.ksm_tree.specs.Waits.{AreWaiting, IsAdded, IsAlike, IsStopped, names, waiting_page, WaitingPage, waits_there}
+pub use Rattle.ksm_tree.specs.Waits.{AreWaiting, IsAdded, IsStopped, names, waiting_page, WaitingPage, waits_there}
 pub use Rattle.ksm_tree.specs.declared.choice.Choice.{Choice}
 pub use Rattle.ksm_tree.specs.declared.content.Content.{Content}
 pub use Rattle.ksm_tree.specs.declared.counted_set.CountedSet.{CountedSet}
@@ -67,6 +67,6 @@ pub use Rattle.std.specs.Int.{bit_at}
 pub use Rattle.std.specs.Int.Bits.{bit_and}
 pub use Rattle.std.specs.Int.RustNames.{bit_or}
 pub use Rattle.std.specs.List.{list_all}
-pub use Rattle.std.specs.Option.{ForSome, option_and_then}
+pub use Rattle.std.specs.Option.{ForSome, is_none, option_and_then}
 pub use Rattle.std.specs.Prelude.{All, AllPairs, bytes_eq, cond, Err, filter, filter_map, find, if◌then◌else◌, is_some, IsOk, MatchOption, nat_le, nat_lt, not, Ok, OnErr, OnOk, option_copied}
 pub use Rattle.std.specs.Prelude.{option_map, Result, ◌%◌, ◌&&◌, ◌==◌, ◌^◌, ◌||◌}

@@ -1,7 +1,7 @@
 -- What a change of one slot does to the dups and to the places whose slots pass a test.
 use Rattle.ksm_tree.proofs.Names.{absent_kept, All, ap, ArePlaced, AreSlots, arith, Bool, change_at, change_items_of, change_slot, count_by-le-length, count_in, CountedSet, Dup, dup_at, empty_from}
 use Rattle.ksm_tree.proofs.Names.{empty_place, eqb-true, false, filter_all, filter_none, find, find_nothing, find_passes, get_or, get_or-le-sum_by, get_or-set_other, get_or-set_same, get_or_past}
-use Rattle.ksm_tree.proofs.Names.{GuestPage, has_item, HasNone, holds, if◌then◌else◌, is_empty_slot, is_some, is_stale, IsLeast, IsMarked, IsSetOf, items_in, length, length-append, length-map}
+use Rattle.ksm_tree.proofs.Names.{GuestPage, has_item, HasNone, holds, if◌then◌else◌, is_none, is_some, is_stale, IsLeast, IsMarked, IsSetOf, items_in, length, length-append, length-map}
 use Rattle.ksm_tree.proofs.Names.{length-set, List, map, map-set, MatchOption, MayBeMarked, MOST_FRAMES, None, none_found, Option, option_map, pages_ordered, present, refl, rows_of, set, set-get_or}
 use Rattle.ksm_tree.proofs.Names.{ShelfState, slots_seen, SlotsState, Some, stands_at, suc, sum_by-set, true, with_item, with_new, without_item, without_place, zero, ℕ, [], ◌+◌, ◌<◌, ◌==◌, ◌∙◌, ◌∷◌}
 use Rattle.ksm_tree.proofs.Names.{◌≡◌, ◌≤◌}
@@ -97,7 +97,7 @@ empty_before j k (s ∷ slots) before placed =
     grind (arith, empty_before j (suc k) slots (omega arith) (behind k s slots placed))
 
 -- the least place that no dup has is that of the first empty slot, or the one behind all slots
-empty_first : (k i : ℕ) (slots : Slots) → ArePlaced k slots → NoneBefore is_empty_slot slots i → i ≤ length slots → is_empty_slot (get_or slots i None) ≡ true
+empty_first : (k i : ℕ) (slots : Slots) → ArePlaced k slots → NoneBefore is_none slots i → i ≤ length slots → is_none (get_or slots i None) ≡ true
     → empty_from k (rows_of (present slots)) ≡ k + i
 empty_first k i [] placed before within here = omega arith
 empty_first k zero (s ∷ slots) placed before within here =
@@ -145,7 +145,7 @@ module _ {slots : Slots} {counts : List ℕ} {empty stale : CountedSet} (h : Are
 
   -- the slots are right once one changes, its count with it, and the sets follow
   pub slots_set : (p : ℕ) {n : ℕ} (s : Option Dup) {empty' stale' : CountedSet} → p < length slots → n ≡ count_in s → ArePlaced p (s ∷ [])
-      → IsMarked empty empty' p (is_empty_slot s) → IsMarked stale stale' p (holds is_stale s) → AreSlots (set slots p s) (set counts p n) empty' stale'
+      → IsMarked empty empty' p (is_none s) → IsMarked stale stale' p (holds is_stale s) → AreSlots (set slots p s) (set counts p n) empty' stale'
   slots_set p s within is at empties stales = record {
     few = rw length-set h.few;
     placed = placed_set 0 p p s slots (omega arith) at h.placed;

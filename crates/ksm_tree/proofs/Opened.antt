@@ -1,27 +1,23 @@
 -- Slots that are all empty, the open places as the counts change, and counts over the slots.
-use Rattle.ksm_tree.proofs.Names.{ArePlaced, arith, Bool, cond, count_by, count_in, count_more, CountedSet, Dup, get_or-replicate, has, holds, is_empty_slot, is_live, is_open, is_stale, IsSetOf}
+use Rattle.ksm_tree.proofs.Names.{ArePlaced, arith, Bool, cond, count_by, count_in, count_more, CountedSet, Dup, get_or-replicate, has, holds, is_none, is_live, is_open, is_stale, IsSetOf}
 use Rattle.ksm_tree.proofs.Names.{length-replicate, length, List, map, None, Option, places_open, places_where, present, refl, replicate, Some, suc, zero, ℕ, [], ◌*◌, ◌+◌, ◌<◌, ◌∷◌, ◌≡◌, ◌≤◌}
 use Rattle.std.proofs.lemmas.List.Folds.{sum_by-replicate}
 
--- a list of n empty slots
-abbrev pub none_of : ℕ → List (Option Dup)
-none_of n = replicate n None
-
 -- no dup is present in empty slots
-pub none_present : (n : ℕ) → present (none_of n) ≡ []
+pub none_present : (n : ℕ) → present (replicate n None) ≡ []
 none_present zero = refl
 none_present (suc n) = none_present n
 
-pub none_placed : (k n : ℕ) → ArePlaced k (none_of n)
+pub none_placed : (k n : ℕ) → ArePlaced k (replicate n None)
 none_placed k zero = tt
 none_placed k (suc n) = none_placed _ n
 
 -- a set that has all of so many places, or none, is that of the empty slots that pass a test
-pub none_set : {test : Option Dup → Bool} (n : ℕ) {places : CountedSet} → n ≤ 64 * length places.set → ((p : ℕ) → p < n → has places.set p ≡ test None) → places.count ≡ n * cond (test None) 1 0 → IsSetOf test (none_of n) places
+pub none_set : {test : Option Dup → Bool} (n : ℕ) {places : CountedSet} → n ≤ 64 * length places.set → ((p : ℕ) → p < n → has places.set p ≡ test None) → places.count ≡ n * cond (test None) 1 0 → IsSetOf test (replicate n None) places
 none_set n wide each count = grind (arith, length-replicate, get_or-replicate, sum_by-replicate)
 
 -- in empty slots no place has an item
-pub none_counted : (n : ℕ) → replicate n 0 ≡ map count_in (none_of n)
+pub none_counted : (n : ℕ) → replicate n 0 ≡ map count_in (replicate n None)
 none_counted zero = refl
 none_counted (suc n) = grind (arith, none_counted n)
 
@@ -44,8 +40,8 @@ stale_slots (Some d ∷ slots) =
     grind (arith, count_more (holds is_stale) (Some d) slots, count_more is_stale d (present slots), stale_slots slots)
 
 -- each slot is empty, or its dup is stale or has items
-pub three_kinds : (slots : List (Option Dup)) → count_by is_empty_slot slots + count_by (holds is_stale) slots + count_by is_live (present slots) ≡ length slots
+pub three_kinds : (slots : List (Option Dup)) → count_by is_none slots + count_by (holds is_stale) slots + count_by is_live (present slots) ≡ length slots
 three_kinds [] = refl
-three_kinds (None ∷ slots) = grind (arith, count_more is_empty_slot None slots, three_kinds slots)
+three_kinds (None ∷ slots) = grind (arith, count_more is_none None slots, three_kinds slots)
 three_kinds (Some d ∷ slots) =
     grind (arith, count_more (holds is_stale) (Some d) slots, count_more is_live d (present slots), three_kinds slots)

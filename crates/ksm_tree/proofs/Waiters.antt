@@ -1,6 +1,6 @@
 -- The waiting pages beside the rows that wait: what a look-up tells, and what a change of rows does.
 use Rattle.ksm_tree.proofs.Names.{All, AreWaiting, arith, Bool, bytes_eq-Decides, cases_Bool, change_row, comes_before, each_at_page, false, filter, find-append, find_all, find_nothing}
-use Rattle.ksm_tree.proofs.Names.{GuestPage, if◌then◌else◌, inl, InPageOrder, inr, IsAdded, IsAlike, IsStopped, Knobs, List, map, names, nat_tests, None, not, Option, option_and_then, option_map}
+use Rattle.ksm_tree.proofs.Names.{GuestPage, if◌then◌else◌, inl, InPageOrder, inr, IsAdded, IsStopped, Knobs, List, map, names, nat_tests, None, not, Option, option_and_then, option_map}
 use Rattle.ksm_tree.proofs.Names.{partner, refl, Row, row_at, same_page, same_page_refl, Some, suc, tree_of, true, Waiting, waiting_page, waiting_state, WaitingPage, waits_there, with_row}
 use Rattle.ksm_tree.proofs.Names.{without_page, ℕ, [], ◌&&◌, ◌∙◌, ◌∷◌, ◌≡◌}
 use Rattle.ksm_base.specs.Visit.{waits_for}
@@ -88,7 +88,7 @@ module _ (knobs : Knobs) (rows : List Row) (w : List WaitingPage) (are : AreWait
   row_inserted row absent still t b q = grind (arith, at_inserted)
 
   -- a row that changes into one that waits alike changes no waiting page
-  pub row_kept : (row old : Row) → row_at row.page rows ≡ Some old → IsAlike old row → AreWaiting knobs (change_row row.page (λ _. row) rows) w
+  pub row_kept : (row old : Row) → row_at row.page rows ≡ Some old → (row.page ≡ old.page) × (row.home ≡ old.home) × (row.bytes ≡ old.bytes) × (waiting_state row.state ≡ waiting_state old.state) → AreWaiting knobs (change_row row.page (λ _. row) rows) w
   row_kept row old found alike t b q =
       grind (arith, nat_tests, at_written row q rows, are t b row.page)
 

@@ -22,13 +22,10 @@ is_no_worse d e =
     nat_lt (length e.items) (length d.items)
     || (length e.items == length d.items && nat_le d.row.number e.row.number)
 
--- e is no better to join than d
-abbrev pub is_no_rival : ℕ → List ℕ → ℕ → Dup → Dup → Bool
-is_no_rival tree bytes limit d e = not (may_join tree bytes limit e) || is_no_worse d e
-
 -- d may be joined, and no other dup is better to join
 abbrev pub is_best : ℕ → List ℕ → ℕ → List Dup → Dup → Bool
-is_best tree bytes limit dups d = may_join tree bytes limit d && list_all (is_no_rival tree bytes limit d) dups
+is_best tree bytes limit dups d =
+    may_join tree bytes limit d && list_all (λ e. not (may_join tree bytes limit e) || is_no_worse d e) dups
 
 -- the dup that a page of the tree and the bytes joins
 abbrev pub best_of : ℕ → List ℕ → ℕ → List Dup → Option Dup

@@ -1,4 +1,5 @@
 -- The dups by place: a slot for each place, and the places whose slots pass a test. (own)
+use Rattle.std.specs.Option.{is_none}
 use Rattle.std.specs.Prelude.{Bool, count_by, false, get_or, if◌then◌else◌, length, List, map, None, Option, Some, suc, true, ℕ, [], ◌*◌, ◌<◌, ◌∷◌, ◌≡◌, ◌≤◌}
 use Rattle.ksm_base.specs.declared.limits.TheConstants.{MOST_FRAMES}
 use Rattle.ksm_base.specs.declared.page.GuestPage.{GuestPage}
@@ -22,10 +23,6 @@ present (Some d ∷ slots) = d ∷ present slots
 
 abbrev pub slots_seen : ShelfState → SlotsState
 slots_seen s = record { places = length s.slots; dups = present s.slots; ready = s.ready }
-
-abbrev pub is_empty_slot : Option Dup → Bool
-is_empty_slot None = true
-is_empty_slot (Some d) = false
 
 -- a slot has a dup that passes a test
 abbrev pub holds : (Dup → Bool) → Option Dup → Bool
@@ -57,5 +54,5 @@ pub record AreSlots (slots : List (Option Dup)) (counts : List ℕ) (empty stale
   pub few : length slots ≤ MOST_FRAMES
   pub placed : ArePlaced 0 slots
   pub counted : counts ≡ map count_in slots
-  pub empties : IsSetOf is_empty_slot slots empty
+  pub empties : IsSetOf is_none slots empty
   pub stales : IsSetOf (holds is_stale) slots stale

@@ -12,13 +12,10 @@ pub record WaitingPage : Type 0 where
   pub bytes : List ℕ
   pub page : GuestPage
 
--- whether a page waits in a tree with these bytes
-abbrev pub waits_for : ℕ → List ℕ → WaitingPage → Bool
-waits_for tree bytes w = w.tree == tree && bytes_eq w.bytes bytes
-
 -- the page that waits in a tree with these bytes
 abbrev pub waiting_page : ℕ → List ℕ → List WaitingPage → Option GuestPage
-waiting_page tree bytes waiting = option_map (λ w. w.page) (find (waits_for tree bytes) waiting)
+waiting_page tree bytes waiting =
+    option_map (λ w. w.page) (find (λ w. w.tree == tree && bytes_eq w.bytes bytes) waiting)
 
 -- the new waiting pages are the old ones, but that a page waits in a tree with these bytes
 abbrev pub IsAdded : ℕ → List ℕ → GuestPage → List WaitingPage → List WaitingPage → Type 0
@@ -49,9 +46,3 @@ names page (Some waiting) = same_page waiting page
 abbrev pub AreWaiting : Knobs → List Row → List WaitingPage → Type 0
 AreWaiting knobs rows waiting = (tree : ℕ) (bytes : List ℕ) (page : GuestPage)
     → names page (waiting_page tree bytes waiting) ≡ waits_there knobs tree bytes (row_at page rows)
-
--- the new row is of the page, the home and the bytes of the old one, and waits exactly if that does
-abbrev pub IsAlike : Row → Row → Type 0
-IsAlike old new =
-    (new.page ≡ old.page) × (new.home ≡ old.home) × (new.bytes ≡ old.bytes)
-    × (waiting_state new.state ≡ waiting_state old.state)
