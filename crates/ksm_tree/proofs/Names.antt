@@ -14,7 +14,7 @@ pub use Rattle.ksm_base.specs.declared.limits.TheConstants.{MOST_FRAMES}
 pub use Rattle.ksm_base.specs.declared.page.GuestPage.{GuestPage}
 pub use Rattle.ksm_base.specs.declared.row.DupRow.{DupRow}
 pub use Rattle.ksm_base.specs.declared.row.PageState.{PageState}
-pub use Rattle.ksm_base.specs.declared.row.PageState.TheVariants.{Merged, Private, Waiting, Zero}
+pub use Rattle.ksm_base.specs.declared.row.PageState.TheVariants.{Merged, Waiting}
 pub use Rattle.ksm_base.specs.declared.row.Row.{Row}
 pub use Rattle.ksm_rmap.proofs.Ordered.{absent_kept, absent_past, all_counted, any_found, counted_here, found_by, insert_at, IsOrder, none_found, parted, point_is_count, remove_at, with_found}
 pub use Rattle.ksm_rmap.proofs.Ordered.{with_rises, without_rises}
@@ -46,7 +46,7 @@ pub use Rattle.ksm_tree.specs.declared.totals.Totals.{Totals}
 pub use Rattle.slab.proofs.SlabLemmas.{Updates-with_value}
 pub use Rattle.slab.specs.Slab.{get, Slab, with_value}
 pub use Rattle.std.proofs.Common.{add-one, ap, arith, Bool, count_by, drop, drop-cons, false, get_or, get_or-set_other, get_or-set_same, inl, inr, length, length-append, length-set, List, map, None}
-pub use Rattle.std.proofs.Common.{Option, refl, replicate, rules, set, shr-shr, Some, subst, suc, sym, take, true, true≢false, w64, zero, zero-mul, ℕ, [], ◌*◌, ◌++◌, ◌+◌, ◌-◌, ◌/◌, ◌<◌, ◌∙◌, ◌∷◌, ◌≡◌}
+pub use Rattle.std.proofs.Common.{Option, refl, replicate, rules, set, shr-shr, Some, subst, suc, sym, take, true, true≢false, w64, zero, ℕ, [], ◌*◌, ◌++◌, ◌+◌, ◌-◌, ◌/◌, ◌<◌, ◌∙◌, ◌∷◌, ◌≡◌}
 pub use Rattle.std.proofs.Common.{◌≢◌, ◌≤◌}
 pub use Rattle.std.proofs.Math.ListN.{drop_of_length-le, get_or-map}
 pub use Rattle.std.proofs.lemmas.Bool.{cases_Bool, eqb-true, le-ltb}
@@ -59,7 +59,7 @@ pub use Rattle.std.proofs.lemmas.List.Sorted.{IsPartitionPoint-from_clause}
 pub use Rattle.std.proofs.lemmas.List.Sums.{AllPass-from_list_all, count_by-le-length, get_or-le-sum_by, length-filter, list_all-from_AllPass, sum_by-set}
 pub use Rattle.std.proofs.lemmas.Map.Lookups.{exact_bytes, exact_pairs, exact_unsigned}
 pub use Rattle.std.proofs.lemmas.Nat.Bits.{bit_at-trailing_zeros, bit_at_above, bit_at_clear_other, bit_at_clear_same, bit_at_ones, bit_at_set_other, bit_at_set_same}
-pub use Rattle.std.proofs.lemmas.Option.{get_or_from_slice_get, none-some, slice_get_within}
+pub use Rattle.std.proofs.lemmas.Option.{get_or_from_slice_get, slice_get_within}
 pub use Rattle.std.proofs.lemmas.Slice.Eq.{bytes_eq-Decides}
 pub use Rattle.std.specs.BTreeMap.{BTreeMap, is_at, Updates}
 pub use Rattle.std.specs.Cmp.{Equal-is}
@@ -68,5 +68,5 @@ pub use Rattle.std.specs.Int.Bits.{bit_and}
 pub use Rattle.std.specs.Int.RustNames.{bit_or}
 pub use Rattle.std.specs.List.{list_all}
 pub use Rattle.std.specs.Option.{ForSome, is_none, option_and_then}
-pub use Rattle.std.specs.Prelude.{All, AllPairs, bytes_eq, cond, Err, filter, filter_map, find, if◌then◌else◌, is_some, IsOk, MatchOption, nat_le, nat_lt, not, Ok, OnErr, OnOk, option_copied}
+pub use Rattle.std.specs.Prelude.{All, AllPairs, bytes_eq, cond, Err, filter, filter_map, find, if◌then◌else◌, is_some, MatchOption, nat_le, nat_lt, not, Ok, OnErr, option_copied}
 pub use Rattle.std.specs.Prelude.{option_map, Result, ◌%◌, ◌&&◌, ◌==◌, ◌^◌, ◌||◌}

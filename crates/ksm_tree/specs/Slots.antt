@@ -1,6 +1,6 @@
 -- The dups by place: a slot for each place, and the places whose slots pass a test. (own)
 use Rattle.std.specs.Option.{is_none}
-use Rattle.std.specs.Prelude.{Bool, count_by, false, get_or, if◌then◌else◌, length, List, map, None, Option, Some, suc, true, ℕ, [], ◌*◌, ◌<◌, ◌∷◌, ◌≡◌, ◌≤◌}
+use Rattle.std.specs.Prelude.{Bool, count_by, false, get_or, if◌then◌else◌, length, List, map, None, Option, Some, suc, ℕ, [], ◌*◌, ◌<◌, ◌∷◌, ◌≡◌, ◌≤◌}
 use Rattle.ksm_base.specs.declared.limits.TheConstants.{MOST_FRAMES}
 use Rattle.ksm_base.specs.declared.page.GuestPage.{GuestPage}
 use Rattle.ksm_tree.specs.declared.dup.Dup.{Dup}

@@ -1,12 +1,13 @@
 use Rattle.ksm_tree.proofs.Names.{arith, insert_at, none_found, refl, sym, with_found, with_place, with_rises, ◌∙◌, ◌≡◌}
-use Rattle.ksm_tree.proofs.Numbers.{at_ok, places_ordered}
+use Rattle.ksm_tree.proofs.Numbers.{places_ordered}
+use Rattle.std.specs.Prelude.{insert}
 use Rattle.ksm_tree.proofs.places.Places.insert.Goals as goal
 use Rattle.ksm_tree.proofs.places.Places.insert.Goals.{After-insert-there_is_room}
 
 inserted : (c : After-insert-there_is_room) → c.insert-there_is_room.new.self.items ≡ with_place c.args.place c.args.self.now.list.items
 inserted c =
-    at_ok _ (c.insert-there_is_room.ensures.succeeds c.requires) c.insert-there_is_room.ensures.ok
-    ∙ insert_at places_ordered (λ p. p) c.args.place _ c.args.self.now.ascending c.as_slice-places.ensures
+    let put : c.insert-there_is_room.new.self.items ≡ insert c.args.self.now.list.items c.place_in-at.result c.args.place = grind (arith, c.insert-there_is_room.ensures.succeeds) in
+    put ∙ insert_at places_ordered (λ p. p) c.args.place _ c.args.self.now.ascending c.as_slice-places.ensures
     c.as_slice-places.ensures c.place_in-at.ensures.count c.args.place
     (none_found _ c.as_slice-places.result.now (sym c.if-not-stands_at.ensures.found))
 
