@@ -4,6 +4,7 @@ use Rattle.ksm_pages.proofs.Names.{filter_passes, find, find_all, find_passes, g
 use Rattle.ksm_pages.proofs.Names.{IsUnder, key_in, List, map, map-append, marked, Named, named_of, None, not, option_map, refl, rows_of, rules, same_page, same_page_eq, same_page_refl, same_page_sym}
 use Rattle.ksm_pages.proofs.Names.{same_Some, Slab, Some, sym, true, with_held, with_named, without_held, without_named, ℕ, [], ◌==◌, ◌∙◌, ◌∷◌, ◌≡◌, ◌≢◌}
 use Rattle.ksm_pages.proofs.Options.{mapped_some, none_mapped}
+use Rattle.std.proofs.lemmas.List.{map-id}
 use Rattle.slab.specs.Slab.{Updates as Fills}
 use Rattle.ksm_tree.proofs.Numbering.{full}
 use Rattle.ksm_tree.proofs.Alike.{filter_mapped, find_mapped, map_alike, map_mapped, pairs_mapped}
@@ -106,10 +107,6 @@ module _ (slab : Slab Entry) (order : List Named) (rise : AreAscending order) (f
       written pass f is =
           grind (arith, map_mapped, all_stand, same_page_refl, differ_by, page_under, under_named, elsewhere)
 
-      -- where one entry is written anew and its mergeable flag stays, pages are named as their entries say
-      pub filed_kept : e'.mergeable ≡ e.mergeable → AreFiled later order
-      filed_kept flag n = search rules
-
       abbrev mark : Named → Named
       mark n = if is_of e.page n then record n { mergeable = e'.mergeable } else n
 
@@ -119,6 +116,15 @@ module _ (slab : Slab Entry) (order : List Named) (rise : AreAscending order) (f
       -- where one entry is written anew and its page marked with its flag, pages are named as their entries say
       pub filed_marked : AreFiled later (marked e.page e'.mergeable order)
       filed_marked n = grind (arith, find_marked, elsewhere, named_under, same_page_eq)
+
+      -- where the flag stays, the order says so already
+      pub unmarked : e'.mergeable ≡ e.mergeable → order ≡ marked e.page e'.mergeable order
+      unmarked flag = sym (map_alike mark (λ n. n) order (λ k d lt. alike _ (each_found page_of _ rise k d lt) _ refl) ∙ map-id order)
+        where
+          alike : (n : Named) → find (is_of n.page) order ≡ Some n → (b : Bool) → is_of e.page n ≡ b
+              → (if b then record n { mergeable = e'.mergeable } else n) ≡ n
+          alike n own true is = grind (arith, named_under slab order filed key e stood, same_page_eq n.page e.page is)
+          alike n own false is = refl
 
     -- ---------------------------------------------------------------- one entry gone
 

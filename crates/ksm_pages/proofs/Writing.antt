@@ -1,15 +1,15 @@
 -- What each change of one row, found under its key, leaves: rows still, and what is seen of them.
 use Rattle.ksm_pages.proofs.Options.{none_mapped}
-use Rattle.ksm_pages.proofs.Names.{ap, ap₂, AreBegun, AreListed, arith, Bool, CanMove, change_held, Entry, false, find, forgotten, get, GuestPage, has_item, Held, held_at, held_in, held_of}
-use Rattle.ksm_pages.proofs.Names.{held_under, IfSome, inl, InPageOrder, inr, is_of, is_own, is_restless, is_some, IsAddedTo, IsInVain, IsMoved, IsRows, IsTally, IsUnder, key_in, Kind, length}
-use Rattle.ksm_pages.proofs.Names.{length-map, List, Listing, marked, Named, named_of, nat_tests, None, number_left, on_row, option_map, pages_ordered, PageState, Private, refl, Row, row_at, rows_of}
-use Rattle.ksm_pages.proofs.Names.{RowsView, rules, same_page_refl, same_Some, settled, shared_state, Slab, Some, state_of, sym, Tally, true, true≢false, Updates-with_value, Waiting, with_held}
-use Rattle.ksm_pages.proofs.Names.{with_named, with_value, without_held, without_named, ℕ, ◌&&◌, ◌<◌, ◌^◌, ◌∙◌, ◌≡◌, ◌≢◌, ◌≤◌, ◌⊎◌}
+use Rattle.ksm_pages.proofs.Names.{ap, AreListed, arith, Bool, CanMove, change_held, Entry, false, find, get, GuestPage, has_item, Held, held_at, held_in, held_of}
+use Rattle.ksm_pages.proofs.Names.{held_under, IfSome, inl, InPageOrder, inr, is_of, is_restless, is_some, IsAddedTo, IsInVain, IsMoved, IsRows, IsUnder, key_in, Kind, length}
+use Rattle.ksm_pages.proofs.Names.{length-map, List, Listing, marked, Named, named_of, nat_tests, None, number_left, option_map, pages_ordered, PageState, Private, refl, row_at, rows_of}
+use Rattle.ksm_pages.proofs.Names.{RowsView, rules, same_page_refl, same_Some, shared_state, Slab, Some, state_of, sym, Tally, true, true≢false, Updates-with_value, Waiting, with_held}
+use Rattle.ksm_pages.proofs.Names.{with_named, with_value, without_held, without_named, ℕ, ◌<◌, ◌^◌, ◌∙◌, ◌≡◌, ◌≢◌, ◌≤◌, ◌⊎◌}
 use Rattle.slab.specs.Slab.{Updates as Fills}
 use Rattle.ksm_pages.specs.declared.row.Kind.TheVariants as kinds
 use Rattle.ksm_pages.specs.declared.rows.Rows.TheInside.{Inside}
 use Rattle.ksm_pages.proofs.Changing.{marked_same, row_told, rows_changed, rows_with, rows_without}
-use Rattle.ksm_pages.proofs.Filing.{all_filled, filed_kept, filed_marked, filed_put, filed_taken, held_found, held_nowhere, named_under, one_key, put, rows_rise, taken, written}
+use Rattle.ksm_pages.proofs.Filing.{all_filled, filed_marked, filed_put, filed_taken, held_found, held_nowhere, named_under, one_key, put, rows_rise, taken, unmarked, written}
 use Rattle.ksm_pages.proofs.Found.{absent_unchanged, write_rises}
 use Rattle.ksm_rmap.proofs.Ordered.{absent_kept, with_rises, without_rises}
 use Rattle.ksm_pages.proofs.Listings.{with_has}
@@ -84,118 +84,43 @@ module _ (s : Inside) (are : AreRows s) where
 
     -- ---------------------------------------------------------------- the entry changed
 
-    module _ (e' : Entry) (same : e'.page ≡ e.page) where
+    -- where the flag of an entry stays, the order says so already
+    pub kept_mark : (flag : Bool) → flag ≡ e.mergeable → s.order ≡ marked page flag s.order
+    kept_mark flag is = grind (arith, unmarked, of_page)
+
+    module _ {v : RowsView} (seen_as : view_of s ≡ v) (e' : Entry) {order : List Named} (marks : order ≡ marked page e'.mergeable s.order)
+        (keeps : (e'.page ≡ e.page) × ((e.kind ≡ kinds.Own → e.number ≤ v.pass) → e'.kind ≡ kinds.Own → e'.number ≤ v.pass)) where
       abbrev later : Slab Entry
       later = with_value s.entries key e'
 
       fills : Fills s.entries later key (Some e')
       fills = Updates-with_value _ _ _ (ap is_some stood)
 
-      held_later : (f : Held → Held) → held_of s.pass e' ≡ f (held_of s.pass e) → held_in s.pass later s.order ≡ change_held page f held
-      held_later f is = grind (arith, written, fills, of_page)
+      held_later : (f : Held → Held) → held_of s.pass e' ≡ f (held_of s.pass e) → held_in s.pass later order ≡ change_held page f held
+      held_later f is = grind (arith, written, fills, of_page, marked_same)
 
-      begun_still : (e'.kind ≡ kinds.Own → e'.number ≤ s.pass) → AreBegun later s.pass
-      begun_still fits = search (rules, fills)
-
-      listed_still : (pages : List GuestPage)
-          → ((k : ℕ) (f : Entry) → get s.entries k ≡ Some f → k ≢ key → is_restless f ≡ true → has_item f.page pages ≡ true)
-          → (is_restless e' ≡ true → has_item page pages ≡ true) → AreListed later pages
-      listed_still pages others own = search (rules, fills, of_page)
-
-      -- where a page is added to the list, the list is right for any new entry of that page
-      pub listed_now : {now : Listing} → IsAddedTo page s.restless now → now.known ≡ true → AreListed later now.pages
-      listed_now added known = search (rules, listed_still, with_has, listed_known, same_page_refl)
-
-      -- the list as it was is right for a new entry that no visit changes
-      pub listed_calm : is_restless e' ≡ false → {now : Listing} → now ≡ s.restless → now.known ≡ true → AreListed later now.pages
-      listed_calm calm is known = search (rules, listed_still)
-
-      module _ {from to : PageState} {tally : Tally} (was : from ≡ state_of e.kind e.number s.pass) (is : to ≡ state_of e'.kind e'.number s.pass) (moved : IsMoved from to s.tally tally) where
-        tallied : IsTally (rows_of (held_in s.pass later s.order)) tally
-        tallied =
+      -- rows with an entry written anew are lawful where the order marks its page, the tally moved, and its page is added to the list,
+      -- or a visit may change it only if it might before
+      pub still : {from to : PageState} {tally : Tally} → from ≡ state_of e.kind e.number s.pass → to ≡ state_of e'.kind e'.number s.pass
+          → IsMoved from to s.tally tally
+          → {now : Listing} → IsAddedTo page s.restless now ⊎ ((now ≡ s.restless) × (is_restless e' ≡ true → is_restless e ≡ true))
+          → IsRows later order now tally s.pass
+      still was is moved either = record {
+        ascending = rw marks (write_rises _ page _ (λ n. refl) _ are.ascending);
+        filed = rw (marks, ← of_page) (filed_marked _ _ are.ascending are.filed stood fills keeps.0);
+        listed = λ known. all_filled fills (λ may. grind (arith, of_page, with_has, same_page_refl, are.listed))
+            (λ k f stands apart may. grind (arith, with_has, are.listed));
+        counted =
             rw (ap rows_of (held_later _ refl) ∙ rows_changed _ (λ _. held_of s.pass e') _ _ (λ h. refl))
-            (tally_changed rise _ found_row _ are.counted _ (grind arith))
-
-        -- rows with an entry written anew are lawful where its flag stays, the list is right and the tally moved
-        pub still : e'.mergeable ≡ e.mergeable → (e'.kind ≡ kinds.Own → e'.number ≤ s.pass) → {now : Listing}
-            → (now.known ≡ true → AreListed later now.pages) → IsRows later s.order now tally s.pass
-        still flag fits listed = search (rules, filed_kept, fills, tallied, begun_still)
-
-        -- the same where the order marks its page so
-        pub marked_moved : (e'.kind ≡ kinds.Own → e'.number ≤ s.pass) → {now : Listing} → (now.known ≡ true → AreListed later now.pages)
-            → IsRows later (marked page e'.mergeable s.order) now tally s.pass
-        marked_moved fits listed = record {
-          ascending = write_rises _ page _ (λ n. refl) _ are.ascending;
-          filed = rw (← of_page) (filed_marked _ _ are.ascending are.filed stood fills same);
-          listed = listed;
-          counted = rw (marked_same _ later _ _ _) tallied;
-          begun = begun_still fits;
-          counting = are.counting;
-        }
-
-        -- rows with an entry written anew are lawful under the old list where no visit may change what none could before
-        pub kept : e'.mergeable ≡ e.mergeable → (e'.kind ≡ kinds.Own → e'.number ≤ s.pass) → (is_restless e' ≡ true → is_restless e ≡ true)
-            → (now : Listing) → now ≡ s.restless → IsRows later s.order now tally s.pass
-        kept flag fits less now is = still flag fits (grind (arith, listed_still, of_page))
-
-      module _ (kind : e'.kind ≡ e.kind) (number : e'.number ≡ e.number) where
-        fits_still : e'.kind ≡ kinds.Own → e'.number ≤ s.pass
-        fits_still own = grind arith
-
-        same_state : state_of e.kind e.number s.pass ≡ state_of e'.kind e'.number s.pass
-        same_state = grind arith
-
-        unmoved : {state : PageState} → IsMoved state state s.tally s.tally
-        unmoved = search rules
-
-        -- rows with an entry written anew are lawful under the old list and tally where its flag and state stay
-        pub untouched : e'.mergeable ≡ e.mergeable → IsRows later s.order s.restless s.tally s.pass
-        untouched flag = kept refl same_state unmoved flag fits_still (λ may. grind arith) _ refl
-
-        -- the same where the order marks its page too
-        pub still_marked : {now : Listing} → (now.known ≡ true → AreListed later now.pages)
-            → IsRows later (marked page e'.mergeable s.order) now s.tally s.pass
-        still_marked = marked_moved refl same_state unmoved fits_still
+            (tally_changed rise _ found_row _ are.counted _ (grind arith));
+        begun = all_filled fills (grind arith) (λ k f stands apart. are.begun k f stands);
+        counting = are.counting;
+      }
 
       -- with an entry written anew whose row is changed by f, the rows are seen with f at that page
-      pub viewed : (f : Held → Held) → held_of s.pass e' ≡ f (held_of s.pass e) → {v : RowsView} → view_of s ≡ v
-          → view s.pass later s.order ≡ record v { held = change_held page f v.held }
-      viewed f is seen_as = grind (arith, held_later)
-
-      -- with an entry written anew and its page marked, the rows are seen with f at that page
-      pub viewed_marked : (f : Held → Held) → held_of s.pass e' ≡ f (held_of s.pass e) → (m : Bool) {v : RowsView} → view_of s ≡ v
-          → view s.pass later (marked page m s.order) ≡ record v { held = change_held page f v.held }
-      viewed_marked f is m seen_as = search (rules, marked_same, viewed)
-
-    -- ---------------------------------------------------------------- the entry changed, and then forgot its pass
-
-    -- the rows are lawful still where an entry is changed, but neither in its page nor in how that is mapped, and then forgets its pass
-    pub kept_forgotten : (e' : Entry) {now : Entry} → now ≡ forgotten e' → e'.page ≡ e.page → e'.mergeable ≡ e.mergeable → e'.kind ≡ e.kind
-        → {from to : PageState} {tally : Tally} → from ≡ state_of e.kind e.number s.pass → to ≡ state_of now.kind now.number s.pass
-        → IsMoved from to s.tally tally → IsRows (with_value s.entries key now) s.order s.restless tally s.pass
-    kept_forgotten e' is same flag kind {from} {to} {tally} was told moved =
-        rw is (kept _ same was (grind arith) moved flag (left_fits _ _ _)
-        (λ may. sym (ap₂ (λ m k. m && is_own k) flag kind) ∙ may) _ refl)
-
-    -- the row of an entry that is changed, and then forgets its pass, is seen changed and settled
-    pub viewed_forgotten : (e' : Entry) {now : Entry} → now ≡ forgotten e' → e'.page ≡ e.page → (f : Row → Row)
-        → on_row settled (held_of s.pass e') ≡ on_row f (held_of s.pass e) → {v : RowsView} → view_of s ≡ v
-        → view s.pass (with_value s.entries key now) s.order ≡ record v { held = change_held page (on_row f) v.held }
-    viewed_forgotten e' is same f told seen_as = grind (arith, viewed)
-
-    -- the same where the entry leaves the scan
-    pub let_go_marked : (e' : Entry) {now : Entry} → now ≡ forgotten e' → e'.page ≡ e.page → e'.mergeable ≡ false
-        → {from to : PageState} {tally : Tally} → from ≡ state_of e.kind e.number s.pass → to ≡ state_of now.kind now.number s.pass
-        → IsMoved from to s.tally tally → (listing : Listing) → listing ≡ s.restless
-        → IsRows (with_value s.entries key now) (marked page false s.order) listing tally s.pass
-    let_go_marked e' is same gone {from} {to} {tally} was told moved listing kept =
-        rw (is, ← gone)
-        (marked_moved (forgotten e') same was (grind (arith, is)) moved (left_fits _ _ _) (listed_calm (forgotten e') same (grind arith) kept))
-
-    pub viewed_let_go : (e' : Entry) {now : Entry} → now ≡ forgotten e' → e'.page ≡ e.page → (f : Row → Row)
-        → on_row settled (held_of s.pass e') ≡ on_row f (held_of s.pass e) → (m : Bool) {v : RowsView} → view_of s ≡ v
-        → view s.pass (with_value s.entries key now) (marked page m s.order) ≡ record v { held = change_held page (on_row f) v.held }
-    viewed_let_go e' is same f told m seen_as = grind (arith, marked_same, viewed_forgotten e' is same f told seen_as)
+      pub viewed : (f : Held → Held) → (1 ≤ v.pass → held_of v.pass e' ≡ f (held_of v.pass e))
+          → view s.pass later order ≡ record v { held = change_held page f v.held }
+      viewed f is = grind (arith, held_later f)
 
     -- ---------------------------------------------------------------- the entry went
 

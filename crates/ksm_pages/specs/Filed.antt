@@ -12,7 +12,7 @@ use Rattle.ksm_pages.specs.declared.row.Kind.TheVariants as kinds
 use Rattle.ksm_pages.specs.declared.row.Entry.{Entry}
 use Rattle.ksm_pages.specs.declared.row.Spot.{Spot}
 use Rattle.ksm_pages.specs.declared.tally.Tally.{Tally}
-use Rattle.ksm_pages.specs.Held.{Held, Listing, held_of, is_restless, rows_of}
+use Rattle.ksm_pages.specs.Held.{Held, Listing, RowsView, change_held, held_of, is_restless, rows_of}
 use Rattle.ksm_pages.specs.Ordered.{AreAscending, is_of}
 
 -- ---------------------------------------------------------------- tallies
@@ -112,6 +112,17 @@ held_under pass (Some e) = held_of pass e
 -- the rows in the order of their pages
 abbrev pub held_in : ℕ → Slab Entry → List Named → List Held
 held_in pass slab order = map (λ n. held_under pass (get slab n.key)) order
+
+-- what becomes of an entry keeps its page, and is of no pass to come
+abbrev pub KeepsPage : ℕ → (Entry → Entry → Type 0) → Type 0
+KeepsPage pass R = (e later : Entry) → R e later
+    → (later.page ≡ e.page) × ((e.kind ≡ kinds.Own → e.number ≤ pass) → later.kind ≡ kinds.Own → later.number ≤ pass)
+
+-- the row of a page was changed as its entry was
+abbrev pub IsMade : (Entry → Entry → Type 0) → GuestPage → RowsView → RowsView → Type 0
+IsMade R page old new = (change : Held → Held)
+    → ((e later : Entry) → R e later → 1 ≤ old.pass → held_of old.pass later ≡ change (held_of old.pass e))
+    → new ≡ record old { held = change_held page change old.held }
 
 -- the pages ascend, each is named as its entry says, those that a visit may change are listed if they are known,
 -- the tally is that of the rows, and no entry's pass is beyond the one that goes on

@@ -8,6 +8,7 @@
 ghost use Rattle.std.specs.Prelude.{◌≡◌, ◌≤◌, ◌<◌, ◌^◌, true, false, [], None, Some, All, IfErr, IfOk, IfSome};
 ghost use Rattle.std.specs.Prelude.{MatchOption, OnErr, OnOk, ◌&&◌, bytes_eq, count_by, filter, find, is_some};
 ghost use Rattle.std.specs.Prelude.{length, map, not, option_map, slice_get};
+ghost use Rattle.std.specs.Fn.{FnOnceReturnsAtMut};
 ghost use Rattle.ksm_base.specs.declared.limits.TheConstants.{MOST_FRAMES};
 ghost use Rattle.ksm_base.specs.declared.page.GuestPage.{GuestPage};
 ghost use Rattle.ksm_base.specs.declared.row.PageState.TheVariants.{Private, Waiting, Merged, Zero};
@@ -15,7 +16,7 @@ ghost use Rattle.ksm_base.specs.Apply.{fresh_row, let_go as as_let_go};
 ghost use Rattle.ksm_base.specs.Rows.{InPageOrder, settled, shared_state};
 ghost use Rattle.ksm_base.specs.Visit.{after_cursor};
 ghost use Rattle.ksm_pages.specs.Ahead.{EndsAt, FindsNext, last_of, mergeable_pages, pages_behind, pages_between};
-ghost use Rattle.ksm_pages.specs.Filed.{AreFiled, AreListed, IsTally, IsUnder, key_in};
+ghost use Rattle.ksm_pages.specs.Filed.{AreFiled, AreListed, IsMade, IsTally, IsUnder, KeepsPage, key_in};
 ghost use Rattle.ksm_pages.specs.Held.{change_held, held_at, held_of, mapped, on_row, rows_of};
 ghost use Rattle.ksm_pages.specs.Held.{with_held, without_held};
 ghost use Rattle.ksm_pages.specs.Ordered.{AreAscending};
@@ -303,6 +304,42 @@ impl Rows {
         self.restless.lose_row();
     }
 
+    // ------------------------------------------------------------ rows that change
+
+    /// The row of a page becomes what is made of its entry, if it has one. Tells whether a visit might change it before.
+    #[inline(always)]
+    fn change<F: FnOnce(&mut Entry)>(&mut self, spot: Spot, make: F) -> bool
+        requires callable { F.IsAlwaysCallable make }
+        requires kept { KeepsPage self.old.pass (λ old new. FnOnceReturnsAtMut F.FnOnce make old tt new) }
+        ensures { IsMade (λ old new. FnOnceReturnsAtMut F.FnOnce make old tt new) spot.page self.old self.new }
+    {
+        let Some(key) = key_of(&self.entries, &self.order, spot) else {
+            return false;
+        };
+        let entry = &mut self.entries[key];
+        let old = entry.state(self.pass);
+        let was = entry.mergeable;
+        let was_restless = entry.is_restless();
+        make(entry);
+        let new = entry.state(self.pass);
+        let is = entry.mergeable;
+        // A row that a visit might change before is listed already.
+        let listed = was_restless | !entry.is_restless();
+        self.tally.change(old, new);
+        if is != was {
+            self.order.mark(spot.page, is);
+        }
+        let rows = self.order.len();
+        if !listed {
+            let spot = Spot {
+                page: spot.page,
+                key,
+            };
+            self.restless.add(spot, rows);
+        }
+        was_restless
+    }
+
     // ------------------------------------------------------------ how a page is mapped
 
     /// The page of a row gets a frame of its own in the stead of what it had, and is Private.
@@ -312,25 +349,11 @@ impl Rows {
           held = change_held spot.page (mapped Private (Some frame)) self.old.held;
         } }
     {
-        let Some(key) = key_of(&self.entries, &self.order, spot) else {
-            return;
-        };
-        let entry = &mut self.entries[key];
-        let old = entry.state(self.pass);
-        let was_restless = entry.is_restless();
-        entry.kind = Kind::Own;
-        entry.number = 0;
-        entry.at = frame;
-        let restless = entry.mergeable;
-        self.tally.change(old, PageState::Private);
-        // A row that a visit may change is listed already.
-        if restless != was_restless {
-            let spot = Spot {
-                page: spot.page,
-                key,
-            };
-            self.restless.add(spot, self.order.len());
-        }
+        self.change(spot, |entry| {
+            entry.kind = Kind::Own;
+            entry.number = 0;
+            entry.at = frame;
+        });
     }
 
     /// The page of a row is mapped from the frame of the dup with a number, at a place that is a guess.
@@ -340,15 +363,11 @@ impl Rows {
           held = change_held spot.page (mapped (Merged number) None) self.old.held;
         } }
     {
-        let Some(key) = key_of(&self.entries, &self.order, spot) else {
-            return;
-        };
-        let entry = &mut self.entries[key];
-        let old = entry.state(self.pass);
-        entry.kind = Kind::Merged;
-        entry.number = number;
-        entry.at = place;
-        self.tally.change(old, PageState::Merged(number));
+        self.change(spot, |entry| {
+            entry.kind = Kind::Merged;
+            entry.number = number;
+            entry.at = place;
+        });
         self.restless.let_be();
     }
 
@@ -356,13 +375,7 @@ impl Rows {
     pub fn become_zero(&mut self, spot: Spot)
         ensures { self.new ≡ record self.old { held = change_held spot.page (mapped Zero None) self.old.held } }
     {
-        let Some(key) = key_of(&self.entries, &self.order, spot) else {
-            return;
-        };
-        let entry = &mut self.entries[key];
-        let old = entry.state(self.pass);
-        entry.kind = Kind::Zero;
-        self.tally.change(old, PageState::Zero);
+        self.change(spot, |entry| entry.kind = Kind::Zero);
         self.restless.let_be();
     }
 
@@ -388,14 +401,7 @@ impl Rows {
     pub fn stop_waiting(&mut self, spot: Spot)
         ensures { self.new ≡ record self.old { held = change_held spot.page (on_row settled) self.old.held } }
     {
-        let Some(key) = key_of(&self.entries, &self.order, spot) else {
-            return;
-        };
-        let entry = &mut self.entries[key];
-        let old = entry.state(self.pass);
-        entry.forget_pass();
-        let new = entry.state(self.pass);
-        self.tally.change(old, new);
+        self.change(spot, |entry| entry.forget_pass());
     }
 
     // ------------------------------------------------------------ what else a row says
@@ -410,10 +416,7 @@ impl Rows {
           })) self.old.held;
         } }
     {
-        let Some(key) = key_of(&self.entries, &self.order, spot) else {
-            return;
-        };
-        self.entries[key].take_bytes(bytes);
+        self.change(spot, |entry| entry.take_bytes(bytes));
     }
 
     /// The row waits no more, and is unchanged. The number of the group in which it was found is remembered.
@@ -422,16 +425,11 @@ impl Rows {
           held = change_held spot.page (on_row (λ r. record (settled r) { unchanged = true })) self.old.held;
         } }
     {
-        let Some(key) = key_of(&self.entries, &self.order, spot) else {
-            return;
-        };
-        let entry = &mut self.entries[key];
-        let old = entry.state(self.pass);
-        entry.unchanged = true;
-        entry.group = group;
-        entry.forget_pass();
-        let new = entry.state(self.pass);
-        self.tally.change(old, new);
+        self.change(spot, |entry| {
+            entry.unchanged = true;
+            entry.group = group;
+            entry.forget_pass();
+        });
     }
 
     /// The row is unchanged no more.
@@ -441,10 +439,7 @@ impl Rows {
           held = change_held spot.page (on_row (λ r. record r { unchanged = false })) self.old.held;
         } }
     {
-        let Some(key) = key_of(&self.entries, &self.order, spot) else {
-            return;
-        };
-        self.entries[key].unchanged = false;
+        self.change(spot, |entry| entry.unchanged = false);
     }
 
     /// The home of the row is another node.
@@ -453,10 +448,7 @@ impl Rows {
           held = change_held spot.page (on_row (λ r. record r { home = home })) self.old.held;
         } }
     {
-        let Some(key) = key_of(&self.entries, &self.order, spot) else {
-            return;
-        };
-        self.entries[key].home = home;
+        self.change(spot, |entry| entry.home = home);
     }
 
     /// A scan visits the row from now on.
@@ -465,24 +457,7 @@ impl Rows {
           held = change_held spot.page (on_row (λ r. record r { mergeable = true })) self.old.held;
         } }
     {
-        let Some(key) = key_of(&self.entries, &self.order, spot) else {
-            return;
-        };
-        let entry = &mut self.entries[key];
-        let was = entry.mergeable;
-        entry.mergeable = true;
-        let restless = entry.is_restless();
-        if was {
-            return;
-        }
-        self.order.mark(spot.page, true);
-        if restless {
-            let spot = Spot {
-                page: spot.page,
-                key,
-            };
-            self.restless.add(spot, self.order.len());
-        }
+        self.change(spot, |entry| entry.mergeable = true);
     }
 
     /// The row waits no more, is not unchanged, and no scan visits it.
@@ -492,19 +467,12 @@ impl Rows {
               self.old.held;
         } }
     {
-        let Some(key) = key_of(&self.entries, &self.order, spot) else {
-            return;
-        };
-        let entry = &mut self.entries[key];
-        let old = entry.state(self.pass);
-        let was = entry.mergeable;
-        entry.mergeable = false;
-        entry.unchanged = false;
-        entry.forget_pass();
-        let new = entry.state(self.pass);
-        self.tally.change(old, new);
-        if was {
-            self.order.mark(spot.page, false);
+        let was_restless = self.change(spot, |entry| {
+            entry.mergeable = false;
+            entry.unchanged = false;
+            entry.forget_pass();
+        });
+        if was_restless {
             self.restless.let_be();
         }
     }
@@ -515,21 +483,13 @@ impl Rows {
           held = change_held spot.page (λ h. record { row = as_let_go h.row; frame = Some frame }) self.old.held;
         } }
     {
-        let Some(key) = key_of(&self.entries, &self.order, spot) else {
-            return;
-        };
-        let entry = &mut self.entries[key];
-        let old = entry.state(self.pass);
-        let was = entry.mergeable;
-        entry.kind = Kind::Own;
-        entry.number = 0;
-        entry.at = frame;
-        entry.mergeable = false;
-        entry.unchanged = false;
-        self.tally.change(old, PageState::Private);
-        if was {
-            self.order.mark(spot.page, false);
-        }
+        self.change(spot, |entry| {
+            entry.kind = Kind::Own;
+            entry.number = 0;
+            entry.at = frame;
+            entry.mergeable = false;
+            entry.unchanged = false;
+        });
     }
 
     /// Remembers the number of the group in which the row was found, as a guess for the next time.
@@ -537,10 +497,7 @@ impl Rows {
     pub fn remember(&mut self, spot: Spot, group: u32)
         ensures { self.new ≡ self.old }
     {
-        let Some(key) = key_of(&self.entries, &self.order, spot) else {
-            return;
-        };
-        self.entries[key].group = group;
+        self.change(spot, |entry| entry.group = group);
     }
 
     // ------------------------------------------------------------ changes of all rows

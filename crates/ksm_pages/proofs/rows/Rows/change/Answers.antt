@@ -1,0 +1,54 @@
+use Rattle.std.specs.Fn.{FnOnceReturnsAtMut}
+use Rattle.ksm_pages.proofs.Names.{arith, inl, inr, IsAddedTo, is_restless, IsRows, Listing, marked, refl, rules, true, with_value, ◌≡◌, ◌⊎◌}
+use Rattle.ksm_pages.proofs.Writing.{can_be, kept_mark, nothing, still, viewed}
+use Rattle.ksm_pages.proofs.rows.Rows.change.Goals as goal
+use Rattle.ksm_pages.proofs.rows.Rows.change.Goals.{After-len-rows, else-is-was, then-is-was}
+
+pub returns-in_default : goal.returns-in_default
+returns-in_default g c f is = search (rules, nothing)
+
+pub change-requires : goal.change-requires
+change-requires g c = search (rules, can_be c.self.inside c.self.invariant c.in-Some.ensures.there)
+
+-- the entry is made anew, its page marked as it says, and its state counted
+told : (g : _) (c : After-len-rows g) → c.if-is-was.self-inside ≡ record c.self.inside {
+  entries = with_value c.self.inside.entries c.in-Some.key c.make.new.arg2;
+  order = marked c.args.spot.page c.make.new.arg2.mergeable c.self.inside.order;
+  tally = c.change.new.self;
+}
+told g c = elim c.if-is-was.branch [
+  | then-is-was w ↦ grind (arith, w.self-inside-is, w.mark.ensures)
+  | else-is-was w ↦ grind (arith, w.self-inside-is, kept_mark c.self.inside c.self.invariant c.in-Some.ensures.there c.index_mut-entry.ensures.value)
+]
+
+made : (g : _) (c : After-len-rows g) → FnOnceReturnsAtMut g.F.FnOnce c.args.make c.index_mut-entry.result.now tt c.make.new.arg2
+made g c = record { shown = _; shows = refl; left = _; met = c.make.ensures; leaves = refl }
+
+lawful : (g : _) (c : After-len-rows g) {now : Listing}
+    → IsAddedTo c.args.spot.page c.self.inside.restless now
+    ⊎ ((now ≡ c.self.inside.restless) × (is_restless c.make.new.arg2 ≡ true → is_restless c.index_mut-entry.result.now ≡ true))
+    → let s = c.if-is-was.self-inside in IsRows s.entries s.order now s.tally s.pass
+lawful g c either =
+    rw (told g c)
+    (still c.self.inside c.self.invariant c.in-Some.ensures.there c.index_mut-entry.ensures.value c.self.view_is _ refl
+    (c.requires.kept _ _ (made g c)) c.state-old.ensures c.state-new.ensures c.change.ensures either)
+
+pub invariant_of-self : goal.invariant_of-self
+invariant_of-self g c =
+    let l = (goal.at.invariant_of-self g c).After-len-rows in
+    lawful g l (inl (rw (told g l) at c.add.ensures.added))
+
+pub invariant_of-self-else-not-listed : goal.invariant_of-self-else-not-listed
+invariant_of-self-else-not-listed g c =
+    let l = (goal.at.invariant_of-self-else-not-listed g c).After-len-rows in
+    lawful g l (inr ((λ i. (told g l i).restless), λ may. grind arith))
+
+pub returns-then-not-listed : goal.returns-then-not-listed
+returns-then-not-listed g c f is =
+    let l = (goal.at.returns-then-not-listed g c).After-len-rows in
+    rw (told g l) (viewed c.self.inside c.self.invariant c.in-Some.ensures.there c.index_mut-entry.ensures.value c.self.view_is _ refl (c.requires.kept _ _ (made g l)) f (is _ _ (made g l)))
+
+pub returns-else-not-listed : goal.returns-else-not-listed
+returns-else-not-listed g c f is =
+    let l = (goal.at.returns-else-not-listed g c).After-len-rows in
+    rw (told g l) (viewed c.self.inside c.self.invariant c.in-Some.ensures.there c.index_mut-entry.ensures.value c.self.view_is _ refl (c.requires.kept _ _ (made g l)) f (is _ _ (made g l)))
