@@ -15,12 +15,6 @@ use Rattle.ksm_pages.proofs.Resting.{lies_alike, settled_again, settled_still}
 pub held_as : {old new : RowsView} → new ≡ old → new.held ≡ old.held
 held_as same = λ i. (same i).held
 
--- two changes of the row of a page, one after the other, are one change
-pub and_then : (page : GuestPage) (f g : Row → Row) → ((r : Row) → (f r).page ≡ r.page) → (old : List Held) {first second : List Held}
-    → first ≡ change_held page (on_row f) old → second ≡ change_held page (on_row g) first
-    → second ≡ change_held page (on_row (λ r. g (f r))) old
-and_then page f g same old first second = grind (arith, map_mapped)
-
 -- ---------------------------------------------------------------- a page that leaves what it is in
 
 -- a page has a row, and is let out of its dup or of the pages that wait

@@ -9,7 +9,7 @@ ghost use Rattle.ksm_pages.specs.Paged.{HasRow, IsAlone, IsKnown, lies_on, on_it
 
 use crate::left::{leave, left_by_any};
 use crate::pages::Pages;
-use crate::row::Spot;
+use crate::row::{Kind, Spot};
 use ksm_base::{Fault, GuestPage, PageBytes, PageState};
 
 impl Pages {
@@ -43,7 +43,11 @@ impl Pages {
         } }
     {
         let left = leave(&mut self.dups, &self.frames, &self.knobs, &self.rows, spot);
-        self.rows.settle_on(spot, frame);
+        self.rows.change(spot, |entry| {
+            entry.kind = Kind::Own;
+            entry.at = frame;
+            entry.number = 0;
+        });
         left
     }
 
@@ -73,7 +77,7 @@ impl Pages {
         // the look at it and the store.
         if let Some(entry) = self.rows.at(spot) {
             if let PageState::Private = entry.state(self.rows.pass()) {
-                self.rows.store(spot, bytes);
+                self.rows.change(spot, |entry| entry.take_bytes(bytes));
                 return;
             }
         }
@@ -93,8 +97,10 @@ impl Pages {
         };
         let pass = self.rows.pass();
         left_by_any(&mut self.dups, &self.frames, &self.knobs, entry, pass);
-        self.rows.stop_waiting(spot);
-        self.rows.store(spot, bytes);
+        self.rows.change(spot, |entry| {
+            entry.forget_pass();
+            entry.take_bytes(bytes);
+        });
     }
 
     /// A Private page is at home on another node from now on.
@@ -104,7 +110,7 @@ impl Pages {
           rows = change_row spot.page (λ r. record r { home = node }) self.old.rows;
         } }
     {
-        self.rows.set_home(spot, node);
+        self.rows.change(spot, |entry| entry.home = node);
     }
 
     /// The page is not unchanged from now on.
@@ -114,7 +120,7 @@ impl Pages {
           rows = change_row spot.page (λ r. record r { unchanged = false }) self.old.rows;
         } }
     {
-        self.rows.forget_unchanged(spot);
+        self.rows.change(spot, |entry| entry.unchanged = false);
     }
 
     /// The scan visits the page from now on.
@@ -124,7 +130,7 @@ impl Pages {
           rows = change_row spot.page (λ r. record r { mergeable = true }) self.old.rows;
         } }
     {
-        self.rows.make_mergeable(spot);
+        self.rows.change(spot, |entry| entry.mergeable = true);
     }
 
     /// A page with a frame of its own is Private and not unchanged, and the scan visits it no more.
@@ -149,7 +155,13 @@ impl Pages {
         } }
     {
         let left = leave(&mut self.dups, &self.frames, &self.knobs, &self.rows, spot);
-        self.rows.let_go_on(spot, frame);
+        self.rows.change(spot, |entry| {
+            entry.kind = Kind::Own;
+            entry.at = frame;
+            entry.forget_pass();
+            entry.mergeable = false;
+            entry.unchanged = false;
+        });
         left
     }
 
@@ -159,7 +171,7 @@ impl Pages {
         ensures { seen self.new ≡ record (seen self.old) { rows = change_row spot.page on_its_own self.old.rows } }
     {
         leave(&mut self.dups, &self.frames, &self.knobs, &self.rows, spot);
-        self.rows.stop_waiting(spot);
+        self.rows.change(spot, |entry| entry.forget_pass());
     }
 
     /// No page waits any more: those that did are Private.

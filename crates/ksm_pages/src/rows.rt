@@ -306,9 +306,9 @@ impl Rows {
 
     // ------------------------------------------------------------ rows that change
 
-    /// The row of a page becomes what is made of its entry, if it has one. Tells whether a visit might change it before.
+    /// The entry of a page becomes what is made of it, if there is one. Tells whether a visit might change its row before.
     #[inline(always)]
-    fn change<F: FnOnce(&mut Entry)>(&mut self, spot: Spot, make: F) -> bool
+    pub fn change<F: FnOnce(&mut Entry)>(&mut self, spot: Spot, make: F) -> bool
         requires callable { F.IsAlwaysCallable make }
         requires kept { KeepsPage self.old.pass (λ old new. FnOnceReturnsAtMut F.FnOnce make old tt new) }
         ensures { IsMade (λ old new. FnOnceReturnsAtMut F.FnOnce make old tt new) spot.page self.old self.new }
@@ -341,20 +341,6 @@ impl Rows {
     }
 
     // ------------------------------------------------------------ how a page is mapped
-
-    /// The page of a row gets a frame of its own in the stead of what it had, and is Private.
-    #[inline(always)]
-    pub fn settle_on(&mut self, spot: Spot, frame: u32)
-        ensures { self.new ≡ record self.old {
-          held = change_held spot.page (mapped Private (Some frame)) self.old.held;
-        } }
-    {
-        self.change(spot, |entry| {
-            entry.kind = Kind::Own;
-            entry.number = 0;
-            entry.at = frame;
-        });
-    }
 
     /// The page of a row is mapped from the frame of the dup with a number, at a place that is a guess.
     #[inline(always)]
@@ -396,69 +382,7 @@ impl Rows {
         self.tally.change(old, PageState::Waiting);
     }
 
-    /// A row that waits is Private; any other stays as it is.
-    #[inline(always)]
-    pub fn stop_waiting(&mut self, spot: Spot)
-        ensures { self.new ≡ record self.old { held = change_held spot.page (on_row settled) self.old.held } }
-    {
-        self.change(spot, |entry| entry.forget_pass());
-    }
-
     // ------------------------------------------------------------ what else a row says
-
-    /// The row has these bytes. Where its bytes were others, it is not unchanged.
-    #[inline(always)]
-    pub fn store(&mut self, spot: Spot, bytes: &PageBytes)
-        ensures { self.new ≡ record self.old {
-          held = change_held spot.page (on_row (λ r. record r {
-            bytes = bytes.now;
-            unchanged = r.unchanged && bytes_eq r.bytes bytes.now;
-          })) self.old.held;
-        } }
-    {
-        self.change(spot, |entry| entry.take_bytes(bytes));
-    }
-
-    /// The row waits no more, and is unchanged. The number of the group in which it was found is remembered.
-    pub fn become_unchanged(&mut self, spot: Spot, group: u32)
-        ensures { self.new ≡ record self.old {
-          held = change_held spot.page (on_row (λ r. record (settled r) { unchanged = true })) self.old.held;
-        } }
-    {
-        self.change(spot, |entry| {
-            entry.unchanged = true;
-            entry.group = group;
-            entry.forget_pass();
-        });
-    }
-
-    /// The row is unchanged no more.
-    #[inline(always)]
-    pub fn forget_unchanged(&mut self, spot: Spot)
-        ensures { self.new ≡ record self.old {
-          held = change_held spot.page (on_row (λ r. record r { unchanged = false })) self.old.held;
-        } }
-    {
-        self.change(spot, |entry| entry.unchanged = false);
-    }
-
-    /// The home of the row is another node.
-    pub fn set_home(&mut self, spot: Spot, home: u32)
-        ensures { self.new ≡ record self.old {
-          held = change_held spot.page (on_row (λ r. record r { home = home })) self.old.held;
-        } }
-    {
-        self.change(spot, |entry| entry.home = home);
-    }
-
-    /// A scan visits the row from now on.
-    pub fn make_mergeable(&mut self, spot: Spot)
-        ensures { self.new ≡ record self.old {
-          held = change_held spot.page (on_row (λ r. record r { mergeable = true })) self.old.held;
-        } }
-    {
-        self.change(spot, |entry| entry.mergeable = true);
-    }
 
     /// The row waits no more, is not unchanged, and no scan visits it.
     pub fn let_go(&mut self, spot: Spot)
@@ -475,29 +399,6 @@ impl Rows {
         if was_restless {
             self.restless.let_be();
         }
-    }
-
-    /// The page of a row gets a frame of its own in the stead of what it had, and the row is let go.
-    pub fn let_go_on(&mut self, spot: Spot, frame: u32)
-        ensures { self.new ≡ record self.old {
-          held = change_held spot.page (λ h. record { row = as_let_go h.row; frame = Some frame }) self.old.held;
-        } }
-    {
-        self.change(spot, |entry| {
-            entry.kind = Kind::Own;
-            entry.number = 0;
-            entry.at = frame;
-            entry.mergeable = false;
-            entry.unchanged = false;
-        });
-    }
-
-    /// Remembers the number of the group in which the row was found, as a guess for the next time.
-    #[inline(always)]
-    pub fn remember(&mut self, spot: Spot, group: u32)
-        ensures { self.new ≡ self.old }
-    {
-        self.change(spot, |entry| entry.group = group);
     }
 
     // ------------------------------------------------------------ changes of all rows

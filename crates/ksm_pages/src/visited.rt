@@ -39,7 +39,7 @@ fn remember(rows: &mut Rows, spot: Spot, guess: u32, group: u32)
     ensures { rows.new ≡ rows.old }
 {
     if group != guess {
-        rows.remember(spot, group);
+        rows.change(spot, |entry| entry.group = group);
     }
 }
 
@@ -95,7 +95,11 @@ impl Pages {
         }
         if !entry.unchanged {
             left_group(&mut self.dups, group, entry, self.rows.pass());
-            self.rows.become_unchanged(spot, group);
+            self.rows.change(spot, |entry| {
+                entry.unchanged = true;
+                entry.group = group;
+                entry.forget_pass();
+            });
             return Ok(Find::Changed);
         }
         if is_for_zero(&self.knobs, &entry.bytes) {

@@ -30,18 +30,18 @@ abbrev found : Row → Row
 found r = record r { unchanged = true; state = Private }
 
 -- the page of a row that was not unchanged rests, and is unchanged
-went : (c : goal.After-become_unchanged)
+went : (c : goal.After-change)
     → IsAsked (record c.self.inside { dups = c.group.new.self }) c.args.self.now c.args.spot.page c.in-Some.entry.now c.in_ok-group.group
     → let s = record c.self.inside { dups = c.group.new.self } in
-    Comes s c.become_unchanged.new.self c.left_group.new.dups (visited c.args.spot.page found (seen (view_of s)))
+    Comes s c.change.new.self c.left_group.new.dups (visited c.args.spot.page found (seen (view_of s)))
 went c it =
     let s = record c.self.inside { dups = c.group.new.self } in
     let held : held_at c.args.spot.page s.rows.held ≡ Some (held_of c.pass.result c.in-Some.entry.now) = rw c.pass.ensures it.found in
     let alone = is_alone s it.lawful c.args.spot.page c.in-Some.entry.now it.found it.restless in
     let left = found_left {s = s} {p = view_of s} it.lawful refl held
     (c.left_group.ensures s.knobs s.frames.items (alone_found s {p = view_of s} refl _ held alone) it.numbered) in
-    let now = rested left c.become_unchanged.new.self kept found (λ r. refl) (λ r. refl)
-    alone (λ own. grind (arith, own)) (held_as c.become_unchanged.ensures) in
+    let now = rested left c.change.new.self kept found (λ r. refl) (λ r. refl)
+    alone (λ own. grind (arith, own)) (held_as (c.change.ensures _ (search rules))) in
     grind arith
 
 pub invariant_of-self-then-not-entry : goal.invariant_of-self-then-not-entry
