@@ -317,17 +317,15 @@ impl Rows {
             return false;
         };
         let entry = &mut self.entries[key];
-        let old = entry.state(self.pass);
-        let was = entry.mergeable;
-        let was_restless = entry.is_restless();
+        let was = *entry;
         make(entry);
-        let new = entry.state(self.pass);
-        let is = entry.mergeable;
+        let is = *entry;
         // A row that a visit might change before is listed already.
-        let listed = was_restless | !entry.is_restless();
-        self.tally.change(old, new);
-        if is != was {
-            self.order.mark(spot.page, is);
+        let was_restless = was.is_restless();
+        let listed = was_restless | !is.is_restless();
+        self.tally.follow(&was, &is, self.pass);
+        if is.mergeable != was.mergeable {
+            self.order.mark(spot.page, is.mergeable);
         }
         let rows = self.order.len();
         if !listed {

@@ -1,7 +1,9 @@
 //! How many rows there are of each state that is counted.
 
 ghost use Rattle.ksm_pages.specs.Filed.{CanMove, IsMoved};
+ghost use Rattle.ksm_pages.specs.Held.{state_of};
 
+use crate::row::Entry;
 use ksm_base::PageState;
 
 /// How many rows are merged, wait, and are on the zero page.
@@ -37,6 +39,18 @@ impl Tally {
             PageState::Waiting => self.waiting += 1,
             PageState::Merged(_) => self.merged += 1,
             PageState::Zero => self.zero += 1,
+        }
+    }
+
+    /// An entry became another in a pass. Where both say the same of the row's state, nothing is looked at.
+    #[inline(always)]
+    pub fn follow(&mut self, was: &Entry, is: &Entry, pass: u64)
+        requires { CanMove (state_of was.now.kind was.now.number pass) (state_of is.now.kind is.now.number pass) self.old }
+        ensures { IsMoved (state_of was.now.kind was.now.number pass) (state_of is.now.kind is.now.number pass)
+            self.old self.new }
+    {
+        if is.kind != was.kind || is.number != was.number {
+            self.change(was.state(pass), is.state(pass));
         }
     }
 }

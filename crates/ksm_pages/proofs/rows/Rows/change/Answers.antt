@@ -7,14 +7,14 @@ use Rattle.ksm_pages.proofs.rows.Rows.change.Goals.{After-len-rows, else-is-was,
 pub returns-in_default : goal.returns-in_default
 returns-in_default g c f is = search (rules, nothing)
 
-pub change-requires : goal.change-requires
-change-requires g c = search (rules, can_be c.self.inside c.self.invariant c.in-Some.ensures.there)
+pub follow-requires : goal.follow-requires
+follow-requires g c = search (rules, can_be c.self.inside c.self.invariant c.in-Some.ensures.there)
 
 -- the entry is made anew, its page marked as it says, and its state counted
 told : (g : _) (c : After-len-rows g) → c.if-is-was.self-inside ≡ record c.self.inside {
   entries = with_value c.self.inside.entries c.in-Some.key c.make.new.arg2;
   order = marked c.args.spot.page c.make.new.arg2.mergeable c.self.inside.order;
-  tally = c.change.new.self;
+  tally = c.follow.new.self;
 }
 told g c = elim c.if-is-was.branch [
   | then-is-was w ↦ grind (arith, w.self-inside-is, w.mark.ensures)
@@ -31,7 +31,7 @@ lawful : (g : _) (c : After-len-rows g) {now : Listing}
 lawful g c either =
     rw (told g c)
     (still c.self.inside c.self.invariant c.in-Some.ensures.there c.index_mut-entry.ensures.value c.self.view_is _ refl
-    (c.requires.kept _ _ (made g c)) c.state-old.ensures c.state-new.ensures c.change.ensures either)
+    (c.requires.kept _ _ (made g c)) refl refl c.follow.ensures either)
 
 pub invariant_of-self : goal.invariant_of-self
 invariant_of-self g c =
