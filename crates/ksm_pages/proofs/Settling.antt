@@ -8,7 +8,6 @@ use Rattle.std.proofs.Math.ListN.{get_or-map}
 use Rattle.ksm_pages.specs.declared.row.Kind.TheVariants as kinds
 use Rattle.ksm_tree.proofs.Alike.{count_mapped, map_mapped}
 use Rattle.ksm_pages.proofs.Filing.{all_stand}
-use Rattle.ksm_pages.proofs.Writing.{left_fits}
 
 -- where each call of a retain keeps its value and changes it by g, all full slots are changed by g
 pub retained_all : {T F : Type 0} (step : F → ℕ → MutBor T → Bool → MutBor T → F → Type 0) (g : T → T) → ((f : F) (k : ℕ) (old : T) (keep : Bool) (new : T) (next : F) → CalledAt step f k old keep new next → (keep ≡ true) × (new ≡ g old))
@@ -116,7 +115,7 @@ module _ {slab : Slab Entry} {order : List Named} {restless : Listing} {tally : 
     pub anew_rows : IsRows later order restless (record tally { waiting = 0 }) 1
     anew_rows =
         all_rows are later 1 forgotten slots (λ e. refl) (λ e. refl) (λ e. refl) _ settled_anew
-        (λ k e stands own. left_fits _ _ _ own) (omega arith) (tally_settled _ are.counted)
+        (λ k e stands own. grind arith) (omega arith) (tally_settled _ are.counted)
 
   abbrev plain : Entry → Entry
   plain e = record e { unchanged = false }

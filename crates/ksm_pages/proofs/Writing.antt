@@ -2,7 +2,7 @@
 use Rattle.ksm_pages.proofs.Options.{none_mapped}
 use Rattle.ksm_pages.proofs.Names.{ap, AreListed, arith, Bool, CanMove, change_held, Entry, false, find, get, GuestPage, has_item, Held, held_at, held_in, held_of}
 use Rattle.ksm_pages.proofs.Names.{held_under, IfSome, inl, InPageOrder, inr, is_of, is_restless, is_some, IsAddedTo, IsInVain, IsMoved, IsRows, IsUnder, key_in, Kind, length}
-use Rattle.ksm_pages.proofs.Names.{length-map, List, Listing, marked, Named, named_of, nat_tests, None, number_left, option_map, pages_ordered, PageState, Private, refl, row_at, rows_of}
+use Rattle.ksm_pages.proofs.Names.{length-map, List, Listing, marked, Named, named_of, nat_tests, None, option_map, pages_ordered, PageState, Private, refl, row_at, rows_of}
 use Rattle.ksm_pages.proofs.Names.{RowsView, rules, same_page_refl, same_Some, shared_state, Slab, Some, state_of, sym, Tally, true, true≢false, Updates-with_value, Waiting, with_held}
 use Rattle.ksm_pages.proofs.Names.{with_named, with_value, without_held, without_named, ℕ, ◌<◌, ◌^◌, ◌∙◌, ◌≡◌, ◌≢◌, ◌≤◌, ◌⊎◌}
 use Rattle.slab.specs.Slab.{Updates as Fills}
@@ -34,10 +34,6 @@ waits_now pass own = grind arith
 -- a row with a frame of its own and number 0 is Private in any pass from 1 on
 pub rests_now : (pass : ℕ) → 1 ≤ pass → state_of kinds.Own 0 pass ≡ Private
 rests_now pass counting = grind (arith, nat_tests)
-
--- an entry with a frame of its own that has forgotten its pass has a number not beyond any pass
-pub left_fits : (kind : Kind) (number pass : ℕ) → kind ≡ kinds.Own → number_left kind number ≤ pass
-left_fits kind number pass own = grind arith
 
 -- a change of a page without a row leaves what is seen of the rows as it is
 pub nothing : (s : Inside) → AreRows s → (page : GuestPage) → None ≡ key_in s.order page → (f : Held → Held) {v : RowsView} → view_of s ≡ v → v ≡ record v { held = change_held page f v.held }

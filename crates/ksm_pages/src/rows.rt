@@ -321,8 +321,9 @@ impl Rows {
         make(entry);
         let is = *entry;
         // A row that a visit might change before is listed already.
+        let alike = (is.kind == was.kind) & (is.mergeable == was.mergeable);
         let was_restless = was.is_restless();
-        let listed = was_restless | !is.is_restless();
+        let listed = alike | was_restless | !is.is_restless();
         self.tally.follow(&was, &is, self.pass);
         if is.mergeable != was.mergeable {
             self.order.mark(spot.page, is.mergeable);

@@ -1,6 +1,7 @@
 use Rattle.std.specs.Fn.{FnOnceReturnsAtMut}
 use Rattle.ksm_pages.proofs.Names.{arith, inl, inr, IsAddedTo, is_restless, IsRows, Listing, marked, refl, rules, true, with_value, ◌≡◌, ◌⊎◌}
-use Rattle.ksm_pages.proofs.Writing.{can_be, kept_mark, nothing, still, viewed}
+use Rattle.ksm_pages.proofs.Writing.{can_be, kept_mark, nothing, still, view_of, viewed}
+use Rattle.ksm_pages.specs.Filed.{IsMade}
 use Rattle.ksm_pages.proofs.rows.Rows.change.Goals as goal
 use Rattle.ksm_pages.proofs.rows.Rows.change.Goals.{After-len-rows, else-is-was, then-is-was}
 
@@ -43,12 +44,14 @@ invariant_of-self-else-not-listed g c =
     let l = (goal.at.invariant_of-self-else-not-listed g c).After-len-rows in
     lawful g l (inr ((λ i. (told g l i).restless), λ may. grind arith))
 
+-- the rows are seen so, whatever is listed
+seen : (g : _) (c : After-len-rows g)
+    → IsMade (λ old new. FnOnceReturnsAtMut g.F.FnOnce c.args.make old tt new) c.args.spot.page c.args.self.now (view_of c.if-is-was.self-inside)
+seen g c f is =
+    rw (told g c) (viewed c.self.inside c.self.invariant c.in-Some.ensures.there c.index_mut-entry.ensures.value c.self.view_is _ refl (c.requires.kept _ _ (made g c)) f (is _ _ (made g c)))
+
 pub returns-then-not-listed : goal.returns-then-not-listed
-returns-then-not-listed g c f is =
-    let l = (goal.at.returns-then-not-listed g c).After-len-rows in
-    rw (told g l) (viewed c.self.inside c.self.invariant c.in-Some.ensures.there c.index_mut-entry.ensures.value c.self.view_is _ refl (c.requires.kept _ _ (made g l)) f (is _ _ (made g l)))
+returns-then-not-listed g c = seen g (goal.at.returns-then-not-listed g c).After-len-rows
 
 pub returns-else-not-listed : goal.returns-else-not-listed
-returns-else-not-listed g c f is =
-    let l = (goal.at.returns-else-not-listed g c).After-len-rows in
-    rw (told g l) (viewed c.self.inside c.self.invariant c.in-Some.ensures.there c.index_mut-entry.ensures.value c.self.view_is _ refl (c.requires.kept _ _ (made g l)) f (is _ _ (made g l)))
+returns-else-not-listed g c = seen g (goal.at.returns-else-not-listed g c).After-len-rows
