@@ -84,22 +84,25 @@ module _ (s : Inside) (are : AreRows s) where
     pub kept_mark : (flag : Bool) → flag ≡ e.mergeable → s.order ≡ marked page flag s.order
     kept_mark flag is = grind (arith, unmarked, of_page)
 
-    module _ {v : RowsView} (seen_as : view_of s ≡ v) (e' : Entry) {order : List Named} (marks : order ≡ marked page e'.mergeable s.order)
-        (keeps : (e'.page ≡ e.page) × ((e.kind ≡ kinds.Own → e.number ≤ v.pass) → e'.kind ≡ kinds.Own → e'.number ≤ v.pass)) where
+    module _ {v : RowsView} (seen_as : view_of s ≡ v) (e' : Entry) {order : List Named}
+        (marks : order ≡ marked page e'.mergeable s.order)
+        (keeps : (e'.page ≡ e.page) × ((e.kind ≡ kinds.Own → e.number ≤ v.pass) → e'.kind ≡ kinds.Own
+        → e'.number ≤ v.pass)) where
       abbrev later : Slab Entry
       later = with_value s.entries key e'
 
       fills : Fills s.entries later key (Some e')
       fills = Updates-with_value _ _ _ (ap is_some stood)
 
-      held_later : (f : Held → Held) → held_of s.pass e' ≡ f (held_of s.pass e) → held_in s.pass later order ≡ change_held page f held
+      held_later : (f : Held → Held) → held_of s.pass e' ≡ f (held_of s.pass e)
+          → held_in s.pass later order ≡ change_held page f held
       held_later f is = grind (arith, written, fills, of_page, marked_same)
 
-      -- rows with an entry written anew are lawful where the order marks its page, the tally moved, and its page is added to the list,
-      -- or a visit may change it only if it might before
-      pub still : {from to : PageState} {tally : Tally} → from ≡ state_of e.kind e.number s.pass → to ≡ state_of e'.kind e'.number s.pass
-          → IsMoved from to s.tally tally
-          → {now : Listing} → IsAddedTo page s.restless now ⊎ ((now ≡ s.restless) × (is_restless e' ≡ true → is_restless e ≡ true))
+      -- rows with an entry written anew are lawful where the order marks its page, the tally moved, and its page is
+      -- added to the list, or a visit may change it only if it might before
+      pub still : {from to : PageState} {tally : Tally} → from ≡ state_of e.kind e.number s.pass
+          → to ≡ state_of e'.kind e'.number s.pass → IsMoved from to s.tally tally → {now : Listing}
+          → IsAddedTo page s.restless now ⊎ ((now ≡ s.restless) × (is_restless e' ≡ true → is_restless e ≡ true))
           → IsRows later order now tally s.pass
       still was is moved either = record {
         ascending = rw marks (write_rises _ page _ (λ n. refl) _ are.ascending);

@@ -306,7 +306,7 @@ impl Rows {
 
     // ------------------------------------------------------------ rows that change
 
-    /// The entry of a page becomes what is made of it, if there is one. Tells whether a visit might change its row before.
+    /// The entry of a page becomes what is made of it, if it has one. Tells whether a visit might change it before.
     #[inline(always)]
     pub fn change<F: FnOnce(&mut Entry)>(&mut self, spot: Spot, make: F) -> bool
         requires callable { F.IsAlwaysCallable make }

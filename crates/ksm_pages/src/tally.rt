@@ -45,7 +45,8 @@ impl Tally {
     /// An entry became another in a pass. Where both say the same of the row's state, nothing is looked at.
     #[inline(always)]
     pub fn follow(&mut self, was: &Entry, is: &Entry, pass: u64)
-        requires { CanMove (state_of was.now.kind was.now.number pass) (state_of is.now.kind is.now.number pass) self.old }
+        requires { CanMove (state_of was.now.kind was.now.number pass) (state_of is.now.kind is.now.number pass)
+            self.old }
         ensures { IsMoved (state_of was.now.kind was.now.number pass) (state_of is.now.kind is.now.number pass)
             self.old self.new }
     {

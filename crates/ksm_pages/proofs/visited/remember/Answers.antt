@@ -8,4 +8,5 @@ unchanged : (page : GuestPage) (held : List Held) → change_held page (λ h. h)
 unchanged page held = map_alike _ (λ h. h) held (λ k d lt. grind arith) ∙ map-id held
 
 pub returns-then-group-guess : goal.returns-then-group-guess
-returns-then-group-guess c = c.change.ensures (λ h. h) (search rules) ∙ ap (λ held. record c.args.rows.now { held = held }) (unchanged _ _)
+returns-then-group-guess c =
+    c.change.ensures (λ h. h) (search rules) ∙ ap (λ held. record c.args.rows.now { held = held }) (unchanged _ _)

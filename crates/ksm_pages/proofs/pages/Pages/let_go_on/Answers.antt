@@ -7,10 +7,12 @@ gone : (c : goal.After-change)
 gone c = grind (arith, known_left)
 
 pub invariant_of-self : goal.invariant_of-self
-invariant_of-self c = (gone_on (gone c) c.change.new.self c.args.frame (held_as (c.change.ensures _ (search rules)))).lawful
+invariant_of-self c =
+    (gone_on (gone c) c.change.new.self c.args.frame (held_as (c.change.ensures _ (search rules)))).lawful
 
 pub returns-clause-left : goal.returns-clause-left
 returns-clause-left c = lay (gone c) c.deref.ensures.value
 
 pub returns-clause-gone : goal.returns-clause-gone
-returns-clause-gone c = (gone_on (gone c) c.change.new.self c.args.frame (held_as (c.change.ensures _ (search rules)))).told_as
+returns-clause-gone c =
+    (gone_on (gone c) c.change.new.self c.args.frame (held_as (c.change.ensures _ (search rules)))).told_as

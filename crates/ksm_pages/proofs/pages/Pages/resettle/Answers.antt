@@ -15,4 +15,5 @@ returns-clause-left c = lay (gone c) c.deref.ensures.value
 
 pub returns-clause-settled : goal.returns-clause-settled
 returns-clause-settled c =
-    (moved (gone c) c.change.new.self Private (Some c.args.frame) refl refl (held_as (c.change.ensures _ (search rules)))).told_as
+    (moved (gone c) c.change.new.self Private (Some c.args.frame) refl refl
+    (held_as (c.change.ensures _ (search rules)))).told_as

@@ -18,7 +18,8 @@ written : (c : goal.After-change) → Comes c.self.inside c.change.new.self c.se
 unfolding alone
 written c =
     rested (alone c) c.change.new.self _ (stored c.args.bytes.now) (λ r. refl) (λ r. refl) c.requires
-    (λ _. ap (λ st. record (stored c.args.bytes.now (alone c).held.row) { state = st }) (sym c.in-Private.ensures)) (held_as (c.change.ensures (on_row (put_bytes c.args.bytes.now)) (search rules)))
+    (λ _. ap (λ st. record (stored c.args.bytes.now (alone c).held.row) { state = st }) (sym c.in-Private.ensures))
+    (held_as (c.change.ensures (on_row (put_bytes c.args.bytes.now)) (search rules)))
 
 pub invariant_of-self : goal.invariant_of-self
 invariant_of-self c = (written c).lawful

@@ -19,15 +19,19 @@ told : (g : _) (c : After-len-rows g) → c.if-is-was.self-inside ≡ record c.s
 }
 told g c = elim c.if-is-was.branch [
   | then-is-was w ↦ grind (arith, w.self-inside-is, w.mark.ensures)
-  | else-is-was w ↦ grind (arith, w.self-inside-is, kept_mark c.self.inside c.self.invariant c.in-Some.ensures.there c.index_mut-entry.ensures.value)
+  | else-is-was w ↦
+      let here = kept_mark c.self.inside c.self.invariant c.in-Some.ensures.there c.index_mut-entry.ensures.value in
+      grind (arith, w.self-inside-is, here)
 ]
 
-made : (g : _) (c : After-len-rows g) → FnOnceReturnsAtMut g.F.FnOnce c.args.make c.index_mut-entry.result.now tt c.make.new.arg2
+made : (g : _) (c : After-len-rows g)
+    → FnOnceReturnsAtMut g.F.FnOnce c.args.make c.index_mut-entry.result.now tt c.make.new.arg2
 made g c = record { shown = _; shows = refl; left = _; met = c.make.ensures; leaves = refl }
 
 lawful : (g : _) (c : After-len-rows g) {now : Listing}
     → IsAddedTo c.args.spot.page c.self.inside.restless now
-    ⊎ ((now ≡ c.self.inside.restless) × (is_restless c.make.new.arg2 ≡ true → is_restless c.index_mut-entry.result.now ≡ true))
+    ⊎ ((now ≡ c.self.inside.restless)
+    × (is_restless c.make.new.arg2 ≡ true → is_restless c.index_mut-entry.result.now ≡ true))
     → let s = c.if-is-was.self-inside in IsRows s.entries s.order now s.tally s.pass
 lawful g c either =
     rw (told g c)
@@ -46,9 +50,12 @@ invariant_of-self-else-not-listed g c =
 
 -- the rows are seen so, whatever is listed
 seen : (g : _) (c : After-len-rows g)
-    → IsMade (λ old new. FnOnceReturnsAtMut g.F.FnOnce c.args.make old tt new) c.args.spot.page c.args.self.now (view_of c.if-is-was.self-inside)
+    → IsMade (λ old new. FnOnceReturnsAtMut g.F.FnOnce c.args.make old tt new) c.args.spot.page c.args.self.now
+    (view_of c.if-is-was.self-inside)
 seen g c f is =
-    rw (told g c) (viewed c.self.inside c.self.invariant c.in-Some.ensures.there c.index_mut-entry.ensures.value c.self.view_is _ refl (c.requires.kept _ _ (made g c)) f (is _ _ (made g c)))
+    rw (told g c)
+    (viewed c.self.inside c.self.invariant c.in-Some.ensures.there c.index_mut-entry.ensures.value c.self.view_is _ refl
+    (c.requires.kept _ _ (made g c)) f (is _ _ (made g c)))
 
 pub returns-then-not-listed : goal.returns-then-not-listed
 returns-then-not-listed g c = seen g (goal.at.returns-then-not-listed g c).After-len-rows

@@ -16,8 +16,9 @@ invariant_of-self c =
     let s = c.self.inside in
     let there = c.in-Some.ensures.there in
     let stood = c.index_mut-entry.ensures.value in
-    still s c.self.invariant there stood c.self.view_is _ (kept_mark s c.self.invariant there stood _ refl) (refl, λ _ own. grind arith)
-    c.state_alone-old.ensures (sym (waits_now _ (own_there s c.self.invariant there stood c.self.view_is c.requires.own))) c.change.ensures (inr (refl, λ may. may))
+    let own = own_there s c.self.invariant there stood c.self.view_is c.requires.own in
+    still s c.self.invariant there stood c.self.view_is _ (kept_mark s c.self.invariant there stood _ refl)
+    (refl, λ _ own. grind arith) c.state_alone-old.ensures (sym (waits_now _ own)) c.change.ensures (inr (refl, λ may. may))
 
 pub returns : goal.returns
 returns c =
@@ -25,4 +26,5 @@ returns c =
     let there = c.in-Some.ensures.there in
     let stood = c.index_mut-entry.ensures.value in
     let own = own_there s c.self.invariant there stood c.self.view_is c.requires.own in
-    viewed s c.self.invariant there stood c.self.view_is _ (kept_mark s c.self.invariant there stood _ refl) (refl, λ _ own. grind arith) _ (λ _. grind (arith, waits_now))
+    viewed s c.self.invariant there stood c.self.view_is _ (kept_mark s c.self.invariant there stood _ refl)
+    (refl, λ _ own. grind arith) _ (λ _. grind (arith, waits_now))
