@@ -77,7 +77,7 @@ impl Pages {
         // the look at it and the store.
         if let Some(entry) = self.rows.at(spot) {
             if let PageState::Private = entry.state(self.rows.pass()) {
-                self.rows.change(spot, |entry| entry.take_bytes(bytes));
+                self.rows.store(spot, bytes);
                 return;
             }
         }

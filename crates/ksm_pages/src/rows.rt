@@ -339,6 +339,22 @@ impl Rows {
         was_restless
     }
 
+    /// The row has these bytes. Where its bytes were others, it is not unchanged.
+    #[inline(always)]
+    pub fn store(&mut self, spot: Spot, bytes: &PageBytes)
+        ensures { self.new ≡ record self.old {
+          held = change_held spot.page (on_row (λ r. record r {
+            bytes = bytes.now;
+            unchanged = r.unchanged && bytes_eq r.bytes bytes.now;
+          })) self.old.held;
+        } }
+    {
+        let Some(key) = key_of(&self.entries, &self.order, spot) else {
+            return;
+        };
+        self.entries[key].take_bytes(bytes);
+    }
+
     // ------------------------------------------------------------ how a page is mapped
 
     /// The page of a row is mapped from the frame of the dup with a number, at a place that is a guess.
