@@ -8,11 +8,10 @@ use Rattle.ksm_book.proofs.Names.{one_before, Option, option_map, page, page_vis
 use Rattle.ksm_book.proofs.Names.{row_at, row_visiting, same_page, same_page_eq, same_page_refl, settled, settled_calmer, slice_get_within, Some, sound_changed, sound_row_visited, stayed, subst, sym}
 use Rattle.ksm_book.proofs.Names.{taken_over, takes_over, true, true≢false, visited, waiting_state, waits_for, waits_tells, Zero, ℕ, [], ◌&&◌, ◌++◌, ◌+◌, ◌==◌, ◌||◌, ◌∙◌, ◌∷◌, ◌≡◌}
 use Rattle.ksm_base.specs.declared.row.PageState.TheVariants.{Private}
-use Rattle.ksm_book.proofs.Folded.{then_idle}
-use Rattle.ksm_book.proofs.Folded.{pages_go}
+use Rattle.ksm_book.proofs.Folded.{by_row, pages_go, then_idle}
 use Rattle.ksm_book.proofs.Going.{change_goes, Goes, goes_on, goes_same}
 use Rattle.ksm_book.proofs.PagesAhead.{after_later, Before, place_of}
-use Rattle.ksm_book.proofs.Walked.{by_row, visits_page}
+use Rattle.ksm_book.proofs.Walked.{visits_page}
 use Rattle.std.proofs.lemmas.List.{map-id}
 use Rattle.ksm_base.specs.Visit.{is_no_worse}
 
@@ -316,15 +315,6 @@ module _ (b : BookState) (s : IsSound b) (deed : Deed) where
                 not_both,
                 before_irrefl,
               ))
-
--- our visits of some pages keep the book sound, and which pages scans visit
-pub due_keeps : (pages : List GuestPage) (s : BookState × Deed) → IsSound s.0
-    → IsSound (due_visits doing s pages).0 × Goes s.0.rows (due_visits doing s pages).0.rows
-due_keeps [] s sound = (sound, goes_same)
-due_keeps (page ∷ pages) s sound =
-    let first = one_due s.0 sound s.1 page in
-    let rest = due_keeps pages (due_visited doing s page) first.0 in
-    (rest.0, goes_on first.1 rest.1)
 
 -- ---------------------------------------------------------------- one visit after another
 

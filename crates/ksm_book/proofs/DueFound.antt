@@ -1,8 +1,8 @@
 -- The visit of a page that is due, by what was found of it: it takes over from none, but where a row further on waits
 -- for it; and which pages are due then.
-use Rattle.ksm_book.proofs.Names.{ap, AreDue, arith, BookState, BookValue, BookView, Bool, change_row, change_rows, Comes, comes_before, Deed, doing, due_visited, Dup, false, Find, find_mapped}
+use Rattle.ksm_book.proofs.Names.{ap, AreDue, arith, BookState, BookValue, BookView, Bool, change_row, change_rows, Comes, comes_before, doing, due_visited, Dup, false, Find, find_mapped}
 use Rattle.ksm_book.proofs.Names.{find_passes, FindsAt, GuestPage, has_item, HasStayed, if◌then◌else◌, InPageOrder, is_restless, IsDueNoMore, KeeperView, List, MatchOption, Merged, not, not_both}
-use Rattle.ksm_book.proofs.Names.{one_before, Option, PageState, PagesView, paired, Partner, Reached, refl, restless_at, Row, row_at, row_visited, same_page, same_page_refl, shared_state, Some}
+use Rattle.ksm_book.proofs.Names.{one_before, Option, PageState, PagesView, paired, Partner, refl, restless_at, Row, row_at, row_visited, same_page, same_page_refl, shared_state, Some}
 use Rattle.ksm_book.proofs.Names.{sound_row_visited, state_of, subst, sym, takes_over, TakesOverFrom, true, true≢false, view_of, VisitsPage, waits_for, waits_tells, Zero, ℕ, ◌&&◌, ◌||◌, ◌∙◌, ◌∷◌}
 use Rattle.ksm_book.proofs.Names.{◌≡◌}
 use Rattle.ksm_book.proofs.ByPage.{row_of_page}
@@ -131,13 +131,6 @@ abbrev pub is_still : Find → Bool
 is_still finds.Changed = false
 is_still finds.Waits = false
 is_still _ = true
-
--- ---------------------------------------------------------------- books that look the same
-
--- what was reached with a book was reached with one that looks the same
-pub reached_as : (v m : BookValue) → view_of m ≡ view_of v → (from : BookValue) (s : BookState × Deed) → Reached from v s
-    → Reached from m s
-reached_as v m same from s before = grind arith
 
 -- ---------------------------------------------------------------- a page that waits, or has gone
 

@@ -4,14 +4,14 @@ use Rattle.ksm_book.proofs.Names.{change_rows, cond_both, count_by, count_mapped
 use Rattle.ksm_book.proofs.Names.{GuestPage, handled, has_item, HasStayed, inl, InPageOrder, inr, is_best, is_for_zero, is_restless, IsDueNoMore, IsSound, item_count, Knobs, List}
 use Rattle.ksm_book.proofs.Names.{list_all-from_AllPass, made_dup, may_join, Merged, merged_into, merged_state, nat_le, nat_lt, nat_tests, None, not, not_an_item, one_of_each_page, Option}
 use Rattle.ksm_book.proofs.Names.{ordered_change, paired, partner, refl, restless_at, Row, row_at, row_visited, same_page, same_page_refl, same_page_sym, settled, Some, stayed, taken_over}
-use Rattle.ksm_book.proofs.Names.{takes_over, tree_of, true, Waiting, waiting_state, waits_for, waits_on, waits_tells, WaitsFor, with_dup, Zero, ℕ, [], ◌&&◌, ◌+◌, ◌==◌, ◌||◌, ◌∙◌, ◌∷◌, ◌≡◌, ◌⊎◌}
+use Rattle.ksm_book.proofs.Names.{takes_over, tree_of, true, Waiting, waiting_state, waits_for, waits_on, waits_tells, WaitsFor, with_dup, Zero, ℕ, [], ◌&&◌, ◌+◌, ◌==◌, ◌||◌, ◌∙◌, ◌∷◌, ◌≡◌}
 use Rattle.ksm_book.proofs.DueAlike.{at_own_page, by_counts, calm_stays, freed, freed_found, freed_stays, one_waits}
 use Rattle.ksm_base.specs.declared.row.PageState.TheVariants.{Private}
 use Rattle.ksm_book.proofs.ByPage.{row_of_page}
-use Rattle.ksm_book.proofs.Folded.{then_idle}
+use Rattle.ksm_book.proofs.Folded.{by_row, then_idle}
 use Rattle.ksm_book.proofs.RowVisits.{restless_own}
 use Rattle.ksm_book.proofs.Singles.{change_still}
-use Rattle.ksm_book.proofs.Walked.{by_row, Rests}
+use Rattle.ksm_book.proofs.Walked.{Rests}
 use Rattle.ksm_pages.proofs.Joined.{own_not_merged}
 
 -- ---------------------------------------------------------------- the dups that a row may join
@@ -25,31 +25,18 @@ module _ (may : DupRow → Bool) (items : DupRow → ℕ) where
   through : (e b d : DupRow) → may b ≡ true → rival e b ≡ true → rival b d ≡ true → rival e d ≡ true
   through e b d passes above r = grind (arith, nat_tests)
 
-  -- where something is so of all of some dups, none passes the test, or there is a best one, of which that is so
-  top_in : (P : DupRow → Type 0) (dups : List DupRow) → All P dups
-      → All (λ d. may d ≡ false) dups ⊎ ((d : DupRow) × P d × (may d ≡ true) × All (λ e. rival d e ≡ true) dups)
-  top_in P [] all = inl (λ k d lt. absurd (omega arith))
-  top_in P (d ∷ dups) all =
-      let here = All-head P d dups all in
-      let top : (e : DupRow) → rival e d ≡ true → All (λ x. rival e x ≡ true) dups
-      → All (λ x. rival e x ≡ true) (d ∷ dups)
-      = λ e. All-cons (λ x. rival e x ≡ true) d dups in
-      elim (top_in P dups (All-tail P d dups all)) [
-        | inl none ↦ elim (cases_Bool (may d)) [
-          | inl is ↦ inr (d, here, is, top d (grind (arith, nat_tests)) (λ k x lt. grind (arith, none k x lt)))
-          | inr fails ↦ inl (All-cons (λ x. may x ≡ false) d dups fails none)
-        ]
-        | inr t ↦ elim (cases_Bool (rival t.0 d)) [
-          | inl above ↦ inr (t.0, t.1, t.2, top t.0 above t.3)
-          | inr worse ↦ inr (
-            d,
-            here,
-            grind arith,
-            top d (grind (arith, nat_tests)) (λ k x lt.
-                through d t.0 (get_or dups k x) t.2 (grind (arith, nat_tests)) (t.3 k x lt)),
-          )
-        ]
-      ]
+  -- where something is so of a dup that passes the test, and of all of some others, it is so of the best one of these
+  top_from : (P : DupRow → Type 0) (b : DupRow) (dups : List DupRow) → may b ≡ true → P b → All P dups
+      → (d : DupRow) × P d × (may d ≡ true) × (rival d b ≡ true) × All (λ e. rival d e ≡ true) dups
+  top_from P b [] passes here all = (b, here, passes, grind (arith, nat_tests), λ k d lt. absurd (omega arith))
+  top_from P b (x ∷ dups) passes here all = elim (cases_Bool (rival b x)) [
+    | inl above ↦
+        let t = top_from P b dups passes here (All-tail P x dups all) in
+        (t.0, t.1, t.2, t.3, All-cons (λ e. rival t.0 e ≡ true) x dups (through t.0 b x passes t.3 above) t.4)
+    | inr worse ↦
+        let t = top_from P x dups (grind arith) (All-head P x dups all) (All-tail P x dups all) in
+        (t.0, t.1, t.2, through t.0 x b (grind arith) t.3 (grind (arith, nat_tests)), All-cons (λ e. rival t.0 e ≡ true) x dups t.3 t.4)
+  ]
 
 module _ (knobs : Knobs) (rows : List Row) (row : Row) where
   -- the row may join none of these dups
@@ -58,13 +45,13 @@ module _ (knobs : Knobs) (rows : List Row) (row : Row) where
 
   -- where there is no best dup, there is none that the row may join
   none_to_join : (dups : List DupRow) → best_dup knobs rows dups row ≡ None → JoinsNone dups
-  none_to_join dups none =
-      grind (
-        arith,
-        top_in (may_join knobs rows row) (item_count rows) (λ d. is_best knobs rows dups row d ≡ false) dups
-            (find_none _ dups none),
-        list_all-from_AllPass,
-      )
+  none_to_join dups none k d lt = elim (cases_Bool (may_join knobs rows row (get_or dups k d))) [
+    | inl may ↦
+        let fails = find_none (is_best knobs rows dups row) dups none in
+        let top = top_from (may_join knobs rows row) (item_count rows) (λ e. is_best knobs rows dups row e ≡ false) (get_or dups k d) dups may (fails k d lt) fails in
+        absurd (grind (arith, list_all-from_AllPass))
+    | inr may_not ↦ may_not
+  ]
 
   -- where there is no dup that the row may join, there is no best one
   none_is_best : (dups : List DupRow) → JoinsNone dups → best_dup knobs rows dups row ≡ None

@@ -1,12 +1,12 @@
 -- A pass over what is due comes to what the pass of the definitions comes to.
 use Rattle.ksm_book.proofs.Names.{after_cursor, All, AllPairs-filter, ap, AreAscending, AreDue, arith, BookState, BookValue, Bool, Comes, comes_before, Deed, doing, due_visited, due_visits, false}
 use Rattle.ksm_book.proofs.Names.{GuestPage, has_item, hidden_from, if◌then◌else◌, is_none, IsSound, IsStill, List, mergeable_pages, None, not, Option, pages_ahead, pages_visited, part_before}
-use Rattle.ksm_book.proofs.Names.{part_visited, pass_begun, Reached, ReachedBefore, refl, restless_at, StaysBefore, StopsDue, StopsInPart, subst, sym, true, true≢false, with_none_waiting, [], ◌&&◌}
+use Rattle.ksm_book.proofs.Names.{part_visited, pass_begun, Reached, ReachedBefore, refl, restless_at, Some, StaysBefore, StopsInPart, subst, sym, true, true≢false, with_none_waiting, [], ◌&&◌}
 use Rattle.ksm_book.proofs.Names.{◌∙◌, ◌≡◌}
 use Rattle.ksm_book.specs.Scanned.{ahead_before, ahead_up_to, HasVisited, StaysStill, StopsBefore, up_to}
 use Rattle.ksm_book.proofs.DueAlike.{all_has, along, calm_stays, one_due, unveiled, veiled}
 use Rattle.ksm_book.proofs.DueKept.{undue_rests}
-use Rattle.ksm_book.proofs.Dues.{IsFirst}
+use Rattle.ksm_book.specs.Due.{FindsFirst}
 use Rattle.ksm_book.proofs.Folded.{ascending_ahead, every_page, still_on}
 use Rattle.ksm_book.proofs.PagesAhead.{Before, has_filter}
 use Rattle.ksm_book.proofs.Scanned.{begins_still}
@@ -33,22 +33,12 @@ module _ {old mid : BookValue} {last : Option GuestPage} (due : List GuestPage)
   rests_behind none q after inside = undue_rests mid.state due w.sound are q
       (grind (arith, all_has (λ p. after_cursor last p ≡ false) due none q))
 
-  module _ (page : GuestPage) (first : IsFirst last due page) where
+  module _ (page : GuestPage) (first : FindsFirst last due (Some page)) where
     -- nor do those of pages before the first of them
     pub rests_between : (q : GuestPage) → after_cursor last q ≡ true → comes_before q page ≡ true
         → Rests (due_visited doing) mid.state q
     rests_between q after low = undue_rests mid.state due w.sound are q
         (grind (arith, all_has (λ p. after_cursor last p ≡ true → comes_before p page ≡ false) due first.2 q))
-
-    -- where that page was not visited, those before it were
-    pub stops_due : {new : BookValue} → StaysBefore page mid new → restless_at page mid.state.rows ≡ true
-        → StopsDue old new page
-    stops_due {new} stays restless = record {
-      ahead = is_ahead visits_due w page first.1 rests_between restless;
-      comes = λ from s before.
-          subst (ReachedBefore page from new) ((before_it visits_due w page first.1 rests_between).same from s before)
-          (stays from _ (w.comes from s before));
-    }
 
 -- ---------------------------------------------------------------- the visits of the definitions
 
@@ -110,17 +100,20 @@ module _ (old : BookValue) (sound : IsSound old.state) (start : old.state.cursor
       (λ k d lt. undue_rests old.state [] sound are _ refl)) ∙ whole_part old.state deed sound start)).same from s before)
       (assumption)
 
-  -- where the visits of what is due stopped before a page, and no row from there on waits any more, so did the pass
-  pub part_stops : {mid new : BookValue} {page : GuestPage} → StopsDue old mid page
-      → Comes mid new (λ s. (hidden_from page s.0, s.1)) → StopsInPart old new None page
-  part_stops {mid} {new} {page} stops hides = record {
-    within = refl;
-    ahead = stops.ahead;
-    comes = comes_as new (agrees old (λ deed. before_part old.state deed sound start page)) (λ from s before.
-        let there = stops.comes from s before in
-        subst (λ (b : BookState). Reached from new (b, (due_visits doing s (ahead_before page s.0)).1)) there.0
-        (hides from (mid.state, (due_visits doing s (ahead_before page s.0)).1) (refl, there.1)));
-  }
+-- where the first page that is due was not visited, and no row from there on waits any more, the pass stopped before it
+pub part_stops : {old mid : BookValue} (next new : BookValue) {last : Option GuestPage} (due : List GuestPage)
+    (w : IsWalking (due_visited doing) None old mid last) → AreDue mid.state due → (page : GuestPage) → FindsFirst last due (Some page)
+    → old.state.cursor ≡ None → StaysBefore page mid next → restless_at page mid.state.rows ≡ true
+    → Comes next new (λ s. (hidden_from page s.0, s.1)) → StopsInPart old new None page
+part_stops {old} next new due w are page first start stays restless hides = record {
+  within = refl;
+  ahead = is_ahead visits_due w page first.1 (rests_between due w are page first) restless;
+  comes = comes_as new (agrees old (λ deed. before_part old.state deed w.began start page)) (λ from s before.
+      let there = subst (ReachedBefore page from next) ((before_it visits_due w page first.1 (rests_between due w are page first)).same from s before)
+      (stays from _ (w.comes from s before)) in
+      subst (λ (b : BookState). Reached from new (b, (due_visits doing s (ahead_before page s.0)).1)) there.0
+      (hides from (next.state, (due_visits doing s (ahead_before page s.0)).1) (refl, there.1)));
+}
 
 -- ---------------------------------------------------------------- a part of a pass
 

@@ -1,10 +1,11 @@
 -- The pages that are due, as they are kept: which there are once one came or went, and the first behind a cursor.
 use Rattle.ksm_book.proofs.Names.{after_cursor, All, All-map, any-filter_same, any_found, append-nil, arith, Bool, comes_before, Err, false, filter, find, find_all, find_none, find_passes, get_or}
-use Rattle.ksm_book.proofs.Names.{GuestPage, has_item, is_some, length, List, list_any, list_any_at, map, MatchOption, None, not, Ok, Option, pages_ordered, refl, Result, same_page, same_page_refl}
+use Rattle.ksm_book.proofs.Names.{GuestPage, has_item, is_some, length, List, list_any, list_any_at, map, None, not, Ok, Option, option_map, pages_ordered, refl, Result, same_page, same_page_refl}
 use Rattle.ksm_book.proofs.Names.{Some, true, [], ◌&&◌, ◌++◌, ◌==◌, ◌||◌, ◌∙◌, ◌∷◌, ◌≡◌}
 use Rattle.std.proofs.lemmas.List.Folds.{list_any-append}
 use Rattle.std.specs.Prelude.{OnErr, OnOk}
 use Rattle.ksm_pages.proofs.Found.{first_found as found_first}
+use Rattle.ksm_book.specs.Due.{FindsFirst}
 use Rattle.ksm_pages.specs.Held.{pages_of}
 use Rattle.ksm_pages.specs.declared.named.Named.{Named}
 use Rattle.ksm_pages.specs.declared.row.Spot.{Spot}
@@ -53,16 +54,12 @@ inserted_rises r n old new rise added kept =
 
 -- ---------------------------------------------------------------- pages that were added
 
--- of the pages in order and those added behind them one is there where it is among the ones or the others
-pub has_either : (x : GuestPage) (some more : List GuestPage) → has_item x (some ++ more) ≡ (has_item x some || has_item x more)
-has_either x some more = list_any-append (λ q. same_page q x) some more
-
 -- where one was put in, it is there, and the others as before, with some more behind them
 pub inserted_has : {T E : Type 0} (r : Result T E) (n : Named) (old new : List Named) (more pages : List GuestPage)
     → pages_in old ++ more ≡ pages → OnOk r (new ≡ with_named n old)
     → OnOk r ((x : GuestPage) → has_item x (pages_in new ++ more) ≡ (same_page n.page x || has_item x pages))
 inserted_has (Err e) n old new more pages same added = tt
-inserted_has (Ok u) n old new more pages same added = λ x. grind (arith, has_either, has_put)
+inserted_has (Ok u) n old new more pages same added = λ x. grind (arith, list_any-append, has_put)
 
 -- where all is ready no page was added that does not stand in order
 pub none_added : (known : Bool) (order : List Named) (added : List Spot) → (known && length added == 0) ≡ true
@@ -70,20 +67,9 @@ pub none_added : (known : Bool) (order : List Named) (added : List Spot) → (kn
 none_added known order [] is = append-nil (pages_in order)
 none_added known order (s ∷ added) is = absurd (grind arith)
 
--- what is told of the first page behind a cursor
-abbrev pub IsFirst : Option GuestPage → List GuestPage → GuestPage → Type 0
-IsFirst cursor pages page =
-    (has_item page pages ≡ true) × (after_cursor cursor page ≡ true)
-    × All (λ p. after_cursor cursor p ≡ true → comes_before p page ≡ false) pages
-
--- what is told of what is found behind a cursor: it is the first page there; where nothing is found, none is there
-abbrev pub TellsFirst : Option GuestPage → List GuestPage → Option Named → Type 0
-TellsFirst cursor pages found =
-    MatchOption found (All (λ p. after_cursor cursor p ≡ false) pages) (λ n. IsFirst cursor pages n.page)
-
 -- a search in pages in order finds the first page behind the cursor, if there is one
 pub first_found : (cursor : Option GuestPage) (order : List Named) → AreAscending order
-    → TellsFirst cursor (pages_in order) (find (λ n. after_cursor cursor n.page) order)
+    → FindsFirst cursor (pages_in order) (option_map (λ n. n.page) (find (λ n. after_cursor cursor n.page) order))
 first_found cursor order rise = by _ refl
   where
     behind : Named → Bool
@@ -94,7 +80,7 @@ first_found cursor order rise = by _ refl
         let page = (get_or order k d).page in
         any_named page order ∙ list_any_at (λ m. same_page m.page page) order k d lt (same_page_refl page)
 
-    by : (o : Option Named) → find behind order ≡ o → TellsFirst cursor (pages_in order) o
+    by : (o : Option Named) → find behind order ≡ o → FindsFirst cursor (pages_in order) (option_map (λ n. n.page) o)
     by None none = All-map (λ p. after_cursor cursor p ≡ false) (λ n. n.page) order (find_none behind order none)
     by (Some n) found = (
       find_all behind (λ m. has_item m.page (pages_in order) ≡ true) order n found there,

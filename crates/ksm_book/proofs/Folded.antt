@@ -1,9 +1,9 @@
 -- The visits of a pass are a fold over its pages, only restless pages count, and a quiet pass is repeated by those behind it.
-use Rattle.ksm_book.proofs.Names.{after_cursor, AllPairs-filter, and_right, ap, append-nil, AreAscending, arith, begun, BookState, comes_before, Deed, doing, drop, drop_more, each_at_page, filter}
-use Rattle.ksm_book.proofs.Names.{filter_all, find_all, find_passes, Frames, get_or_from_slice_get, GuestPage, idle, InPageOrder, is_none, is_restless, IsBeside, IsStill, last_of, List, map}
+use Rattle.ksm_book.proofs.Names.{after_cursor, AllPairs-filter, and_right, ap, append-nil, AreAscending, arith, begun, BookState, cases_Bool, comes_before, Deed, doing, drop, drop_more, each_at_page, false, filter}
+use Rattle.ksm_book.proofs.Names.{filter_all, find_all, find_passes, Frames, get_or_from_slice_get, GuestPage, idle, inl, InPageOrder, inr, is_none, is_restless, IsBeside, IsStill, last_of, List, map}
 use Rattle.ksm_book.proofs.Names.{map_mapped, mergeable_pages, next_row, next_visited, None, not-true, Option, option_map, page_visited, pages_ahead, pages_visited, pairs_mapped, pass_ended_at_last}
-use Rattle.ksm_book.proofs.Names.{refl, Row, row_at, row_visited, rowwise_visits, scanning, settled, slice_get, slice_get-get_or, slice_get_within, Some, subst, suc, sym, take, take-append-drop}
-use Rattle.ksm_book.proofs.Names.{then_doing, true, visit, visit_begun, visit_of, visited, visits, visits_beside, zero, ℕ, [], ⊤, ◌++◌, ◌+◌, ◌∙◌, ◌∷◌, ◌≡◌}
+use Rattle.ksm_book.proofs.Names.{refl, restless_at, restless_row, Row, row_at, row_visited, rowwise_visits, scanning, settled, slice_get, slice_get-get_or, slice_get_within, Some, subst, suc, sym, take, take-append-drop}
+use Rattle.ksm_book.proofs.Names.{then_doing, true, visit, visit_begun, visit_of, visits, visits_beside, zero, ℕ, [], ⊤, ◌++◌, ◌+◌, ◌∙◌, ◌∷◌, ◌≡◌}
 use Rattle.ksm_book.proofs.Going.{begun_goes, elsewhere, Goes, goes_on, goes_same, mergeable_kept, visited_goes}
 use Rattle.ksm_book.proofs.PagesAhead.{Before, behind_first}
 use Rattle.ksm_pages.proofs.Options.{mapped_some, none_mapped}
@@ -64,6 +64,20 @@ every_page rows = filter_all (after_cursor None) _ (λ k d lt. refl)
 
 -- ---------------------------------------------------------------- visits with what they do beside
 
+-- what is so of a page whose row no visit may change, and of that of each row that one may, is so of each page
+pub by_row : (P : GuestPage → Type 0) (page : GuestPage) (rows : List Row) → (restless_at page rows ≡ false → P page)
+    → ((r : Row) → row_at r.page rows ≡ Some r → is_restless r ≡ true → P r.page) → P page
+by_row P page rows calm some = by _ refl
+  where
+    by : (o : Option Row) → row_at page rows ≡ o → P page
+    by None found = calm (ap restless_row found)
+    by (Some r) found = elim (cases_Bool (is_restless r)) [
+      | inl restless ↦
+          let at = found_page page rows r found in
+          subst P at (some r (ap (λ q. row_at q rows) at ∙ found) restless)
+      | inr stays ↦ calm (ap restless_row found ∙ stays)
+    ]
+
 -- where nothing but which rows wait changed from a first book to a second and to a third, so it is from first to third
 pub still_on : {X : Type 0} (first second third : BookState × X) → IsStill first second → IsStill second third → IsStill first third
 still_on first second third f g = grind arith
@@ -90,14 +104,9 @@ module _ {X : Type 0} (step : BookState → X → Row → X) where
 
   -- what the visit of a page keeps of the rows
   page_goes : (s : BookState × X) (page : GuestPage) → InPageOrder s.0.rows → Goes s.0.rows (page_visited step s page).0.rows
-  page_goes s page rise = by _ refl
-    where
-      by : (o : Option Row) → row_at page s.0.rows ≡ o → Goes s.0.rows (visited step s o).0.rows
-      by None found = goes_same
-      by (Some r) found =
-          let go : is_restless r ≡ true → Goes s.0.rows (row_visited s.0 r).rows =
-          λ is. visited_goes s.0 r rise (grind (arith, found_page)) (grind (arith, not-true)) in
-          grind (arith, goes_same {rows = s.0.rows})
+  page_goes s page rise = by_row (λ p. Goes s.0.rows (page_visited step s p).0.rows) page s.0.rows
+      (λ calm. grind (arith, goes_same {rows = s.0.rows}))
+      (λ r found restless. rw (found, restless) (visited_goes s.0 r rise found (grind (arith, not-true))))
 
   -- visits of pages keep the rows in page order and which pages scans visit, and make no page restless
   pub pages_go : (pages : List GuestPage) (s : BookState × X) → InPageOrder s.0.rows → Goes s.0.rows (pages_visited step s pages).0.rows

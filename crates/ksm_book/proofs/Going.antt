@@ -1,7 +1,7 @@
 -- The visit of a row: it keeps which pages scans visit, makes no page restless, and does the same wherever the cursor stands.
 use Rattle.ksm_book.proofs.Names.{All, ap, arith, best_dup, BookState, Bool, change_row, change_rows, DupRow, false, filter_mapped, find_all, find_mapped, get_or, GuestPage, handled, InPageOrder}
 use Rattle.ksm_book.proofs.Names.{List, map, map_mapped, mergeable_pages, None, Option, option_map, ordered_map, PageState, paired, partner, refl, restless_at, restless_row, Row, row_at, row_visited}
-use Rattle.ksm_book.proofs.Names.{same_page, settled, shared_state, Some, stayed, true, visit_begun, Zero, ℕ, ◌∙◌, ◌≡◌}
+use Rattle.ksm_book.proofs.Names.{same_page, settled, shared_state, Some, true, visit_begun, Zero, ℕ, ◌∙◌, ◌≡◌}
 use Rattle.ksm_book.proofs.ByPage.{row_of_page}
 use Rattle.ksm_base.specs.declared.row.PageState.TheVariants.{Private}
 
@@ -89,14 +89,14 @@ module _ (b : BookState) (row : Row) (rise : InPageOrder b.rows) (found : row_at
   paired_goes (Some w) = shares _ _ _ refl
   paired_goes None = own_changes _ (λ r. (refl, refl))
 
-  stayed_goes : Comes (stayed b row)
-  stayed_goes =
-      grind (arith, shares (λ r. same_page r.page row.page) Zero b.rows refl, paired_goes (partner b.knobs b.rows row))
-
   handled_goes : (d : Option DupRow) → Comes (handled d b row)
   handled_goes (Some d) = shares _ _ _ refl
-  handled_goes None =
-      grind (arith, stayed_goes, own_changes (λ r. record r { unchanged = true; state = Private }) (λ r. (refl, refl)))
+  handled_goes None = grind (
+    arith,
+    shares (λ r. same_page r.page row.page) Zero b.rows refl,
+    paired_goes (partner b.knobs b.rows row),
+    own_changes (λ r. record r { unchanged = true; state = Private }) (λ r. (refl, refl)),
+  )
 
   -- the visit of a row with a frame of its own keeps the order and which pages scans visit, and makes no page restless
   pub visited_goes : Comes (row_visited b row)

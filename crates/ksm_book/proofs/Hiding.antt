@@ -1,14 +1,13 @@
 -- Rows that wait no more: that of a page with a frame of its own, and those from a page on, one after another.
-use Rattle.ksm_book.proofs.DueAlike.{at_own_page, unveiled, veiled, veiled_alike}
-use Rattle.ksm_book.proofs.Names.{after_cursor, All, ap, arith, before_irrefl, BookValue, Bool, cases_Bool, change_row, Comes, comes_before, each_at_page, false, find, find_mapped, find_none}
-use Rattle.ksm_book.proofs.Names.{find_passes, get_or, GuestPage, if◌then◌else◌, inl, InPageOrder, inr, is_next, IsAlone, KeeperView, List, map_alike, map_mapped, None, not}
-use Rattle.ksm_book.proofs.Names.{not_both, on_its_own, one_before, Option, option_map, PagesValue, refl, Row, row_at, same_page, same_page_eq, same_page_sym, seen, settled}
-use Rattle.ksm_book.proofs.Names.{shared_state, Some, sym, true, waiting_state, ℕ, ◌&&◌, ◌∙◌, ◌≡◌, ◌⊎◌}
+use Rattle.ksm_book.proofs.DueAlike.{at_own_page}
+use Rattle.ksm_book.proofs.Names.{after_cursor, ap, arith, BookState, BookValue, change_row, change_rows, Comes, comes_before, every_row, false, find, find_passes, GuestPage}
+use Rattle.ksm_book.proofs.Names.{if◌then◌else◌, InPageOrder, is_next, IsAlone, List, map_alike, None, not, on_its_own, Option, option_map, ordered_change, refl, Row, row_at}
+use Rattle.ksm_book.proofs.Names.{same_page, same_page_eq, same_page_sym, settled, shared_state, Some, sym, true, ◌∙◌, ◌≡◌, ◌⊎◌}
 use Rattle.ksm_book.specs.Due.{hidden_from}
-use Rattle.ksm_book.proofs.PagesAhead.{after_later}
-use Rattle.ksm_book.proofs.Reached.{agrees, comes_as, comes_to, value}
-use Rattle.ksm_pages.proofs.Found.{first_found as found_first}
-use Rattle.ksm_pages.proofs.Options.{mapped_some}
+use Rattle.ksm_book.proofs.Along.{along, along_end, along_next, along_none, IsAlong, passed}
+use Rattle.ksm_book.proofs.ByPage.{found_page, row_of_page}
+use Rattle.ksm_book.proofs.Reached.{agrees, comes_as, comes_to}
+use Rattle.ksm_book.proofs.Singles.{change_still}
 
 -- ---------------------------------------------------------------- a page with a frame of its own
 
@@ -19,29 +18,27 @@ alone_settled page rows rise alone =
     map_alike (λ r. if same_page r.page page then on_its_own r else r) (λ r. if same_page r.page page then settled r else r)
     rows (λ k d lt. grind (arith, at_own_page page rows rise k d lt, same_page_sym))
 
--- that page's row is all that changes in what was reached
-pub stop_comes : (p q : PagesValue) (k : KeeperView) (cursor : Option GuestPage) (passes : ℕ) (page : GuestPage)
-    → seen q ≡ record (seen p) { rows = change_row page settled p.rows }
-    → Comes (value p k cursor passes) (value q k cursor passes)
-    (λ s. (record s.0 { rows = change_row page settled s.0.rows }, s.1))
-stop_comes p q k cursor passes page goes from s before = grind arith
-
 -- ---------------------------------------------------------------- the pages from one on
 
--- a page is none behind a cursor, and does not come before another page
-abbrev pub hides : GuestPage → Option GuestPage → GuestPage → Bool
-hides page last q = not (after_cursor last q) && not (comes_before q page)
+-- a row waits no more, if it does not come before a page
+abbrev pub hide : GuestPage → Row → Row
+hide page r = if not (comes_before r.page page) then settled r else r
 
 -- up to a cursor, no row from a page on waits
 pub record Hides (page : GuestPage) (old now : BookValue) (last : Option GuestPage) : Type 0 where
-  pub comes : Comes old now (λ s. (veiled (hides page last) s.0, s.1))
+  pub comes : Comes old now (λ s. (record s.0 { rows = along every_row (hide page) last s.0.rows }, s.1))
   -- the frames have the same table
   pub own : now.keeper.table ≡ old.keeper.table
+
+-- where rows are others by a change, and that makes the same of a book's rows as another change, the rows are others by that
+rows_as : (v w : BookValue) (f g : List Row → List Row) → f v.state.rows ≡ g v.state.rows
+    → Comes v w (λ s. (record s.0 { rows = f s.0.rows }, s.1)) → Comes v w (λ s. (record s.0 { rows = g s.0.rows }, s.1))
+rows_as v w f g same = comes_as w (agrees v (λ deed i. (record v.state { rows = same i }, deed)))
 
 -- at first all are as they were
 pub hides_none : (page : GuestPage) (v : BookValue) → Hides page v v None
 hides_none page v = record {
-  comes = comes_as v (agrees v (λ deed i. (sym (unveiled v.state) i, deed))) (λ from s before. before);
+  comes = rows_as v v (λ rows. rows) (along every_row (hide page) None) (along_none every_row (hide page) v.state.rows).are (λ from s before. before);
   own = refl;
 }
 
@@ -51,83 +48,39 @@ pub next_after : (last : Option GuestPage) (rows : List Row) (at : GuestPage)
 next_after last rows at told = grind (arith, find_passes)
 
 module _ {page : GuestPage} {old now : BookValue} {last : Option GuestPage} (h : Hides page old now last) where
-  abbrev hidden : Row → Row
-  hidden r = if hides page last r.page then settled r else r
-
-  -- a search that a page decides finds the row that it found at first, which may wait no more
-  finds : (test : Row → Bool) → ((r : Row) → test (hidden r) ≡ test r)
-      → find test now.state.rows ≡ option_map hidden (find test old.state.rows)
-  finds test same =
-      rw (comes_to old now _ h.comes) (find_mapped hidden test test old.state.rows (λ k d lt. same (get_or old.state.rows k d)))
+  so_far : IsAlong every_row (hide page) old.state.rows now.state.rows last
+  so_far = record { are = ap (λ (b : BookState). b.rows) (comes_to old now _ h.comes) }
 
   -- where no row is left, none from the page on waits
   pub hiding_end : find (is_next None last) now.state.rows ≡ None → Comes old now (λ s. (hidden_from page s.0, s.1))
-  hiding_end ended =
-      let there = finds (is_next None last) (grind arith) in
-      let none = find_none (is_next None last) old.state.rows (grind arith) in
-      comes_as now (agrees old (λ deed i. (
-        veiled_alike (hides page last) old.state (λ q. not (comes_before q page))
-            (λ k d lt _. grind (arith, none k d lt)) i,
-        deed,
-      ))) h.comes
+  hiding_end ended = rows_as old now (along every_row (hide page) last) (change_rows every_row (hide page))
+      (sym so_far.are ∙ along_end (grind arith) so_far ended) h.comes
 
   -- the next page
   module _ (rise : InPageOrder old.state.rows) (at : GuestPage)
       (told : option_map (λ r. r.page) (find (is_next None last) now.state.rows) ≡ Some at) where
-    first : (r : Row) × (find (is_next None last) old.state.rows ≡ Some r) × (r.page ≡ at)
-    first =
-        let there = finds (is_next None last) (grind arith) in
-        mapped_some (λ (r : Row). r.page) (find (is_next None last) old.state.rows) (grind arith)
-
-    -- other rows are hidden as they were once the cursor is there
-    others : All (λ r. same_page r.page at ≡ false → hides page last r.page ≡ hides page (Some at) r.page) old.state.rows
-    others k d lt apart = grind (
-      arith,
-      found_first (λ (r : Row). r.page) (is_next None last) old.state.rows first.0 rise first.1 k d lt,
-      first.2,
-      next_after last now.state.rows at told,
-      one_before,
-      not_both,
-      after_later last at (get_or old.state.rows k d).page,
-    )
+    -- once that is so of it too, it is so up to there
+    hiding_next : (w : BookValue) → Comes now w (λ s. (record s.0 { rows = change_row at (hide page) s.0.rows }, s.1))
+        → w.keeper.table ≡ now.keeper.table → Hides page old w (Some at)
+    hiding_next w stops own = record {
+      comes = rows_as old w (λ rows. change_row at (hide page) (along every_row (hide page) last rows)) (along every_row (hide page) (Some at))
+          (ap (change_row at (hide page)) (sym so_far.are) ∙ (along_next (grind arith) so_far rise told).are)
+          (λ from s before. stops from _ (h.comes from s before));
+      own = own ∙ h.own;
+    }
 
     -- a shared page, or one that comes before, is left as it is
     pub hiding_over : (row : Row) → row_at at now.state.rows ≡ Some row
         → (shared_state row.state ≡ true) ⊎ (comes_before at page ≡ true) → Hides page old now (Some at)
-    hiding_over row found why = record {
-      comes = comes_as now (agrees old (λ deed i. (veiled_alike (hides page last) old.state (hides page (Some at)) each i, deed))) h.comes;
-      own = h.own;
-    }
-      where
-        each : All (λ r. waiting_state r.state ≡ true → hides page last r.page ≡ hides page (Some at) r.page) old.state.rows
-        each k d lt waits =
-            let r = get_or old.state.rows k d in
-            elim (cases_Bool (same_page r.page at)) [
-              | inl same ↦
-                  let of_page : r.page ≡ at = same_page_eq r.page at same in
-                  let there = finds (λ x. same_page x.page at) (grind arith) in
-                  let is = ap (λ q. row_at q old.state.rows) (sym of_page) ∙ each_at_page old.state.rows rise k d lt in
-                  grind (arith, next_after last now.state.rows at told)
-              | inr apart ↦ others k d lt apart
-            ]
+    hiding_over row found why =
+        let order : InPageOrder now.state.rows = rw so_far.are (ordered_change (passed every_row last) (hide page) _ (grind arith) rise) in
+        let still = change_still at (hide page) now.state.rows (grind (arith, row_of_page at _ row order found, found_page at _ row found)) in
+        hiding_next now (rows_as now now (λ rows. rows) (change_row at (hide page)) (sym still) (λ from s before. before)) refl
 
     -- any other page waits no more
-    pub hiding_more : (next : BookValue) → comes_before at page ≡ false
-        → Comes now next (λ s. (record s.0 { rows = change_row at settled s.0.rows }, s.1))
-        → next.keeper.table ≡ now.keeper.table → Hides page old next (Some at)
-    hiding_more next behind stops own = record {
-      comes = comes_as next (agrees old (λ deed i. (record old.state { rows = rows i }, deed)))
-          (λ from s before. stops from _ (h.comes from s before));
-      own = own ∙ h.own;
-    }
-      where
-        rows : change_row at settled (veiled (hides page last) old.state).rows ≡ (veiled (hides page (Some at)) old.state).rows
-        rows = map_mapped (λ r. if same_page r.page at then settled r else r) hidden
-            (λ r. if hides page (Some at) r.page then settled r else r) old.state.rows (λ k d lt.
-            let r = get_or old.state.rows k d in
-            elim (cases_Bool (same_page r.page at)) [
-              | inl same ↦
-                  let of_page : r.page ≡ at = same_page_eq r.page at same in
-                  grind (arith, next_after last now.state.rows at told, before_irrefl at)
-              | inr apart ↦ grind (arith, others k d lt apart)
-            ])
+    pub hiding_more : (w : BookValue) → comes_before at page ≡ false
+        → Comes now w (λ s. (record s.0 { rows = change_row at settled s.0.rows }, s.1))
+        → w.keeper.table ≡ now.keeper.table → Hides page old w (Some at)
+    hiding_more w behind stops = hiding_next w (rows_as now w (change_row at settled) (change_row at (hide page))
+        (map_alike (λ r. if same_page r.page at then settled r else r) (λ r. if same_page r.page at then hide page r else r) _
+        (grind (arith, same_page_eq))) stops)

@@ -59,7 +59,7 @@ pub use Rattle.ksm_book.specs.Carried.{CarriedOut, IsCarried, UnmergesTo}
 pub use Rattle.ksm_book.specs.Commands.{Deed, dup_frame, emptying, Finds, FindsHeld, FindsNone, frame_found, frame_number, handling, idle, instead, joining, leaving, Mapped, mounting, Moves, pairing}
 pub use Rattle.ksm_book.specs.Commands.{Performs, Provides, pruning, Resettles, ResettlesEach, rewriting, row_visiting, scanning, staying, then_doing, visiting_of, withdrawing}
 pub use Rattle.ksm_book.specs.Due.{AreDue, comes_later, due_row_visited, due_visited, due_visits, DueView, hidden_from, IsDueNoMore, taken_over, takes_over, waits_on}
-pub use Rattle.ksm_book.specs.DuePass.{part_before, part_visited, ReachedBefore, StaysBefore, StopsDue, StopsInPart, TakesOverFrom}
+pub use Rattle.ksm_book.specs.DuePass.{part_before, part_visited, ReachedBefore, StaysBefore, StopsInPart, TakesOverFrom}
 pub use Rattle.ksm_book.specs.Folded.{begun, IsBeside, IsStill, next_visited, page_visited, pages_ahead, pages_visited, restless_at, restless_row, visited, visits_beside}
 pub use Rattle.ksm_tree.specs.NumberSets.{has, Marks}
 pub use Rattle.ksm_book.specs.FrameSets.{AreSets, IsSetOf, MayLeave, NoneOf}
@@ -68,7 +68,7 @@ pub use Rattle.ksm_book.specs.Laid.{HasRemounted, Houses, IsLaid, lying, MayMove
 pub use Rattle.ksm_book.specs.Mounted.{HasLost, HasMoved, MayMount, once_mounted}
 pub use Rattle.ksm_book.specs.Placement.{Agrees, DupFits, FitsBase, in_hand, is_frame, IsInLife, IsServed, kind_for, life_or, node_of, place_frame, place_life, Placed, RowFits, uses}
 pub use Rattle.ksm_book.specs.Promised.{dup_frames, FindsPlace, HasItsOwn, is_in_use, IsOutlived, LieOn, own_frames, StandsOn}
-pub use Rattle.ksm_book.specs.Scanned.{Comes, doing, HasScanned, HasStayed, is_nowhere, IsForZero, last_visited, MayJoin, MeetsPage, Reached, up_to, VisitsPage}
+pub use Rattle.ksm_book.specs.Scanned.{Comes, doing, HasStayed, is_nowhere, IsForZero, last_visited, MayJoin, MeetsPage, Reached, up_to, VisitsPage}
 pub use Rattle.ksm_book.specs.Steps.{Allocates, AllocatesOn, along, dying_from, dying_kind, dying_on, free_kind, given_by, Gives, IsLowestFree, IsNeeded, loads, Log, MakesSteps, needed_after, puts}
 pub use Rattle.ksm_book.specs.Steps.{replayed, stepped, steps_of}
 pub use Rattle.ksm_book.specs.Unmerged.{HasLeft, is_shared_of, IsStop, left_by, MayNotLeave, shared_of, Unshares}

@@ -1,8 +1,9 @@
 -- A page waits in the stead of one further on: what becomes of the book, and which pages are due then.
-use Rattle.ksm_book.proofs.Names.{All, ap, AreDue, arith, before_differs, BookState, BookValue, Bool, change_row, change_rows, Comes, comes_before, Deed, doing, due_visited, each_at_page, find_all}
+use Rattle.ksm_book.proofs.Names.{All, ap, AreDue, arith, before_differs, BookState, BookValue, change_row, change_rows, Comes, comes_before, Deed, doing, due_visited, each_at_page, find_all}
 use Rattle.ksm_book.proofs.Names.{find_passes, GuestPage, has_item, hidden_from, idle, is_restless, IsAlone, IsSound, List, map_alike, not, not_both, page_visited, partner, Reached, Row, row_at}
 use Rattle.ksm_book.proofs.Names.{same_page, same_page_eq, same_page_refl, same_page_sym, settled, Some, StaysBefore, subst, sym, taken_over, takes_over, true, view_of, waits_for, waits_tells}
 use Rattle.ksm_book.proofs.Names.{WaitsFor, ◌&&◌, ◌||◌, ◌∙◌, ◌∷◌, ◌≡◌}
+use Rattle.std.specs.Cmp.{both_ways}
 use Rattle.ksm_book.proofs.DueAlike.{freed_found, one_waits, taken_is, veiled_over}
 use Rattle.ksm_book.proofs.ByPage.{found_page, row_of_page}
 use Rattle.ksm_book.proofs.DueKept.{more_due, taken_due}
@@ -20,9 +21,6 @@ pub record Takes (b : BookState) (page other : GuestPage) : Type 0 where
   pub waiter : Row
   pub waits : partner b.knobs b.rows row ≡ Some waiter
   pub is : other ≡ waiter.page
-
-same_tests : (p q : Bool) → (p ≡ true → q ≡ true) → (q ≡ true → p ≡ true) → p ≡ q
-same_tests p q to from = grind arith
 
 module _ {b : BookState} {page other : GuestPage} (at : Takes b page other) where
   page_is : at.row.page ≡ page
@@ -50,7 +48,7 @@ module _ {b : BookState} {page other : GuestPage} (at : Takes b page other) wher
 
   -- the rows of the other page are those that wait for the row
   agree : All (λ r. same_page r.page other ≡ waits_for b.knobs at.row r) b.rows
-  agree k d lt = same_tests _ _
+  agree k d lt = both_ways _ _
       (λ same. rw (row_of_page _ _ _ at.sound.rows_rise waits_at k d lt same) passes)
       (λ waits. rw (one_waits b at.row _ at.sound at.waits k d lt waits ∙ sym at.is) (same_page_refl other))
 

@@ -1,5 +1,5 @@
 -- Pages that leave their dups, or the zero page, one after another.
-use Rattle.ksm_book.proofs.Names.{All, append-nil, arith, Bool, change_row, change_rows, Contains-append_right, false, Fault, filter, filter-append, filter_none, find, GuestPage, HasLeft, Held}
+use Rattle.ksm_book.proofs.Names.{All, append-nil, arith, Bool, change_row, change_rows, false, Fault, filter, filter_none, find, find_all, find_passes, GuestPage, HasLeft, Held}
 use Rattle.ksm_book.proofs.Names.{InPageOrder, is_next, is_of, is_shared_of, is_some, IsHeld, IsLaid, KeeperView, left_by, length, length-append, let_go, List, lying, Mapped, MayNotLeave, None, not}
 use Rattle.ksm_book.proofs.Names.{of_guest, on_its_own, Option, option_map, PagesView, refl, Resettled, ResettlesEach, Row, row_at, same_page, same_Some, shared_state, slice_get, Some}
 use Rattle.ksm_book.proofs.Names.{take-append_seam, true, Unshares, ℕ, [], ◌++◌, ◌+◌, ◌<◌, ◌∷◌, ◌≡◌, ◌≤◌}
@@ -7,7 +7,7 @@ use Rattle.ksm_base.proofs.Edits.{count_more}
 use Rattle.ksm_base.specs.Counting.{mergeable_count}
 use Rattle.ksm_base.specs.declared.row.PageState.TheVariants.{Private}
 use Rattle.std.proofs.lemmas.List.Sums.{count_by-le-length}
-use Rattle.ksm_book.proofs.Along.{along_cut, along_end, FitsPage, further, IsAlong, IsCut, position}
+use Rattle.ksm_book.proofs.Along.{along_end, along_next, along_none, along_stop, FitsPage, further, IsAlong, next_is, parted, passed, passed_all, position, there}
 use Rattle.ksm_book.proofs.ByPage.{row_of_page}
 use Rattle.ksm_book.proofs.Laying.{laid_changed}
 use Rattle.ksm_book.proofs.Shown.{each_does, unmerges_does}
@@ -88,26 +88,28 @@ each_then : (xs ys : List Row) (u v w : Mapped) → ResettlesEach xs u v → Res
 each_then [] ys u v w idle more = grind (arith, more)
 each_then (x ∷ xs) ys u v w (between, first, others) more = (between, first, each_then xs ys between v w others more)
 
--- so many pages of the guest, or of all, got frames of their own; the cursor is behind the last page that was looked at
+-- so many pages of the guest, or of all, got frames of their own; the cursor is at the last page that was looked at
 pub record IsUnsharing (p q : PagesView) (k l : KeeperView) (guest : Option ℕ) (count : ℕ) (last : Option GuestPage) : Type 0 where
-  -- the rows that were looked at
-  pub done : List Row
-  -- the rows still to be looked at
-  pub left : List Row
   -- the rows asked for are changed up to the cursor, as rows that were left
-  pub along : IsAlong (of_guest guest) (left_by guest) p.rows q.rows last done left
-  -- nothing changed but the rows, where pages lie and the listing
+  pub along : IsAlong (of_guest guest) (left_by guest) p.rows q.rows last
+  -- nothing changed but the rows, and where pages lie
   pub pages : q ≡ record p { rows = q.rows; frame = q.frame }
-  -- the count is that of the shared rows among those looked at
-  pub counted : count ≡ length (filter (is_shared_of guest) done)
-  -- the shared rows among those looked at were resettled, one after another
-  pub each : ResettlesEach (filter (is_shared_of guest) done) (lying p k) (lying q l)
+  -- the count is that of the shared rows among them
+  pub counted : count ≡ length (filter (passed (is_shared_of guest) last) p.rows)
+  -- these were resettled, one after another
+  pub each : ResettlesEach (filter (passed (is_shared_of guest) last) p.rows) (lying p k) (lying q l)
   -- rows and dups lie lawfully
   pub laid : IsLaid q l
   -- the count is at most the cursor's position
   pub few : count ≤ position last
   -- the numbers of the cursor's page fit
   pub fits : FitsPage last
+
+-- at first none did
+pub unsharing_begins : (p : PagesView) (k : KeeperView) (guest : Option ℕ) → IsLaid p k → IsUnsharing p p k k guest 0 None
+unsharing_begins p k guest h =
+    let none = filter_none (passed (is_shared_of guest) None) p.rows (grind arith) in
+    grind (arith, along_none (of_guest guest) (left_by guest) p.rows)
 
 -- the row behind others stands at the place that is their number
 seam : (xs : List Row) (x : Row) (ys : List Row) → slice_get (xs ++ x ∷ ys) (length xs) ≡ Some x
@@ -122,48 +124,73 @@ unshares_own u = (unmerges_does _ _ _ _ u.unmerges).1.table
 module _ {p q : PagesView} {k l : KeeperView} {guest : Option ℕ} {count : ℕ} {last : Option GuestPage}
     (u : IsUnsharing p q k l guest count last) (rise : InPageOrder p.rows) where
   abbrev met : List Row
-  met = filter (is_shared_of guest) u.done
+  met = filter (passed (is_shared_of guest) last) p.rows
 
   -- the keeper is of the same table
   pub unsharing_own : l.table ≡ k.table
   unsharing_own = grind (arith, each_does)
 
   module _ {page : GuestPage} (told : option_map (λ r. r.page) (find (is_next guest last) q.rows) ≡ Some page) where
-    cut : IsCut (of_guest guest) (left_by guest) p.rows q.rows u.done page
-    cut = along_cut _ (page_left _) u.along rise _ told
+    abbrev next : (row : Row) × (find (is_next guest last) p.rows ≡ Some row) × (row.page ≡ page)
+    next = next_is (page_left guest) u.along rise told
 
     abbrev r : Row
-    r = cut.row
+    r = next.0
+
+    at : row_at page q.rows ≡ Some r
+    at = there (page_left guest) u.along rise told
+
+    asks : of_guest guest r ≡ true
+    asks = grind (arith, find_passes (is_next guest last) p.rows r next.1)
+
+    cut : (rest : List Row) × (filter (passed (is_shared_of guest) (Some r.page)) p.rows ≡ met ++ filter (is_shared_of guest) (r ∷ []))
+        × (filter (is_shared_of guest) p.rows ≡ met ++ (filter (is_shared_of guest) (r ∷ []) ++ rest))
+    cut = parted (of_guest guest) (is_shared_of guest) (grind arith) last p.rows r rise next.1
 
     -- the next page is at home on a node that is there
     pub unsharing_home : {held : Held} → IsHeld q page held → All (λ x. x.home < p.shape.nodes) p.rows → held.home < q.shape.nodes
     unsharing_home h homes =
-        let all : All (λ x. x.home < p.shape.nodes) (cut.before ++ r ∷ cut.rest) = grind (arith, cut.whole) in
-        grind (arith, cut.there, Contains-append_right cut.before (r ∷ cut.rest) r (0, omega arith, refl))
+        grind (arith, at, find_all (is_next guest last) (λ x. x.home < p.shape.nodes) p.rows r next.1 homes)
 
     -- once the next page was left too, so many pages more got frames of their own, up to that page
     pub unsharing_next : {v : PagesView} {w : KeeperView} {given : ℕ} → HasLeft q v l w guest page given → FitsPage (Some page)
         → IsUnsharing p v k w guest (count + given) (Some page)
-    unsharing_next {v} h fits = grind (arith, cut, filter-append, cut.met (λ x. shared_state x.state), length-append, each_then, further)
+    unsharing_next {v} h fits = grind (
+      arith,
+      at,
+      asks,
+      next.2,
+      cut.1,
+      along_next (page_left guest) u.along rise told,
+      length-append,
+      each_then,
+      further,
+    )
 
     -- where no frame was left for the next page, the unsharing stops there, and the shared rows before it are done
     pub unsharing_stop : {v : PagesView} {w : KeeperView} {fault : Fault} → MayNotLeave q v l w page fault
         → Unshares p v k w guest count (Some fault)
-    unsharing_stop {v} {w} {fault} h = record {
-      at = Some r;
-      fault = grind (arith, cut.there);
-      stands = grind (arith, cut.whole, filter-append, cut.met (λ x. shared_state x.state), seam, cut.there);
-      pages = grind (arith, cut.stop);
-      unmerges = grind (arith, cut.whole, filter-append, cut.met (λ x. shared_state x.state), cut.there, take-append_seam);
-      laid = h.turned.laid;
-    }
+    unsharing_stop {v} {w} {fault} h =
+        let shared : is_shared_of guest r ≡ true = grind (arith, at, asks) in
+        let are : filter (is_shared_of guest) p.rows ≡ met ++ r ∷ cut.0 = grind (arith, cut.2) in
+        record {
+          at = Some r;
+          fault = grind (arith, at);
+          stands = grind (arith, are, seam);
+          pages = grind (arith, along_stop (page_left guest) u.along rise told);
+          unmerges = grind (arith, are, at, take-append_seam);
+          laid = h.turned.laid;
+        }
 
   -- where no page is left to look at, the shared rows of the guest, or of all, are unshared with no stop
   pub unsharing_end : find (is_next guest last) q.rows ≡ None → Unshares p q k l guest count None
-  unsharing_end ended =
-      let done = along_end _ (page_left _) u.along ended in
-      let none = filter_none (is_shared_of guest) u.left (grind arith) in
-      grind (arith, filter-append, append-nil, take-append_seam met [])
+  unsharing_end ended = grind (
+    arith,
+    along_end (page_left guest) u.along ended,
+    passed_all (page_left guest) u.along ended (is_shared_of guest) (grind arith),
+    append-nil,
+    take-append_seam met [],
+  )
 
 -- ---------------------------------------------------------------- pages that come into the scan
 
@@ -173,26 +200,21 @@ in_scan r = record r { mergeable = true }
 
 -- a guest's pages are mergeable up to the cursor
 pub record IsMarking (p q : PagesView) (guest : ℕ) (last : Option GuestPage) : Type 0 where
-  -- the rows that were looked at
-  pub done : List Row
-  -- the rows still to be looked at
-  pub left : List Row
   -- the guest's rows are in the scan up to the cursor
-  pub along : IsAlong (is_of guest) in_scan p.rows q.rows last done left
-  -- nothing changed but the rows and the listing
+  pub along : IsAlong (is_of guest) in_scan p.rows q.rows last
+  -- nothing changed but the rows
   pub pages : q ≡ record p { rows = q.rows }
   -- the numbers of the cursor's page fit
   pub fits : FitsPage last
 
 module _ {p q : PagesView} {guest : ℕ} {last : Option GuestPage} (u : IsMarking p q guest last) where
-  -- the next page is there
-  module _ (rise : InPageOrder p.rows) {page : GuestPage}
-      (told : option_map (λ r. r.page) (find (is_next (Some guest) last) q.rows) ≡ Some page) where
-    -- once the next page of the guest is mergeable too, the guest's pages are so up to that page
-    pub marking_next : {v : PagesView} → v ≡ record q { rows = change_row page in_scan q.rows }
-        → FitsPage (Some page) → IsMarking p v guest (Some page)
-    marking_next {v} goes fits = grind (arith, along_cut _ (λ _. refl) u.along rise _ told)
+  -- once the next page of the guest is mergeable too, the guest's pages are so up to that page
+  pub marking_next : InPageOrder p.rows → {page : GuestPage}
+      → option_map (λ r. r.page) (find (is_next (Some guest) last) q.rows) ≡ Some page
+      → {v : PagesView} → v ≡ record q { rows = change_row page in_scan q.rows }
+      → FitsPage (Some page) → IsMarking p v guest (Some page)
+  marking_next rise told {v} goes fits = grind (arith, along_next (λ _. refl) u.along rise told)
 
   -- where no page of the guest is left, all its rows are mergeable
   pub marking_end : find (is_next (Some guest) last) q.rows ≡ None → q ≡ record p { rows = change_rows (is_of guest) in_scan p.rows }
-  marking_end ended = grind (arith, (along_end _ (λ _. refl) u.along ended).0)
+  marking_end ended = grind (arith, along_end (λ _. refl) u.along ended)

@@ -5,13 +5,13 @@ use Rattle.std.specs.Prelude.{fold}
 use Rattle.ksm_book.proofs.Names.{after_cursor, All, All-cons, All-filter, All-head, All-tail, ap, AreAscending, AreDue, arith, BookState, BookValue, Bool, cases_Bool, Comes, comes_before, Deed}
 use Rattle.ksm_book.proofs.Names.{doing, each_at_page, false, filter, filter_none, filter_passes, find_all, get_or, get_or_from_slice_get, GuestPage, has_item, if◌then◌else◌, inl, InPageOrder, inr}
 use Rattle.ksm_book.proofs.Names.{is_restless, IsDueNoMore, IsSound, IsStill, List, mergeable_pages, nat_lt, None, not, one_before, Option, page_visited, pages_ahead, pairs_head, pairs_tail, Reached}
-use Rattle.ksm_book.proofs.Names.{refl, restless_at, restless_row, Row, row_at, same_page, same_page_eq, slice_get_within, Some, sound_row_visited, subst, suc, sym, take, true, true≢false, up_to, ℕ}
+use Rattle.ksm_book.proofs.Names.{refl, restless_at, Row, same_page, same_page_eq, slice_get_within, Some, sound_row_visited, subst, suc, sym, take, true, true≢false, up_to, ℕ}
 use Rattle.ksm_book.proofs.Names.{[], ◌*◌, ◌++◌, ◌+◌, ◌-◌, ◌<◌, ◌^◌, ◌∙◌, ◌∷◌, ◌≡◌}
 use Rattle.ksm_pages.specs.Ahead.{FindsNext}
 use Rattle.ksm_book.specs.Scanned.{ahead_before, ahead_up_to, FindsUpTo, StaysStill}
 use Rattle.ksm_book.proofs.Along.{FitsPage}
-use Rattle.ksm_book.proofs.ByPage.{found_page, row_of_page}
-use Rattle.ksm_book.proofs.Folded.{ascending_ahead, pages_go, still_on}
+use Rattle.ksm_book.proofs.ByPage.{row_of_page}
+use Rattle.ksm_book.proofs.Folded.{ascending_ahead, by_row, pages_go, still_on}
 use Rattle.ksm_book.proofs.PagesAhead.{after_later, Before, has_filter, place_of, place_splits}
 use Rattle.ksm_book.proofs.Reached.{Agree, agree, comes_to}
 use Rattle.ksm_book.proofs.Scanned.{restless_mergeable}
@@ -200,21 +200,7 @@ module _ {visit : Visit} (is : IsVisit visit) {last : Option GuestPage} {old mid
 
 -- ---------------------------------------------------------------- visits of the definitions
 
--- what is so of a page whose row no visit may change, and of that of each row that one may, is so of each page
-pub by_row : (P : GuestPage → Type 0) (page : GuestPage) (rows : List Row) → (restless_at page rows ≡ false → P page)
-    → ((r : Row) → row_at r.page rows ≡ Some r → is_restless r ≡ true → P r.page) → P page
-by_row P page rows calm some = by _ refl
-  where
-    by : (o : Option Row) → row_at page rows ≡ o → P page
-    by None found = calm (ap restless_row found)
-    by (Some r) found = elim (cases_Bool (is_restless r)) [
-      | inl restless ↦
-          let at = found_page page rows r found in
-          subst P at (some r (ap (λ q. row_at q rows) at ∙ found) restless)
-      | inr stays ↦ calm (ap restless_row found ∙ stays)
-    ]
-
--- so is the visit of a page by the definitions
+-- the visit of a page by the definitions is one that a walk may make
 pub visits_page : IsVisit (page_visited doing)
 visits_page = record {
   sound = λ b deed page sound. by_row (λ p. IsSound (page_visited doing (b, deed) p).0) page b.rows (grind arith)

@@ -5,7 +5,7 @@ use Rattle.ksm_base.specs.declared.row.PageState.TheVariants.{Waiting}
 use Rattle.ksm_base.specs.declared.row.Row.{Row}
 use Rattle.ksm_base.specs.Rows.{change_row, change_rows, comes_before, row_at, settled, waiting_state}
 use Rattle.ksm_base.specs.State.{BookState}
-use Rattle.ksm_base.specs.Visit.{best_dup, is_for_zero, partner, waits_for}
+use Rattle.ksm_base.specs.Visit.{after_cursor, best_dup, is_for_zero, partner, waits_for}
 use Rattle.ksm_rmap.specs.Items.{has_item}
 use Rattle.ksm_pages.specs.Paged.{is_restless}
 use Rattle.ksm_book.specs.Folded.{visited}
@@ -15,6 +15,13 @@ pub record DueView : Type 0 where
   pub pages : List GuestPage
   pub known : Bool
   pub ready : Bool
+
+-- the first of the pages behind a cursor; where none is found, none is there
+abbrev pub FindsFirst : Option GuestPage → List GuestPage → Option GuestPage → Type 0
+FindsFirst cursor pages None = All (λ p. after_cursor cursor p ≡ false) pages
+FindsFirst cursor pages (Some page) =
+    (has_item page pages ≡ true) × (after_cursor cursor page ≡ true)
+    × All (λ p. after_cursor cursor p ≡ true → comes_before p page ≡ false) pages
 
 -- a row that waits would wait again: its bytes have stayed, they do not merge with the zero page, and no dup is there that
 -- it may join

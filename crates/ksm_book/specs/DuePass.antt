@@ -2,13 +2,12 @@
 use Rattle.std.specs.Prelude.{◌≡◌, true, false, MatchOption, Option}
 use Rattle.ksm_base.specs.declared.page.GuestPage.{GuestPage}
 use Rattle.ksm_base.specs.State.{BookState}
-use Rattle.ksm_rmap.specs.Items.{has_item}
 use Rattle.ksm_book.specs.Commands.{Deed, Performs}
 use Rattle.ksm_base.specs.declared.row.Row.{Row}
 use Rattle.ksm_base.specs.Visit.{partner, pass_begun}
 use Rattle.ksm_pages.specs.Paged.{is_restless}
-use Rattle.ksm_book.specs.Due.{due_visits, hidden_from, takes_over}
-use Rattle.ksm_book.specs.Folded.{pages_ahead, pages_visited}
+use Rattle.ksm_book.specs.Due.{hidden_from, takes_over}
+use Rattle.ksm_book.specs.Folded.{pages_visited}
 use Rattle.ksm_book.specs.Scanned.{Reached, Stops, ahead_before, ahead_up_to, doing}
 use Rattle.ksm_book.specs.Whole.{BookValue, mapped, view_of}
 
@@ -32,14 +31,6 @@ StopsInPart old new last page = Stops old new last page (part_before page)
 -- whatever was reached before, nothing changed but which rows from a page on wait
 abbrev pub StaysBefore : GuestPage → BookValue → BookValue → Type 0
 StaysBefore page old new = (from : BookValue) (s : BookState × Deed) → Reached from old s → ReachedBefore page from new s
-
--- the visits of the pages that are due stopped before a page
-pub record StopsDue (old new : BookValue) (page : GuestPage) : Type 0 where
-  -- it is one of those ahead
-  pub ahead : has_item page (pages_ahead old.state) ≡ true
-  -- those before it were visited, but for rows from it on that may wait still
-  pub comes : (from : BookValue) (s : BookState × Deed) → Reached from old s
-      → ReachedBefore page from new (due_visits doing s (ahead_before page s.0))
 
 -- a row that a visit may change is to wait in the stead of that of a page
 abbrev pub TakesOverFrom : BookState → GuestPage → Row → Type 0

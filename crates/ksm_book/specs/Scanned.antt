@@ -2,9 +2,6 @@
 use Rattle.std.specs.Prelude.{◌≡◌, ℕ, ◌+◌, ◌-◌, ◌^◌, ◌<◌, ◌≤◌, Bool, true, false, not, ◌==◌, All, List, filter, min, Option, Some, None, MatchOption}
 use Rattle.ksm_base.specs.declared.page.GuestPage.{GuestPage}
 use Rattle.ksm_base.specs.declared.row.Row.{Row}
-use Rattle.ksm_base.specs.declared.fault.Fault.TheVariants.{Memory}
-use Rattle.ksm_base.specs.declared.reply.Reply.{Reply}
-use Rattle.ksm_base.specs.declared.reply.Reply.TheVariants.{Scanned}
 use Rattle.ksm_base.specs.Rows.{comes_before, row_at}
 use Rattle.ksm_base.specs.Visit.{after_cursor, best_dup, is_for_zero, partner, row_visited}
 use Rattle.ksm_tree.specs.declared.dup.Best.{Best}
@@ -137,9 +134,3 @@ pub record StopsShort (old new : BookValue) (most made : ℕ) : Type 0 where
   pub fewer : made < most
   -- and one more had begun
   pub comes : Comes old new (λ s. begun (visits_beside doing made s))
-
--- what a scan of so many visits replies: all were made; or memory stopped it as one more had begun
-abbrev pub HasScanned : BookValue → BookValue → ℕ → Reply → Type 0
-HasScanned old new count (Scanned made None) = (made ≡ count) × Comes old new (visits_beside doing made)
-HasScanned old new count (Scanned made (Some fault)) = (fault ≡ Memory) × StopsShort old new count made
-HasScanned old new count _ = ⊥

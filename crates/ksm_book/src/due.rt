@@ -5,11 +5,10 @@
 //! that, or that it is no longer known which pages are due. Then the next pass visits all pages. A page that leaves a
 //! dup with room for one more page opens none: what waits could join that dup already.
 
-ghost use Rattle.std.specs.Prelude.{◌≡◌, true, false, [], All, ◌||◌, ◌&&◌, not, IfErr, OnErr, OnOk, MatchOption};
-ghost use Rattle.ksm_base.specs.declared.fault.Fault.TheVariants.{Memory};
+ghost use Rattle.std.specs.Prelude.{◌≡◌, true, false, [], ◌||◌, ◌&&◌, not, OnOk, option_map};
 ghost use Rattle.ksm_base.specs.declared.page.GuestPage.{GuestPage};
-ghost use Rattle.ksm_base.specs.Rows.{comes_before, same_page};
-ghost use Rattle.ksm_base.specs.Visit.{after_cursor};
+ghost use Rattle.ksm_base.specs.Rows.{same_page};
+ghost use Rattle.ksm_book.specs.Due.{FindsFirst};
 ghost use Rattle.ksm_rmap.specs.Items.{has_item};
 
 use ksm_base::{Fault, GuestPage};
@@ -124,13 +123,11 @@ impl Due {
         self.known
     }
 
-    /// The page of a spot is due, and stands in order. The one fault is `Memory`, and then nothing changes.
+    /// The page of a spot is due, and stands in order. Refused for memory alone.
     pub fn insert(&mut self, spot: Spot) -> Result<(), Fault>
         ensures rest { self.new ≡ record self.old { pages = self.new.pages } }
         ensures added { OnOk result ((page : GuestPage)
             → has_item page self.new.pages ≡ (same_page spot.page page || has_item page self.old.pages)) }
-        ensures kept { OnErr result (self.new ≡ self.old) }
-        ensures memory { IfErr result (λ fault. fault ≡ Memory) }
     {
         match self.order.find(spot.page) {
             Some(_) => Ok(()),
@@ -155,9 +152,7 @@ impl Due {
     /// The first page behind a cursor that is due, while a pass goes on.
     pub fn after(&self, cursor: Option<GuestPage>) -> Option<Spot>
         requires { self.now.ready ≡ true }
-        ensures { MatchOption result (All (λ p. after_cursor cursor p ≡ false) self.now.pages) (λ spot.
-            (has_item spot.page self.now.pages ≡ true) × (after_cursor cursor spot.page ≡ true)
-            × All (λ p. after_cursor cursor p ≡ true → comes_before p spot.page ≡ false) self.now.pages) }
+        ensures { FindsFirst cursor self.now.pages (option_map (λ s. s.page) result) }
     {
         match self.order.after(cursor) {
             Some(named) => Some(Spot {

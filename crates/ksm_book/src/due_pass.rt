@@ -9,11 +9,11 @@ ghost use Rattle.std.specs.Prelude.{◌≡◌, true, false, None, IfErr, IfOk, M
 ghost use Rattle.ksm_base.specs.Rows.{change_row, row_at, settled};
 ghost use Rattle.ksm_rmap.specs.Items.{has_item};
 ghost use Rattle.ksm_pages.specs.Paged.{IsAlone};
-ghost use Rattle.ksm_book.specs.Due.{AreDue, due_visited, due_visits, hidden_from};
-ghost use Rattle.ksm_book.specs.DuePass.{StaysBefore, StopsDue, StopsInPart, TakesOverFrom};
+ghost use Rattle.ksm_book.specs.Due.{AreDue, due_visited, hidden_from};
+ghost use Rattle.ksm_book.specs.DuePass.{StaysBefore, StopsInPart, TakesOverFrom};
 ghost use Rattle.ksm_book.specs.DuePass.{part_visited};
 ghost use Rattle.ksm_book.specs.Folded.{restless_at};
-ghost use Rattle.ksm_book.specs.Scanned.{Comes, HasVisited, ahead_up_to, doing};
+ghost use Rattle.ksm_book.specs.Scanned.{Comes, HasVisited, doing};
 
 use crate::due::Due;
 use crate::state::State;
@@ -36,37 +36,18 @@ impl State {
     {
         self.lies_lawfully();
         let quiet = due.is_empty();
-        match self.visit_all_due(table, due) {
-            Ok(()) => Ok(quiet),
-            Err(page) => {
-                due.forget();
-                self.hide_from(page);
-                Err(page)
-            }
-        }
-    }
-
-    // Visits all pages that are due, where a pass begins. Where memory is refused, tells the page that was not visited.
-    fn visit_all_due(&mut self, table: &FrameTable, due: &mut Due) -> Result<(), GuestPage>
-        requires own { self.old.keeper.table ≡ table.now }
-        requires ready { due.old.ready ≡ true }
-        requires due { AreDue self.old.state due.old.pages }
-        requires start { self.old.state.cursor ≡ None }
-        ensures own { self.new.keeper.table ≡ self.old.keeper.table }
-        ensures ready { due.new.ready ≡ true }
-        ensures visited { OnOk result (Comes self.old self.new (λ s. due_visits doing s (ahead_up_to None s.0))) }
-        ensures due { OnOk result (AreDue self.new.state due.new.pages) }
-        ensures stopped { IfErr result (λ page. StopsDue self.old self.new page) }
-    {
-        self.lies_lawfully();
         let mut last = None;
         while let Some(spot) = due.after(last) {
             match self.visit_due(table, due, spot) {
                 Ok(()) => last = Some(spot.page),
-                Err(_) => return Err(spot.page),
+                Err(_) => {
+                    due.forget();
+                    self.hide_from(spot.page);
+                    return Err(spot.page);
+                }
             }
         }
-        Ok(())
+        Ok(quiet)
     }
 
     // Visits a page that is due. Then it is so no longer, but where the next pass has to visit it too. Where memory is

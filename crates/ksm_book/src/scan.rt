@@ -5,14 +5,13 @@
 //! repeat it are counted and not made; from then on a whole pass visits only what is due (`due_pass.rt`).
 
 ghost use Rattle.std.specs.Prelude.{◌≡◌, ◌&&◌, ◌≤◌, [], true, None, Some, IfOk, IfErr, length, option_map};
-ghost use Rattle.ksm_base.specs.State.{with_none_waiting};
 ghost use Rattle.ksm_base.specs.Visit.{pass_begun, pass_ended_at_last};
 ghost use Rattle.ksm_pages.specs.Ahead.{EndsAt, last_of, mergeable_pages};
 ghost use Rattle.ksm_book.specs.Carried.{IsCarried};
 ghost use Rattle.ksm_book.specs.Due.{AreDue};
 ghost use Rattle.ksm_book.specs.DuePass.{StopsInPart, part_visited};
 ghost use Rattle.ksm_book.specs.Folded.{pages_ahead, pages_visited};
-ghost use Rattle.ksm_book.specs.Scanned.{Comes, FindsUpTo, GoesOn, HasScanned, HasVisited, StopsBefore, StopsShort};
+ghost use Rattle.ksm_book.specs.Scanned.{Comes, FindsUpTo, GoesOn, HasVisited, StopsBefore, StopsShort};
 ghost use Rattle.ksm_book.specs.Scanned.{ahead_before, ahead_up_to, doing, is_nowhere, is_quiet, last_visited};
 ghost use Rattle.ksm_book.specs.Scanned.{passes_ended};
 ghost use Rattle.ksm_book.specs.Whole.{view_of};
@@ -88,28 +87,12 @@ impl State {
         self.cursor = None;
     }
 
-    // No row waits any more.
-    fn settle_all(&mut self)
-        ensures own { self.new.keeper.table ≡ self.old.keeper.table }
-        ensures comes { Comes self.old self.new (λ s. (with_none_waiting s.0, s.1)) }
-    {
-        self.pages.settle_all();
-    }
-
     // Where so many visits end.
     fn ahead(&self, visits: u64) -> Ahead
         requires { 1 ≤ visits }
         ensures { EndsAt (pages_ahead self.now.state) visits result }
     {
         self.pages.ahead(self.cursor, visits)
-    }
-
-    // How many of the pages ahead come before one, and the last of them.
-    fn between(&self, page: GuestPage) -> (u64, Option<GuestPage>)
-        ensures many { result.0 ≡ length (ahead_before page self.now.state) }
-        ensures last { result.1 ≡ last_of self.now.state.cursor (ahead_before page self.now.state) }
-    {
-        self.pages.between(self.cursor, page)
     }
 
     // The first page behind one, up to the last one, that a visit may change, or a page before it.
@@ -195,7 +178,7 @@ impl State {
         ensures comes { Comes self.old self.new (λ s. (pass_begun s.0, s.1)) }
     {
         if self.cursor().is_none() {
-            self.settle_all();
+            self.pages.settle_all();
         }
     }
 
@@ -283,46 +266,12 @@ impl State {
         ensures comes { Comes self.old self.new
             (λ s. (record s.0 { cursor = last_of s.0.cursor (ahead_before page s.0) }, s.1)) }
     {
-        let (made, last) = self.between(page);
+        let (made, last) = self.pages.between(self.cursor, page);
         self.set_cursor(last);
         made
     }
 
-    // Makes visits, of pages that there are. The one fault is `Memory`: then no more is done than what the reply tells.
-    fn visits(&mut self, table: &FrameTable, due: &mut Due, count: u64) -> Reply
-        requires own { self.old.keeper.table ≡ table.now }
-        requires some { 1 ≤ length (mergeable_pages self.old.state.rows) }
-        requires due { due.old.known ≡ true → AreDue self.old.state due.old.pages }
-        ensures own { self.new.keeper.table ≡ self.old.keeper.table }
-        ensures due { due.new.known ≡ true → AreDue self.new.state due.new.pages }
-        ensures scanned { HasScanned self.old self.new count result }
-    {
-        let mut done = 0;
-        while done < count {
-            match self.go_on(table, due, count - done) {
-                Ok(visits) => done += visits,
-                Err(made) => {
-                    return Reply::Scanned {
-                        visits: done + made,
-                        stop: Some(Fault::Memory),
-                    };
-                }
-            }
-        }
-        Reply::Scanned {
-            visits: count,
-            stop: None,
-        }
-    }
-
-    // How many pages a scan visits.
-    fn count_mergeable(&self) -> usize
-        ensures { result ≡ length (mergeable_pages self.now.state.rows) }
-    {
-        self.pages.mergeable()
-    }
-
-    /// Makes visits.
+    /// Makes visits. Where memory is refused, no more is done than what the reply tells.
     #[inline(never)]
     pub fn scan(&mut self, table: &FrameTable, due: &mut Due, count: u64) -> Result<Reply, Fault>
         requires own { self.old.keeper.table ≡ table.now }
@@ -333,13 +282,28 @@ impl State {
         if self.pages.knobs().run != 1 {
             return Err(Fault::NotRunning);
         }
-        if self.count_mergeable() == 0 {
+        if self.pages.mergeable() == 0 {
             return Ok(Reply::Scanned {
                 visits: 0,
                 stop: None,
             });
         }
         self.pages.list_restless();
-        Ok(self.visits(table, due, count))
+        let mut done = 0;
+        while done < count {
+            match self.go_on(table, due, count - done) {
+                Ok(visits) => done += visits,
+                Err(made) => {
+                    return Ok(Reply::Scanned {
+                        visits: done + made,
+                        stop: Some(Fault::Memory),
+                    });
+                }
+            }
+        }
+        Ok(Reply::Scanned {
+            visits: count,
+            stop: None,
+        })
     }
 }

@@ -1,7 +1,7 @@
 //! The commands on all pages of a guest, or on all there are: merged pages, and those mapped from the zero page, get
 //! frames of their own again, and pages come back into the scan. Each goes along the pages in order.
 
-ghost use Rattle.std.specs.Prelude.{◌≡◌, ◌<◌, All, IfErr, IfOk, is_some, true};
+ghost use Rattle.std.specs.Prelude.{◌≡◌, ◌<◌, All, IfErr, IfOk, true};
 ghost use Rattle.ksm_base.specs.Refusals.{is_of};
 ghost use Rattle.ksm_base.specs.Rows.{change_rows};
 ghost use Rattle.ksm_book.specs.Carried.{IsCarried};
@@ -17,37 +17,6 @@ use crate::state::State;
 use frame_table::FrameTable;
 use ksm_base::{Command, Fault, Knobs, Reply};
 use ksm_pages::{Held, Pages};
-
-// A merged or Zero page of a guest gets a frame of its own on its home, is not unchanged, and leaves the scan. Says that
-// one frame was given. Refused where no frame is free, it changes nothing.
-fn leave_scan(
-    pages: &mut Pages,
-    keeper: &mut FrameKeeper,
-    table: &FrameTable,
-    guest: Option<u16>,
-    held: Held,
-) -> Result<u64, Fault>
-    requires own { keeper.old.table ≡ table.now }
-    requires laid { IsLaid (seen pages.old) keeper.old }
-    requires guest { is_some guest ≡ true }
-    requires held { IsHeld (seen pages.old) held.spot.page held }
-    requires shared { held.shared ≡ true }
-    requires home { held.home < pages.old.shape.nodes }
-    ensures left { IfOk result (λ count.
-        HasLeft (seen pages.old) (seen pages.new) keeper.old keeper.new guest held.spot.page count) }
-    ensures turned { IfErr result (λ fault.
-        MayNotLeave (seen pages.old) (seen pages.new) keeper.old keeper.new held.spot.page fault) }
-{
-    pages.lie_in_order();
-    let bytes = pages.bytes(held.spot);
-    let shape = pages.shape();
-    let Some(frame) = take_frame(keeper, table, shape, held.home, &bytes) else {
-        return Err(Fault::NoFrame(held.home));
-    };
-    let left = pages.let_go_on(held.spot, frame);
-    release_if(keeper, table, left);
-    Ok(1)
-}
 
 // A merged or Zero page gets a frame of its own on its home, and is not unchanged. A guest's page leaves the scan. Says
 // how many frames were given. Refused where no frame is free, it changes nothing.
@@ -74,10 +43,16 @@ fn leave(
         }
         return Ok(0);
     }
-    if guest.is_some() {
-        return leave_scan(pages, keeper, table, guest, held);
-    }
     let bytes = pages.bytes(held.spot);
+    if guest.is_some() {
+        let shape = pages.shape();
+        let Some(frame) = take_frame(keeper, table, shape, held.home, &bytes) else {
+            return Err(Fault::NoFrame(held.home));
+        };
+        let left = pages.let_go_on(held.spot, frame);
+        release_if(keeper, table, left);
+        return Ok(1);
+    }
     if let Err(fault) = resettle(pages, keeper, table, held.spot, held.home, &bytes) {
         return Err(fault);
     }
@@ -113,7 +88,7 @@ fn unshare_each(
 }
 
 // All pages of a guest become mergeable.
-#[tactic(auto, using(crate::proofs::Unmerged::stay_in_scan, crate::proofs::Along::further, crate::proofs::Along::not_far))]
+#[tactic(auto, using(crate::proofs::Unmerged::stay_in_scan, crate::proofs::Along::along_none, crate::proofs::Along::further, crate::proofs::Along::not_far))]
 fn make_mergeable(pages: &mut Pages, guest: u16)
     ensures { seen pages.new ≡ record (seen pages.old) {
       rows = change_rows (is_of guest) (λ r. record r { mergeable = true }) pages.old.rows;

@@ -1,6 +1,9 @@
-use Rattle.ksm_book.proofs.Names.{arith, ◌∙◌}
-use Rattle.ksm_book.proofs.Unmerged.{unshares_own, unsharing_end, unsharing_home, unsharing_next, unsharing_own, unsharing_stop}
+use Rattle.ksm_book.proofs.Names.{rules, ◌∙◌}
+use Rattle.ksm_book.proofs.Unmerged.{unshares_own, unsharing_begins, unsharing_end, unsharing_home, unsharing_next, unsharing_own, unsharing_stop}
 use Rattle.ksm_book.proofs.unmerging.unshare_each.Goals as goal
+
+pub pages-init : goal.pages-init
+pages-init c = unsharing_begins _ _ _ c.requires.laid
 
 pub leave-requires-clause-own : goal.leave-requires-clause-own
 leave-requires-clause-own c = unsharing_own c.pages.invariant c.lie_in_order.ensures.rise ∙ c.requires.own
@@ -20,7 +23,8 @@ pub returns-in-Err-clause-unshares : goal.returns-in-Err-clause-unshares
 returns-in-Err-clause-unshares c = unsharing_stop c.pages.invariant c.lie_in_order.ensures.rise c.in-Some.ensures.1 c.in-Err.ensures.turned
 
 pub pages-preserved : goal.pages-preserved
-pages-preserved c = grind (arith, unsharing_next)
+pages-preserved c =
+    unsharing_next c.pages.invariant c.lie_in_order.ensures.rise c.in-Some.ensures.1 c.in-Ok.ensures.left (search rules, search rules)
 
 pub returns-clause-unshares : goal.returns-clause-unshares
 returns-clause-unshares c = unsharing_end c.pages.invariant c.lie_in_order.ensures.rise c.in_default.ensures

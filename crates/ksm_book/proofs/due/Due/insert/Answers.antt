@@ -1,7 +1,8 @@
-use Rattle.ksm_book.proofs.Names.{ap, arith, is_some, sym, true, ◌∙◌}
+use Rattle.ksm_book.proofs.Names.{ap, arith, is_some, same_page, sym, true, ◌∙◌}
+use Rattle.std.proofs.lemmas.List.Folds.{list_any-append}
 use Rattle.ksm_pages.specs.Held.{pages_of}
 use Rattle.ksm_pages.specs.declared.named.Named.{Named}
-use Rattle.ksm_book.proofs.Dues.{has_either, has_found, inserted_has, inserted_rises, pages_in}
+use Rattle.ksm_book.proofs.Dues.{has_found, inserted_has, inserted_rises, pages_in}
 use Rattle.ksm_book.proofs.due.Due.insert.Goals as goal
 use Rattle.ksm_book.proofs.due.Due.insert.Goals.{After-insert}
 
@@ -16,7 +17,7 @@ pub returns-in-Some-clause-added : goal.returns-in-Some-clause-added
 returns-in-Some-clause-added c = λ x.
     let order = c.self.inside.order in
     let there = has_found c.args.spot.page order ∙ ap is_some (sym c.find.ensures ∙ c.in-Some.is) in
-    let either = has_either c.args.spot.page (pages_in order) (pages_of c.self.inside.added.items) in
+    let either = list_any-append (λ q. same_page q c.args.spot.page) (pages_in order) (pages_of c.self.inside.added.items) in
     grind (arith, c.self.view_is)
 
 pub returns-in-None-clause-added : goal.returns-in-None-clause-added

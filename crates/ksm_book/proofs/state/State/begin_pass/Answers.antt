@@ -1,6 +1,15 @@
-use Rattle.ksm_book.proofs.Names.{arith, none_of}
+use Rattle.ksm_book.proofs.Names.{arith, get_or, IsSound, none_of, refl, sound_none_waiting, subst, sym}
+use Rattle.ksm_book.proofs.Laying.{laid_mapped}
+use Rattle.ksm_book.proofs.Sharing.{settled_lodges}
 use Rattle.ksm_book.proofs.state.State.begin_pass.Goals as goal
+
+pub invariant_of-self : goal.invariant_of-self
+invariant_of-self c = (
+  subst IsSound (sym (grind (arith, c.settle_all.ensures))) (sound_none_waiting _ c.self.invariant.0),
+  rw c.settle_all.ensures
+      (laid_mapped c.self.invariant.1 _ (λ r. refl) (λ i d lt. settled_lodges (get_or c.self.inside.pages.rows i d))),
+)
 
 pub returns-then-is_none-clause-comes : goal.returns-then-is_none-clause-comes
 returns-then-is_none-clause-comes c =
-    λ from s before. grind (arith, before.0, none_of, c.settle_all.ensures.comes from s before)
+    λ from s before. grind (arith, before, none_of, c.self.view_is, c.settle_all.ensures)

@@ -1,17 +1,44 @@
 use Rattle.ksm_book.proofs.Names.{AreDue, subst}
-use Rattle.ksm_book.proofs.DuePasses.{part_stops, whole_comes, whole_still}
+use Rattle.ksm_book.proofs.DuePasses.{part_stops, rests_behind, rests_between, visits_due, whole_comes, whole_still}
+use Rattle.ksm_book.proofs.Reached.{comes_as}
+use Rattle.ksm_book.proofs.Walked.{begins_walk, less_room, walk_ends, walks_on}
+use Rattle.std.proofs.Common.{refl, rules, sym, ◌∙◌}
 use Rattle.ksm_book.proofs.state.State.pass_over_due.Goals as goal
 
-pub returns-in-Ok-clause-visited : goal.returns-in-Ok-clause-visited
-returns-in-Ok-clause-visited c =
-    let v = c.args.self.now in
-    let sound = c.lies_lawfully.ensures.sound in
-    record {
-      comes = whole_comes v sound c.requires.start _ c.in-Ok.ensures.visited;
-      still = λ quiet. whole_still v sound c.requires.start
-          (subst (AreDue v.state) (c.is_empty-quiet.ensures quiet) c.requires.due);
-    }
+pub loop-spot-init : goal.loop-spot-init
+loop-spot-init c = (
+  begins_walk _ c.args.self.now _ (sym c.requires.start) _ c.lies_lawfully.ensures.sound,
+  c.requires.due,
+  c.requires.ready,
+  refl,
+)
+
+pub loop-spot-smaller : goal.loop-spot-smaller
+loop-spot-smaller c = less_room _ _ (search rules, search rules) c.in-Some.ensures.1
+
+pub loop-spot-preserved : goal.loop-spot-preserved
+loop-spot-preserved c =
+    let walking = c.loop-spot.invariant.0 in
+    let first = c.in-Some.ensures in (
+      walks_on visits_due walking _ first.1 (rests_between _ walking c.loop-spot.invariant.1 _ first) refl
+          c.in-Ok.ensures.comes,
+      c.in-Ok.ensures.due,
+      c.visit_due.ensures.ready,
+      c.visit_due.ensures.own ∙ c.loop-spot.invariant.3,
+    )
 
 pub returns-in-Err-clause-stopped : goal.returns-in-Err-clause-stopped
 returns-in-Err-clause-stopped c =
-    part_stops c.args.self.now c.lies_lawfully.ensures.sound c.requires.start c.in-Err.ensures.stopped c.hide_from.ensures.comes
+    part_stops c.visit_due.new.self c.hide_from.new.self _ c.loop-spot.invariant.0 c.loop-spot.invariant.1 _ c.in-Some.ensures c.requires.start
+    c.in-Err.ensures.refused c.in-Err.ensures.refused_row c.hide_from.ensures.comes
+
+pub returns-clause-visited : goal.returns-clause-visited
+returns-clause-visited c =
+    let v = c.args.self.now in
+    let walking = c.loop-spot.invariant.0 in
+    let rest = rests_behind _ walking c.loop-spot.invariant.1 c.in_default.ensures in
+    record {
+      comes = whole_comes v walking.began c.requires.start _ (comes_as c.loop-spot.self (walk_ends visits_due walking rest) walking.comes);
+      still = λ quiet. whole_still v walking.began c.requires.start
+          (subst (AreDue v.state) (c.is_empty-quiet.ensures quiet) c.requires.due);
+    }

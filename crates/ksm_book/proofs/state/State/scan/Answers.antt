@@ -1,22 +1,55 @@
-use Rattle.ksm_book.proofs.Names.{arith, false, list_any, list_any_none, None, none_counted, refl, ◌≡◌}
-use Rattle.ksm_book.proofs.ScanCarried.{scanned, some_pages, visits_carried}
+use Rattle.ksm_book.proofs.Names.{AreDue, arith, BookValue, Comes, doing, false, list_any, list_any_none, None, none_counted, refl, Some, subst, sym, true, ◌+◌, ◌∙◌, ◌≡◌, ◌≤◌}
+use Rattle.ksm_base.specs.declared.fault.Fault.TheVariants.{Memory}
+use Rattle.ksm_book.specs.contracts.state.State.{the_view}
+use Rattle.ksm_book.proofs.Folded.{beside_on, visits_mergeable}
+use Rattle.ksm_book.proofs.Reached.{comes_to}
+use Rattle.ksm_book.proofs.ScanCarried.{any_some, scanned, some_pages}
 use Rattle.ksm_book.proofs.state.State.scan.Goals as goal
-use Rattle.ksm_book.proofs.state.State.scan.Goals.{After-count_mergeable}
+use Rattle.ksm_book.proofs.state.State.scan.Goals.{After-list_restless, After-mergeable}
 
-running : (c : After-count_mergeable) → c.args.self.now.state.knobs.run ≡ 1
+running : (c : After-mergeable) → c.args.self.now.state.knobs.run ≡ 1
 running c = rw (← c.self.view_is, ← c.knobs.ensures) c.if-knobs-ne1.false
 
-pub returns-then-count_mergeable-eq0-clause-carried : goal.returns-then-count_mergeable-eq0-clause-carried
-returns-then-count_mergeable-eq0-clause-carried c =
+pub returns-then-mergeable-eq0-clause-carried : goal.returns-then-mergeable-eq0-clause-carried
+returns-then-mergeable-eq0-clause-carried c =
     let v = c.args.self.now in
-    let none : list_any (λ r. r.mergeable) v.state.rows ≡ false = grind (arith, list_any_none, none_counted, some_pages) in
-    scanned v v _ (running ((goal.at.returns-then-count_mergeable-eq0-clause-carried c).After-count_mergeable)) refl 0 None
+    let none : list_any (λ r. r.mergeable) v.state.rows ≡ false = grind (arith, c.self.view_is, list_any_none, none_counted) in
+    scanned v v _ (running ((goal.at.returns-then-mergeable-eq0-clause-carried c).After-mergeable)) refl 0 None
     (grind arith) (λ from s before. before)
+
+-- there are pages to visit
+some : (c : After-list_restless) → list_any (λ r. r.mergeable) c.args.self.now.state.rows ≡ true
+some c = any_some c.args.self.now.state.rows (grind (arith, c.self.view_is, some_pages))
+
+pub loop-done-init : goal.loop-done-init
+loop-done-init c =
+    let same : the_view (record c.self.inside { pages = c.list_restless.new.self }) ≡ c.args.self.now = rw c.list_restless.ensures c.self.view_is in
+    subst (λ (v : BookValue). (0 ≤ c.args.count) × Comes c.args.self.now v (λ s. s) × (v.keeper.table ≡ c.args.self.now.keeper.table)
+    × (c.args.due.now.known ≡ true → AreDue v.state c.args.due.now.pages)) (sym same) (omega arith, λ from s before. before, refl, c.requires.due)
+
+pub go_on-requires-clause-some : goal.go_on-requires-clause-some
+go_on-requires-clause-some c = grind (arith, comes_to, visits_mergeable, c.self.view_is, some_pages)
+
+pub loop-done-preserved : goal.loop-done-preserved
+loop-done-preserved c = (
+  omega (arith, c.in-Ok.ensures.made.fit, c.loop-done.invariant.0),
+  λ from s before. rw (beside_on doing c.loop-done.done c.in-Ok.visits (c.loop-done.done + c.in-Ok.visits) s refl)
+      (c.in-Ok.ensures.made.comes from _ (c.loop-done.invariant.1 from s before)),
+  c.go_on.ensures.own ∙ c.loop-done.invariant.2,
+  c.go_on.ensures.due,
+)
+
+pub returns-in-Err-clause-carried : goal.returns-in-Err-clause-carried
+returns-in-Err-clause-carried c =
+    let n = c.loop-done.done in
+    let k = c.in-Err.made in
+    scanned c.args.self.now c.go_on.new.self _ (running ((goal.at.returns-in-Err-clause-carried c).After-mergeable))
+    (c.go_on.ensures.own ∙ c.loop-done.invariant.2) (n + k) (Some Memory)
+    (some ((goal.at.returns-in-Err-clause-carried c).After-list_restless), omega (arith, c.in-Err.ensures.stopped.fewer))
+    (λ from s before. rw (beside_on doing n k (n + k) s refl) (c.in-Err.ensures.stopped.comes from _ (c.loop-done.invariant.1 from s before)))
 
 pub returns-clause-carried : goal.returns-clause-carried
 returns-clause-carried c =
-    let runs = running ((goal.at.returns-clause-carried c).After-count_mergeable) in
-    grind (arith, c.list_restless.ensures, c.self.view_is, visits_carried)
-
-pub visits-requires-clause-due : goal.visits-requires-clause-due
-visits-requires-clause-due c = λ known. grind (arith, c.list_restless.ensures, c.self.view_is, c.requires.due known)
+    let all : c.loop-done.done ≡ c.args.count = omega (arith, c.loop-done.invariant.0) in
+    scanned c.args.self.now c.loop-done.self _ (running ((goal.at.returns-clause-carried c).After-mergeable)) c.loop-done.invariant.2 _ None
+    (rw (some ((goal.at.returns-clause-carried c).After-list_restless)) refl) (rw (← all) c.loop-done.invariant.1)

@@ -1,5 +1,5 @@
 use Rattle.ksm_book.proofs.Names.{arith, BookValue, change_row, IsAlone, IsSound, PagesView, seen, settled, settled_calmer, sound_changed, state_of, subst, sym, ◌≡◌}
-use Rattle.ksm_book.proofs.Hiding.{alone_settled, stop_comes}
+use Rattle.ksm_book.proofs.Hiding.{alone_settled}
 use Rattle.ksm_book.proofs.Laying.{laid_mapped}
 use Rattle.ksm_book.proofs.state.State.stop_waiting.Goals as goal
 
@@ -19,6 +19,4 @@ invariant_of-self c = (
 )
 
 pub returns-clause-comes : goal.returns-clause-comes
-returns-clause-comes c =
-    let s = c.self.inside in
-    rw (← c.self.view_is) (stop_comes _ _ _ _ _ _ (goes c))
+returns-clause-comes c = λ from s before. grind (arith, before, goes c, c.self.view_is)

@@ -41,8 +41,7 @@ pub returns-in-Gone-clause-due : goal.returns-in-Gone-clause-due
 returns-in-Gone-clause-due c = λ _.
     let s = c.self.inside in
     subst (λ (v : BookValue). IsDueNoMore c.args.spot.page v.state (state_of (seen c.glance.new.self) s.cursor s.passes)) c.self.view_is
-    (gone_due (seen s.pages) (seen c.glance.new.self) s.cursor s.passes c.args.spot.page c.self.invariant.0.rows_rise
-    (c.glance.ensures.gone c.in-Gone.is))
+    (gone_due (seen s.pages) (seen c.glance.new.self) s.cursor s.passes _ c.self.invariant.0.rows_rise (c.glance.ensures.gone c.in-Gone.is))
 
 pub returns-in-Waits-clause-due : goal.returns-in-Waits-clause-due
 returns-in-Waits-clause-due c = λ _. waits_due (met (goal.at.returns-in-Waits-clause-due c).In-Waits)

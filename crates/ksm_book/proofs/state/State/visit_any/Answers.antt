@@ -53,7 +53,7 @@ returns-in-Gone-clause-due c = λ _.
     let s = c.self.inside in
     let found = subst (Finds (seen s.pages) (seen c.visit.new.self) c.args.spot.page) c.in-Gone.is c.in_ok-found.ensures.found in
     subst (λ (v : BookValue). IsDueNoMore c.args.spot.page v.state (state_of (seen c.visit.new.self) s.cursor s.passes)) c.self.view_is
-    (gone_due (seen s.pages) (seen c.visit.new.self) s.cursor s.passes c.args.spot.page c.self.invariant.0.rows_rise found)
+    (gone_due (seen s.pages) (seen c.visit.new.self) s.cursor s.passes _ c.self.invariant.0.rows_rise found)
 
 pub returns-in-Waits-clause-due : goal.returns-in-Waits-clause-due
 returns-in-Waits-clause-due c = λ _.

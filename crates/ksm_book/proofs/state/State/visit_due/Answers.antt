@@ -3,7 +3,7 @@ use Rattle.ksm_book.proofs.Names.{seen, state_of, StaysBefore, subst, sym, true,
 use Rattle.ksm_pages.specs.declared.pages.Find.TheVariants as finds
 use Rattle.ksm_tree.proofs.Numbers.{on_err}
 use Rattle.ksm_book.specs.contracts.state.State.{the_view}
-use Rattle.ksm_book.proofs.DueFound.{changed_keeps, is_still, less_due, partner_takes, reached_as, shared_due, shares, Without}
+use Rattle.ksm_book.proofs.DueFound.{changed_keeps, is_still, less_due, partner_takes, shared_due, shares, Without}
 use Rattle.ksm_book.proofs.Singles.{book}
 use Rattle.ksm_book.proofs.DueFound.{gone_due, waits_due}
 use Rattle.ksm_book.proofs.PageVisits.{changed_leads, finds_it, waits_leads}
@@ -29,7 +29,9 @@ lies_still c is = grind (arith, same c is, c.self.invariant)
 -- and what was reached with it is reached still
 before_it : (c : In_ok-visit) → is_still c.in_ok-visit.field-0 ≡ true → (from : BookValue) (s : BookState × Deed)
     → Reached from c.args.self.now s → Reached from (the_view (record c.self.inside { pages = c.visit.new.self })) s
-before_it c is = reached_as _ _ (grind (arith, same c is, c.self.view_is))
+before_it c is from s before =
+    let alike : view_of (the_view (record c.self.inside { pages = c.visit.new.self })) ≡ view_of c.args.self.now = grind (arith, same c is, c.self.view_is) in
+    grind arith
 
 -- where the page shares a frame from now on, its visit was made as one of a page that is due, which it is no longer
 shared : (c : In_ok-visit) → shares c.args.spot.page c.in_ok-visit.field-0 ≡ true → (w : BookValue)
@@ -91,8 +93,8 @@ returns-in-Gone-clause-due c =
     (elim c.in-Gone.is [
       | inl gone ↦
           subst (λ (v : BookValue). IsDueNoMore c.args.spot.page v.state (state_of (seen c.visit.new.self) s.cursor s.passes)) c.self.view_is
-          (gone_due (seen s.pages) (seen c.visit.new.self) s.cursor s.passes c.args.spot.page
-          c.self.invariant.0.rows_rise (grind (arith, gone, at.in_ok-visit.ensures.found)))
+          (gone_due (seen s.pages) (seen c.visit.new.self) s.cursor s.passes _ c.self.invariant.0.rows_rise
+          (grind (arith, gone, at.in_ok-visit.ensures.found)))
       | inr waits ↦ waits_due (met_by at _ (λ e. cc) waits)
     ]) c.requires.due
 

@@ -1,6 +1,6 @@
-use Rattle.ksm_book.proofs.Names.{and_parts, arith, BookValue, Comes, doing, GuestPage, IsDueNoMore, IsStill, None, Option, page_visited, refl, subst, sym, ◌∙◌}
+use Rattle.ksm_book.proofs.Names.{and_parts, arith, BookValue, GuestPage, IsDueNoMore, IsStill, None, Option, refl, subst, sym, true, ◌∙◌, ◌≡◌}
 use Rattle.std.proofs.Common.{rules}
-use Rattle.ksm_book.specs.Scanned.{FindsUpTo, StaysStill}
+use Rattle.ksm_book.specs.Scanned.{FindsUpTo, is_quiet}
 use Rattle.ksm_book.proofs.PagesAhead.{has_filter}
 use Rattle.ksm_book.proofs.Reached.{comes_as, comes_to}
 use Rattle.ksm_book.proofs.Walked.{before_it, begins_still, begins_walk, due_begins, due_walks, is_ahead, less_room, rests_before, rests_up_to, still_walks, visits_page, walk_ends, walks_on}
@@ -21,14 +21,14 @@ loop-spot-preserved c =
     let page = c.in-Some.spot.page in
     let walking = c.loop-spot.invariant.0 in
     let next = c.in-Some.ensures.next in
-    let kept = c.in-Some.ensures.kept in (
+    let kept = c.in-Some.ensures.kept in
+    let both = λ (quiet : c.and-made.result.quiet ≡ true). and_parts c.loop-spot.made.quiet (is_quiet c.in-Ok.visited) (sym c.and-made.ensures ∙ quiet) in (
       walks_on visits_page walking page next.1.0 (rests_before _ _ _ next.1) next.0
-          (subst (λ (v : BookValue). Comes v c.visit.new.self (λ s. page_visited doing s page)) kept c.in-Ok.ensures.comes),
-      λ quiet. still_walks visits_page walking page next.1.0 (rests_before _ _ _ next.1) (c.loop-spot.invariant.1 (and_parts _ _ (sym c.and-made.ensures ∙ quiet)).0)
-          (subst (λ (v : BookValue). StaysStill v (λ s. page_visited doing s page)) kept (c.in-Ok.ensures.quiet (and_parts _ _ (sym c.and-made.ensures ∙ quiet)).1)),
+          (rw kept at c.in-Ok.ensures.comes),
+      λ quiet. still_walks visits_page walking page next.1.0 (rests_before _ _ _ next.1) (c.loop-spot.invariant.1 (both quiet).0)
+          (rw kept at (c.in-Ok.ensures.quiet (both quiet).1)),
       λ quiet none. due_walks c.loop-spot.self.state _ _ _ c.visit.new.self.state next.1
-          (subst (λ (v : BookValue). IsDueNoMore page v.state c.visit.new.self.state) kept (c.in-Ok.ensures.due (and_parts _ _ (sym c.and-made.ensures ∙ quiet)).1))
-          (c.loop-spot.invariant.2 (and_parts _ _ (sym c.and-made.ensures ∙ quiet)).0 none),
+          (subst (λ (v : BookValue). IsDueNoMore page v.state c.visit.new.self.state) kept (c.in-Ok.ensures.due (both quiet).1)) (c.loop-spot.invariant.2 (both quiet).0 none),
       grind (arith, kept, c.visit.ensures.own, c.loop-spot.invariant.3),
     )
 
@@ -37,7 +37,7 @@ returns-in-Err-clause-stopped c =
     let page = c.in-Some.spot.page in
     let walking = c.loop-spot.invariant.0 in
     let next = c.in-Some.ensures.next in
-    let stays = subst (λ (v : BookValue). Comes v c.visit.new.self (λ s. s)) c.in-Some.ensures.kept c.in-Err.ensures.refused in
+    let stays = rw c.in-Some.ensures.kept at c.in-Err.ensures.refused in
     record {
       within = next.0;
       ahead = is_ahead visits_page walking page next.1.0 (rests_before _ _ _ next.1)

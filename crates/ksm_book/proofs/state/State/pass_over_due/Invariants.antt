@@ -1,6 +1,6 @@
 use Rattle.ksm_book.proofs.Names.{AreDue, doing, due_visited, None, true, ◌≡◌}
 use Rattle.ksm_book.proofs.Walked.{IsWalking, room_behind}
-use Rattle.ksm_book.proofs.state.State.visit_all_due.Given as goal
+use Rattle.ksm_book.proofs.state.State.pass_over_due.Given as goal
 
 abbrev pub invariant-loop-spot : goal.invariant-loop-spot
 invariant-loop-spot l =

@@ -1,5 +1,5 @@
 use Rattle.ksm_book.proofs.Names.{AreDue, Comes, doing, true, visits_beside, ◌-◌, ◌≡◌, ◌≤◌}
-use Rattle.ksm_book.proofs.state.State.visits.Given as goal
+use Rattle.ksm_book.proofs.state.State.scan.Given as goal
 
 abbrev pub invariant-loop-done : goal.invariant-loop-done
 invariant-loop-done l =
