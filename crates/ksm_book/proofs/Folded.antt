@@ -190,24 +190,18 @@ module _ {X : Type 0} (step : BookState → X → Row → X) where
           let next = some_next t.0 (ahead_then n ∙ drop_more ahead n page lt ∙ ap (λ p. p ∷ drop (n + 1) ahead) here) in
           let visit = subst (λ p. page_visited step t p ≡ (row_visited t.0 next.0, step t.0 t.1 next.0)) next.2
           (next_is_page t next.0 ((order_then n).order ((begun_goes s.0).order rise)) next.1) in
-          let done = after (take (suc n) ahead) in
-          let passes = (pages_stay (take n ahead) (begun s)).1 ∙ sym (pages_stay (take (suc n) ahead) (begun s)).1 in
-          let led = page_alike t.0.cursor t.0.passes (after (take n ahead)) page
-          ∙ ap (λ (z : BookState × X). (elsewhere t.0.cursor t.0.passes z.0, z.1))
-          (sym (ap after (take-suc ahead n page lt ∙ ap (λ p. take n ahead ++ p ∷ []) here) ∙ visited_more
-          (take n ahead) (begun s) page))
-          ∙ (λ i. (record done.0 { cursor = t.0.cursor; passes = passes i }, done.1)) in
-          (λ i. next_visited step (from i) (next_row (from i).0.cursor (from i).0.rows)) ∙
-          (λ i. next_visited step t (next.1 i))
-          ∙ (λ i. (
-            pass_ended_at_last (record ((sym visit ∙ led) i).0 { cursor = Some (next.2 i) }),
-            ((sym visit ∙ led) i).1,
-          ))
-          ∙ (λ i. (
-            pass_ended_at_last (record done.0
-                { cursor = sym (last_of_take ahead n (visit_begun s.0).cursor at) i }),
-            done.1,
-          ))
+          let more = take-suc ahead n page lt ∙ ap (λ p. take n ahead ++ p ∷ []) here in
+          grind (
+            arith,
+            from,
+            visit,
+            more,
+            page_alike t.0.cursor t.0.passes (after (take n ahead)) page,
+            visited_more (take n ahead) (begun s) page,
+            last_of_take ahead n (visit_begun s.0).cursor at,
+            pages_stay (take n ahead) (begun s),
+            pages_stay (take (suc n) ahead) (begun s),
+          )
 
       -- the visit behind those of the first n pages ahead begins where these have led
       pub begun_folded : (n : ℕ) (page : GuestPage) → slice_get ahead n ≡ Some page

@@ -1,5 +1,5 @@
 -- What was reached of a scan: it begins with no step, and tells the state of the book.
-use Rattle.ksm_book.proofs.Names.{BookState, BookValue, Comes, Deed, GuestPage, idle, KeeperView, Option, PagesValue, Reached, refl, seen, state_of, subst, view_of, ℕ, ◌≡◌}
+use Rattle.ksm_book.proofs.Names.{BookState, BookValue, Comes, Deed, idle, Reached, refl, subst, view_of, ◌≡◌}
 use Rattle.ksm_book.proofs.Made.{made_none}
 
 -- the state of a book, and a deed without a step
@@ -36,7 +36,3 @@ agree v w h {f} {g} comes each = record {
 -- what comes of the one comes of the other then
 pub comes_as : {v : BookValue} (w : BookValue) {f g : BookState × Deed → BookState × Deed} → Agree v f g → Comes v w f → Comes v w g
 comes_as w agree comes from s before = subst (Reached from w) (agree.same from s before) (comes from s before)
-
--- what proofs tell the book by, of its pages, the keeper, the cursor and the passes
-abbrev pub value : PagesValue → KeeperView → Option GuestPage → ℕ → BookValue
-value p k cursor passes = record { state = state_of (seen p) cursor passes; lodgings = p.lodgings; keeper = k }

@@ -1,6 +1,6 @@
 -- What the parts of a scan come to: the end of a pass, listed pages in the stead of those ahead, visits up to a page, and whole passes.
 use Rattle.ksm_book.proofs.Names.{Ahead, ap, arith, At, begun, BookState, BookValue, Comes, comes_before, Deed, drop_more, End, EndsAt, filter, get_or_from_slice_get, GuestPage, has_item}
-use Rattle.ksm_book.proofs.Names.{InPageOrder, is_none, is_nowhere, IsBeside, IsStill, last_of, last_visited, length, length-take-le, List, mergeable_pages, min, next_row, None, Option, option_map}
+use Rattle.ksm_book.proofs.Names.{InPageOrder, is_none, is_nowhere, IsBeside, IsStill, last_of, last_visited, length, length-take-le, List, mergeable_pages, min, next_row, None}
 use Rattle.ksm_book.proofs.Names.{pages_ahead, pass_begun, pass_ended, pass_ended_at_last, Reached, restless_at, Row, slice_get, slice_get-get_or, slice_get_within, Some, suc, suc-mul, sym, take}
 use Rattle.ksm_book.proofs.Names.{true, true≢false, up_to, visit_begun, visits_beside, with_none_waiting, zero, ℕ, [], ◌*◌, ◌+◌, ◌-◌, ◌<◌, ◌^◌, ◌∙◌, ◌∷◌, ◌≡◌, ◌≤◌}
 use Rattle.ksm_book.proofs.PagesAhead.{place_of, place_splits}
@@ -16,15 +16,12 @@ use Rattle.ksm_book.proofs.Folded.{stood, visits_folded}
 pub nowhere_is : (b : BookState) (most : ℕ) (ahead : Ahead) → EndsAt (pages_ahead b) most ahead
     → is_nowhere ahead ≡ is_none (next_row b.cursor b.rows)
 nowhere_is b most ahead ends =
-    first _ ahead ends ∙ ap is_none (sym (next_first b.cursor b.rows)) ∙ mapped (next_row b.cursor b.rows)
+    first _ ahead ends ∙ ap is_none (sym (next_first b.cursor b.rows)) ∙ (grind arith)
   where
     first : (pages : List GuestPage) (ahead : Ahead) → EndsAt pages most ahead
         → is_nowhere ahead ≡ is_none (slice_get pages 0)
     first [] ahead ends = grind arith
     first (page ∷ pages) ahead ends = grind arith
-
-    mapped : (o : Option Row) → is_none (option_map (λ r. r.page) o) ≡ is_none o
-    mapped o = grind arith
 
 settled_ahead : (b : BookState) → pages_ahead (with_none_waiting b) ≡ pages_ahead b
 settled_ahead b = grind (arith, (settled_goes b.rows).mergeable)

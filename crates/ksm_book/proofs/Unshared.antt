@@ -13,10 +13,7 @@ IsTold p guest told = MatchOption told (find (is_next (Some guest) None) p.rows 
 
 -- a guest has a row exactly where a first row of the guest is told
 has_told : (p : PagesView) (guest : ℕ) (o : Option Held) → IsTold p guest o → list_any (is_of guest) p.rows ≡ is_some o
-has_told p guest o told = any_found (is_of guest) p.rows ∙ (grind arith) ∙ by o told
-  where
-    by : (o : Option Held) → IsTold p guest o → is_some (find (is_next (Some guest) None) p.rows) ≡ is_some o
-    by o none = grind arith
+has_told p guest o told = any_found (is_of guest) p.rows ∙ (grind (arith, told))
 
 -- it was asked for the first row of a guest
 module _ (p : PagesView) {k : KeeperView} {cursor : Option GuestPage} {passes guest : ℕ} (o : Option Held) (told : IsTold p guest o) where

@@ -1,4 +1,4 @@
-use Rattle.ksm_book.proofs.Names.{arith, get_or, IsSound, none_of, refl, sound_none_waiting, subst, sym}
+use Rattle.ksm_book.proofs.Names.{arith, get_or, IsSound, refl, sound_none_waiting, subst, sym}
 use Rattle.ksm_book.proofs.Laying.{laid_mapped}
 use Rattle.ksm_book.proofs.Sharing.{settled_lodges}
 use Rattle.ksm_book.proofs.state.State.begin_pass.Goals as goal
@@ -9,7 +9,3 @@ invariant_of-self c = (
   rw c.settle_all.ensures
       (laid_mapped c.self.invariant.1 _ (λ r. refl) (λ i d lt. settled_lodges (get_or c.self.inside.pages.rows i d))),
 )
-
-pub returns-then-is_none-clause-comes : goal.returns-then-is_none-clause-comes
-returns-then-is_none-clause-comes c =
-    λ from s before. grind (arith, before, none_of, c.self.view_is, c.settle_all.ensures)
