@@ -213,7 +213,7 @@ module _ {X : Type 0} (step : BookState → X → Row → X) where
           let made = one_more n _ there (begun_folded n _ there) in
           let cut = ahead_then (suc n) ∙ drop_more ahead (suc n) page lt in
           let last = last_of_take ahead n (visit_begun s.0).cursor there in
-          ap begun made ∙ (λ i. (begun_goes_on (stood (suc n)).0 _ _ _ last cut i, (stood (suc n)).1))
+          grind (arith, made, begun_goes_on (stood (suc n)).0 _ _ _ last cut)
 
       -- as many visits as lead up to a page ahead are those of the pages up to it; the pass ends if it is the last
       pub visits_folded : (n : ℕ) (page : GuestPage) → slice_get ahead n ≡ Some page

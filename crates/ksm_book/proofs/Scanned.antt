@@ -106,9 +106,7 @@ module _ {X : Type 0} (step : BookState → X → Row → X) (beside : IsBeside 
         (min ((pass_ended passed.0).passes + times) (2 ^ 64 - 1))
     again_times zero =
         let none_more : 0 * length all + length all ≡ length all = omega arith in
-        let once : (pass_ended passed.0).passes ≡ min ((pass_ended passed.0).passes + 0) (2 ^ 64 - 1) = omega arith in
-        rw none_more (sym (pass_made s rise (some_ahead s.0 some)) ∙
-        (λ i. (record passed.0 { cursor = None; passes = once i }, still.beside i)))
+        rw none_more (grind (arith, pass_made s rise (some_ahead s.0 some), still.beside))
     again_times (suc times) =
         beside_on step (times * length all + length all) (length all) (suc times * length all + length all) s
         (omega (arith, suc-mul times (length all)))
@@ -121,12 +119,7 @@ module _ {X : Type 0} (step : BookState → X → Row → X) (beside : IsBeside 
       passed.1,
     )
         ≡ visits_beside step (times * length all + length all) s
-    passes_made = (λ i. (
-      record (pass_ended passed.0)
-          { passes = min ((pass_ended passed.0).passes + times) (2 ^ 64 - 1) },
-      still.beside i,
-    ))
-        ∙ sym (again_times times)
+    passes_made = grind (arith, again_times times, still.beside)
 
   -- visits that stop before a page that was ahead
   module _ (s : BookState × X) (rise : InPageOrder s.0.rows) (page : GuestPage)
