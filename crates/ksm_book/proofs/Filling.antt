@@ -1,7 +1,7 @@
 -- Frames written, read, found and filled, and a dup's place that comes to name another frame.
-use Rattle.ksm_book.proofs.Names.{Add, ap, arith, did, Dying, Finds, frame_at, frames_of, Free, get_or-set_other, get_or-set_same, HasNewFrame, IsLawful, KeeperView, Kind, Ledger, length, length-set}
-use Rattle.ksm_book.proofs.Names.{List, loads, MakesSteps, mounting, None, Note, Open, PAGE_WORDS, Placed, Private, Provides, Publish, puts, Raise, raised, replicate, replicate-append-replicate}
-use Rattle.ksm_book.proofs.Names.{set-set, spent, spent_on, stepped, with_frame, ℕ, ◌+◌, ◌-◌, ◌<◌, ◌∙◌, ◌≡◌}
+use Rattle.ksm_book.proofs.Names.{Add, ap, arith, did, Dying, Finds, frame_at, frames_of, Free, get_or-set_other, get_or-set_same, HasNewFrame, holding, IsLawful, KeeperView, Ledger, length}
+use Rattle.ksm_book.proofs.Names.{length-set, List, loads, MakesSteps, mounting, None, Note, Open, opened, PAGE_WORDS, Placed, Provides, Publish, puts, Raise, raised, replicate}
+use Rattle.ksm_book.proofs.Names.{replicate-append-replicate, set-set, Shape, spent, stepped, with_frame, ℕ, ◌+◌, ◌-◌, ◌<◌, ◌∙◌, ◌≡◌}
 use Rattle.ksm_book.proofs.Keeping.{searched_placed, searched_spends, spent_kept}
 use Rattle.ksm_book.proofs.Made.{made_one, made_part, made_then}
 use Rattle.ksm_book.proofs.Noted.{noted}
@@ -23,49 +23,50 @@ module _ (k : Ledger) (g : ℕ) (lt : g < length k.frames) where
 
 -- ---------------------------------------------------------------- a frame is found
 
-module _ (v w : KeeperView) (node g : ℕ) (less : node < v.table.shape.nodes) (l : IsLawful v None) (finds : Finds v w node g) where
+module _ {v w : KeeperView} {shape : Shape} {node g : ℕ} (same : shape ≡ v.table.shape) (less : node < shape.nodes) (l : IsLawful v None)
+    (finds : Finds v w node g) where
   -- rows and dups lie lawfully once the frame is found
   pub found_placed : Placed v.table.shape l.0 w.ledger l.1 l.2 l.3 None
-  found_placed = searched_placed _ less finds.reaped l.0 l.1 l.2 l.3 None l.4
+  found_placed = searched_placed _ (rw (← same) less) finds.reaped l.0 l.1 l.2 l.3 l.4
 
   -- the frame found is one of the table
   pub found_inside : g < frames_of v.table.shape
-  found_inside = grind arith
+  found_inside = grind (arith, same)
 
   -- the frame found is one that the keeper knows
   pub found_within : g < length w.ledger.frames
   found_within = grind (arith, found_placed, found_inside)
 
   -- once the frame found is raised it is ready to be filled
-  pub raised_ready : (r : KeeperView) (n : ℕ) → r ≡ did w (Raise g) n
+  pub raised_ready : {r : KeeperView} (n : ℕ) → r ≡ did w (Raise g) n
       → (g < length r.ledger.frames) × (frame_at r.ledger g ≡ raised (frame_at w.ledger g)) × (length (frame_at r.ledger g).content ≡ PAGE_WORDS)
-  raised_ready r n is = grind (arith, length-set, at_again, found_placed)
+  raised_ready n is = grind (arith, length-set, at_again, found_placed)
 
 -- ---------------------------------------------------------------- a frame is taken
 
-module _ {v w : KeeperView} {node : ℕ} {bytes : List ℕ} {g : ℕ} (less : node < v.table.shape.nodes) (l : IsLawful v None) (long : length bytes ≡ PAGE_WORDS) (h : Provides v w node bytes g) where
+module _ {v w : KeeperView} {shape : Shape} {node : ℕ} {bytes : List ℕ} {g : ℕ} (same : shape ≡ v.table.shape) (less : node < shape.nodes) (l : IsLawful v None)
+    (long : length bytes ≡ PAGE_WORDS) (h : Provides v w node bytes g) where
   abbrev u : KeeperView
   u = h.searched
 
   abbrev own : Note
-  own = record { kind = Private; base = 1; generation = (frame_at u.ledger g).generation + 1; content = bytes }
+  own = opened (holding (raised (frame_at u.ledger g)) bytes)
 
   -- a frame that was found and filled is in hand with its bytes
   pub took : w.ledger ≡ with_frame u.ledger g own → HasNewFrame v w node bytes g
   took taken_ledger =
       let free = h.finds.lowest.free in
-      let now = ap (λ z. frame_at z g) taken_ledger ∙ at_again u.ledger g (found_within v u _ g less l h.finds) own in
-      let was = ap (λ (x : Kind). spent_on (record { kind = x; base = (frame_at u.ledger g).base; generation = (frame_at u.ledger g).generation; content = (frame_at u.ledger g).content })) free in
-      let more = spent_kept u.ledger g own (omega arith) in
+      let now = ap (λ z. frame_at z g) taken_ledger ∙ at_again u.ledger g (found_within same less l h.finds) own in
+      let more = spent_kept u.ledger g own (grind arith) in
       let before = searched_spends _ h.finds.reaped in
       let end = ap spent taken_ledger in
       record {
         keeps = λ across rows frame dups p.
-            let q = searched_placed _ less h.finds.reaped _ _ _ _ None p in
+            let q = searched_placed _ (rw (← same) less) h.finds.reaped _ _ _ _ p in
             rw taken_ledger
-            (noted q g (found_inside v u _ g less l h.finds) own _ (grind arith) (grind arith));
+            (noted q g (found_inside same less l h.finds) own _ (grind arith) (grind arith));
         spent = omega arith;
-        frame = found_inside v u _ g less l h.finds;
+        frame = found_inside same less l h.finds;
         kind = rw now;
         content = rw now;
         given = rw now (omega arith);

@@ -98,9 +98,8 @@ reaps_spend (f ∷ fs) v w m =
 
 -- the dying frames of a node were reaped: rows and dups lie lawfully
 pub searched_placed : {v w : KeeperView} (node : ℕ) → node < v.table.shape.nodes → MakesSteps v w (map Reap (dying_on v.table.shape v.ledger node))
-    → (across : ℕ) (rows : List Row) (frame : Frames) (dups : List DupRow) (hand : Option ℕ) → Placed v.table.shape across v.ledger rows frame dups hand
-    → Placed v.table.shape across w.ledger rows frame dups hand
-searched_placed {v} {w} node less m across rows frame dups hand p =
+    → {hand : Option ℕ} → Keeps v w hand hand
+searched_placed {v} {w} node less m across rows frame dups p =
     let sh = v.table.shape in
     let size = sh.frames_per_node in
     let end : node * size + size ≤ sh.nodes * size = grind arith in

@@ -45,6 +45,10 @@ module _ {sh : Shape} {across : ℕ} {k : Ledger} {rows : List Row} {frame : Fra
   pub served_at : (page : GuestPage) (row : Row) → row_at page rows ≡ Some row → IsServed sh k dups row (frame page)
   served_at page row found = subst (λ q. IsServed sh k dups row (frame q)) (found_page _ _ row found) (find_all _ (λ r. IsServed sh k dups r (frame r.page)) _ row found p.each_row)
 
+  -- and the frame on which the page lies serves it
+  pub serves_at : {page : GuestPage} {row : Row} {g : ℕ} → row_at page rows ≡ Some row → frame page ≡ Some g → Serves sh k dups row g
+  serves_at found lies = rw lies at (served_at _ _ found)
+
 module _ {p : PagesView} {k : KeeperView} (h : IsLaid p k) where
   abbrev across : ℕ
   across = p.knobs.merge_across_nodes
@@ -83,11 +87,9 @@ module _ {p : PagesView} {k : KeeperView} (h : IsLaid p k) where
       → w.table ≡ k.table → w.ledger ≡ with_frame k.ledger g (holding (frame_at k.ledger g) (c row).bytes) → length (c row).bytes ≡ PAGE_WORDS → shared_state row.state ≡ false → (c row).home ≡ row.home → (c row).state ≡ OwnPage
       → IsLaid (record p { rows = change_row page c p.rows }) w
   laid_written page row c w g rise found keeps lies e ledger wide alone home is =
-      let served = served_at h.placed page row found in
+      let served = serves_at h.placed found lies in
       laid_rows w e (grind (arith, spent_kept))
-      (rw ledger (written_in h.placed _ row rise found g lies (grind arith) c keeps
-      (holding (frame_at k.ledger g) (c row).bytes) (grind arith) refl refl wide
-      (grind arith) (grind arith) (grind arith) home refl alone))
+      (rw ledger (written_in h.placed _ row rise found g lies (grind arith) c keeps wide is home alone))
 
 -- pages lie lawfully with other knobs, where merge_across_nodes stays as it is or there are no dups
 pub retuned : {p : PagesView} {tuned : Knobs} {k : KeeperView} → (tuned.merge_across_nodes ≡ p.knobs.merge_across_nodes) ⊎ (p.dups ≡ []) → IsLaid p k → IsLaid (record p { knobs = tuned }) k

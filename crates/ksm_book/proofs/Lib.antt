@@ -5,10 +5,8 @@ pub mod Made
 pub mod Keeping
 pub mod Filling
 pub mod Laying
-pub mod Withdrawn
 pub mod Sharing
 pub mod Pruning
-pub mod Remounted
 pub mod Remounts
 pub mod FrameKinds
 pub mod Sweeps
@@ -26,8 +24,6 @@ pub mod Unmerged
 pub mod Unshared
 pub mod Standing
 pub mod Promised
-pub mod DupMoves
-pub mod Examples
 pub mod Going
 pub mod PagesAhead
 pub mod Folded

@@ -1,13 +1,18 @@
 -- What each step of a command does to a placement.
 use Rattle.ksm_book.proofs.Names.{Agrees, All, All-filter, All-map, all_with_dup, all_with_row, ap, arith, cases_lt, change_row, Contains, Contains-append_left, Contains-append_right, count_alike}
-use Rattle.ksm_book.proofs.Names.{DupFits, DupRow, false, filter, filter_passes, find_all, find_none, FitsBase, frame_at, Frames, frames_of, GenerationFits, get_or, get_or-set_other, get_or-set_same}
-use Rattle.ksm_book.proofs.Names.{GuestPage, in_hand, inl, InPageOrder, inr, is_frame, IsInLife, IsServed, item_count, kind_for, Ledger, length, length-set, lies_on, List, lt-ltb, map, Merged}
-use Rattle.ksm_book.proofs.Names.{merged_into, nat_lt, None, not, Note, Option, ordered_change, PAGE_WORDS, place_frame, Placed, Private, refl, Row, row_at, RowFits, same_page, same_page_refl, set}
-use Rattle.ksm_book.proofs.Names.{Shape, shared_state, Some, Stable, suc, sym, true, uses, with_dup, with_frame, with_row, without_page, Zero, zero_state, ℕ, ◌+◌, ◌/◌, ◌<◌, ◌∙◌, ◌∷◌, ◌≡◌, ◌≢◌}
+use Rattle.ksm_book.proofs.Names.{DupFits, DupRow, elsewhere, eq-eqb, false, filter, filter_passes, find_all, find_none, FitsBase, frame_at, Frames, frames_of, GenerationFits, get_or}
+use Rattle.ksm_book.proofs.Names.{get_or-set_other, get_or-set_same, GuestPage, holding, in_hand, inl, InPageOrder, inr, is_frame, IsInLife, IsServed, item_count, Ledger, length, length-set, lies_on}
+use Rattle.ksm_book.proofs.Names.{List, lt-ltb, map, Merged, merged_into, named_at, nat_lt, None, not, Note, Option, ordered_change, PAGE_WORDS, place_frame, Placed, Private, refl, Row, row_at}
+use Rattle.ksm_book.proofs.Names.{RowFits, same_page, same_page_refl, set, Shape, shared_state, shown, Some, Stable, suc, sym, true, uses, with_dup, with_frame, with_row, without_page, Zero}
+use Rattle.ksm_book.proofs.Names.{zero_state, ℕ, ◌+◌, ◌/◌, ◌<◌, ◌∙◌, ◌∷◌, ◌≡◌, ◌≢◌}
 use Rattle.ksm_book.proofs.Noted.{at_it, at_other, noted}
 use Rattle.ksm_book.proofs.ByPage.{all_changed_row, at_changed, change_twice, found_page, lies_again, lies_still, row_of_page, uses_changed, uses_come, uses_gone, uses_mapped, uses_some}
+use Rattle.frame_core.specs.Ledger.{named_anew}
+use Rattle.ksm_base.specs.declared.row.PageState.TheVariants.{Private as OwnPage}
 use Rattle.ksm_base.proofs.Changes.{contains_filter}
 use Rattle.std.proofs.lemmas.List.Elements.{Contains-get_or}
+use mathlib.Core.Logic.{dite}
+use native.Mathlib.Decide.{ℕ_discrete}
 
 -- a frame serves a row: the row fits the frame, and agrees with each dup
 abbrev pub Serves : Shape → Ledger → List DupRow → Row → ℕ → Type 0
@@ -94,10 +99,10 @@ module _ {sh : Shape} {across : ℕ} {k : Ledger} {rows : List Row} {frame : Fra
     named = record { frames = k.frames; places = set k.places d.place (Some (record { frame = g; generation = life })) }
 
     module _ (apart : All (λ e. e.place ≢ d.place) dups) where
-      named_anew : uses g frame rows ≡ 0 → (frame_at k g).content ≡ d.bytes
+      named_new : uses g frame rows ≡ 0 → (frame_at k g).content ≡ d.bytes
           → (across ≡ 0 → g / sh.frames_per_node ≡ d.tree) → All (λ r. merged_into d.number r.state ≡ false) rows
           → Placed sh across named rows frame (with_dup d dups) (Some g)
-      named_anew unused bytes tree fresh = record {
+      named_new unused bytes tree fresh = record {
         frames_long = p.frames_long;
         places_long = grind (arith, length-set);
         widths = p.widths;
@@ -177,31 +182,26 @@ module _ {sh : Shape} {across : ℕ} {k : Ledger} {rows : List Row} {frame : Fra
         grind (arith, same_page_refl)
 
     -- rows and dups lie lawfully where a row that is not shared gets new bytes, and its frame holds them
-    pub written_in : (c : Row → Row) → ((r : Row) → (c r).page ≡ r.page) → (fr : Note) → fr.kind ≡ Private → fr.base ≡ (frame_at k g).base → fr.generation ≡ (frame_at k g).generation → length fr.content ≡ PAGE_WORDS
-        → zero_state (c row).state ≡ false → kind_for (c row).state ≡ Private → ((n : ℕ) → merged_into n (c row).state ≡ false) → (c row).home ≡ row.home → (c row).bytes ≡ fr.content → shared_state row.state ≡ false
-        → Placed sh across (with_frame k g fr) (change_row page c rows) frame dups None
-    written_in c keeps fr kind base life wide mapped is alone home bytes was =
-        let here = turned_note fr life in
-        let q = turned fr life wide (grind (arith, one)) (grind arith) (grind arith) in
-        back c keeps q (grind (arith, fits), own_agrees q _ g alone (rw here kind))
-
-    -- the note of the row's frame once it is Stable
-    abbrev stable : Note
-    stable = record { kind = Stable; base = (frame_at k g).base; generation = (frame_at k g).generation; content = (frame_at k g).content }
+    pub written_in : (c : Row → Row) → ((r : Row) → (c r).page ≡ r.page) → length (c row).bytes ≡ PAGE_WORDS → (c row).state ≡ OwnPage → (c row).home ≡ row.home → shared_state row.state ≡ false
+        → Placed sh across (with_frame k g (holding (frame_at k g) (c row).bytes)) (change_row page c rows) frame dups None
+    written_in c keeps wide is home was =
+        let fr = holding (frame_at k g) (c row).bytes in
+        let here = turned_note fr refl in
+        let q = turned fr refl wide (grind (arith, one)) (grind arith) (grind arith) in
+        back c keeps q (grind (arith, fits), own_agrees q _ g (grind arith) (rw here own))
 
     -- rows and dups lie lawfully where a place names the frame of a row, which becomes the first item of a new dup
     pub published : (d : DupRow) → d.place < frames_of sh → (c : Row → Row) → ((r : Row) → (c r).page ≡ r.page) → (c row).state ≡ Merged d.number → (c row).bytes ≡ row.bytes → d.bytes ≡ row.bytes → (across ≡ 0 → row.home ≡ d.tree) → shared_state row.state ≡ false
         → All (λ r. merged_into d.number r.state ≡ false) rows → All (λ e. ¬ (e.number ≡ d.number)) dups → All (λ e. e.place ≢ d.place) dups
-        → Placed sh across (record { frames = set k.frames g stable; places = set k.places d.place (Some (record { frame = g; generation = (frame_at k g).generation })) })
-        (change_row page c rows) frame (with_dup d dups) None
+        → Placed sh across (named_anew k d.place g) (change_row page c rows) frame (with_dup d dups) None
     published d inside c keeps item same bytes home was fresh numbers apart =
         let served = fits.0 in
-        let here = turned_note stable refl in
-        let lived = turned_life stable refl in
-        let q = turned stable refl (p.widths g) one (grind arith) (omega (arith, one)) in
+        let here = turned_note (shown (frame_at k g)) refl in
+        let lived = turned_life (shown (frame_at k g)) refl in
+        let q = turned (shown (frame_at k g)) refl (p.widths g) one (grind arith) (omega (arith, one)) in
         let kind = ap (λ (x : Note). x.kind) here in
         back c keeps
-        (named_anew q kind served.frame _ (lived g) d inside apart unused (grind arith)
+        (named_new q kind served.frame _ (lived g) d inside apart unused (grind arith)
         (λ z. served.node was ∙ home z) (All-map (λ r. merged_into d.number r.state ≡ false) _ rows (grind arith)))
         (first_item q kind served.frame _ (lived g) d inside apart (c row) (λ n x l. grind arith)
         (grind arith) item numbers)
@@ -229,3 +229,44 @@ module _ {sh : Shape} {across : ℕ} {k : Ledger} {rows : List Row} {frame : Fra
       → Placed sh across k rows frame dups (Some g) → Placed sh across k (change_row page c rows) (lies_on page (Some g) frame) dups (frame page)
   joined page row item g c rise found keeps on_it state bytes merged p =
       swapped _ c row rise found keeps p (grind arith)
+
+-- what the keeper knows once a place names nothing
+abbrev pub emptied : Ledger → ℕ → Ledger
+emptied k place = record { frames = k.frames; places = set k.places place None }
+
+-- a place is emptied, and the dup that stood there goes
+module _ {sh : Shape} {across : ℕ} {k : Ledger} {rows : List Row} {frame : Frames} {dups : List DupRow} {hand : Option ℕ} (q : ℕ) (inside : q < frames_of sh)
+    (p : Placed sh across k rows frame dups hand) where
+  named_off : (r : ℕ) → r ≢ q → named_at (emptied k q) r ≡ named_at k r
+  named_off r ne = grind (arith, get_or-set_other)
+
+  -- what holds of each dup is said of those that stay
+  staying : (P Q : DupRow → Type 0) → ((d : DupRow) → d.place ≢ q → P d → Q d) → All P dups → All Q (filter (elsewhere q) dups)
+  staying P Q f h = grind (arith, filter_passes (elsewhere q) dups, eq-eqb, All-filter (elsewhere q) P dups h)
+
+  -- rows and dups lie lawfully where the place names nothing and the dup that stood there is gone
+  pub withdrawn : Placed sh across (emptied k q) rows frame (filter (elsewhere q) dups) hand
+  withdrawn = record {
+    frames_long = p.frames_long;
+    places_long = grind (arith, length-set);
+    widths = p.widths;
+    lives = p.lives;
+    each_row = λ i r0 lt.
+        let r = get_or rows i r0 in
+        served_as sh k _ _ _ r r _ refl
+        (λ f is both. (
+          grind arith,
+          staying (Agrees k r f) (Agrees (emptied k q) r f) (grind (arith, named_off)) both.1,
+        )) (p.each_row i r0 lt);
+    each_dup = staying (DupFits sh across k) (DupFits sh across (emptied k q)) (grind (arith, named_off)) p.each_dup;
+    bases = p.bases;
+    kinds = p.kinds;
+    empty = λ r h. dite (ℕ_discrete r q)
+        (grind (arith, get_or-set_same))
+        (λ ne. named_off r ne ∙ p.empty r
+        (λ n x lt. grind (
+          arith,
+          contains_filter (elsewhere q) dups (get_or dups n x) (Contains-get_or _ n x lt),
+          h,
+        )));
+  }

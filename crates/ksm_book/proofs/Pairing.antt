@@ -8,8 +8,9 @@ use Rattle.ksm_pages.specs.Paged.{paired as are_paired}
 use Rattle.ksm_book.proofs.Made.{made_one, made_then}
 use Rattle.ksm_book.proofs.Sharing.{laid_found, laid_joined, may_found, may_join, may_part, spent_most, vacant_loose}
 use Rattle.ksm_book.proofs.ByPage.{at_changed}
-use Rattle.ksm_book.proofs.RowVisits.{filled_by, Leads, leads, Meets, page_is, restless_own, there_is}
+use Rattle.ksm_book.proofs.RowVisits.{filled_by, Leads, leads, Meets, meets, page_is, restless_own, there_is}
 use Rattle.ksm_book.proofs.Promised.{finds_place}
+use Rattle.ksm_book.proofs.Singles.{book}
 
 -- rows of two pages get a state
 abbrev in_state : PageState → Row → Row
@@ -21,14 +22,18 @@ two_changes p q s [] = refl
 two_changes p q s (r ∷ rs) = grind (arith, two_changes p q s rs)
 
 -- a visited page meets another one as its partner, and is to make a dup with it at the place for a new dup
-module _ (other : GuestPage) {p : PagesView} {k : KeeperView} {cursor : Option GuestPage} {passes : ℕ} {v : BookView} {one page : GuestPage}
-    {place : ℕ} (at : Meets (λ b. MeetsPage b other) p k cursor passes v page) (is : one ≡ other)
+module _ (page : GuestPage) {other : GuestPage} {p : PagesView} {k : KeeperView} {cursor : Option GuestPage} {passes : ℕ} {v : BookView} {one : GuestPage}
+    {place : ℕ} (lawful : IsSound (state_of p cursor passes) × IsLaid p k) (seen : book p k cursor passes ≡ v)
+    (meeting : MatchOption (row_at page v.state.rows) (true ≡ false) (MeetsPage v.state other)) (is : one ≡ other)
     (chosen : place ≡ new_place (place_count p.shape) p.rows p.dups) where
+  abbrev at : Meets (λ b. MeetsPage b other) p k cursor passes v page
+  at = meets (λ b. MeetsPage b other) lawful seen meeting
+
   abbrev s : IsSound (state_of p cursor passes)
-  s = at.sound
+  s = lawful.0
 
   abbrev h : IsLaid p k
-  h = at.laid
+  h = lawful.1
 
   abbrev row : Row
   row = at.row
@@ -163,4 +168,4 @@ module _ (other : GuestPage) {p : PagesView} {k : KeeperView} {cursor : Option G
               leads at q l at.so.0.restless
               (rw q_is
               (laid_joined first_laid first_rise _ row _ row_still item_at f lies refl change (λ r. refl) refl (sym tells.bytes)
-              l steps)) (rw goes (grind (arith, met.1))) (grind (arith, at_page, met.1, alone, q_is))
+              l steps)) (rw goes (grind (arith, met.1))) (grind (arith, at_page, at.found, at.so, met.1, alone, q_is))

@@ -1,11 +1,12 @@
 -- A lawful placement says the sentences that are promised, and so a new dup finds a place.
 use Rattle.ksm_book.proofs.Names.{Agrees, All, All-append, All-contains_itself, All-filter, All-map, AllPairs, AllPairs-cons, AllPairs-filter, ap, arith, BookState, Bool, cases_Bool, Contains}
-use Rattle.ksm_book.proofs.Names.{Contains-append_left, Contains-append_right, Contains-from_any, count_by, count_more, counts_one, dup_frames, DupRow, eq-eqb, eqb, eqb-true, false, filter}
-use Rattle.ksm_book.proofs.Names.{filter_passes, find, find_all, find_passes, FindsPlace, frame_at, frame_number, Frames, frames_of, get_or, get_or-map, GuestPage, has_items, home_of_item, inl, inr}
-use Rattle.ksm_book.proofs.Names.{is_frame, is_in_use, is_stale, IsDistinct-from_apart, IsOutlived, IsSound, item_count, Ledger, length-append, length-le_from_distinct_below, length-map, LieOn, List}
-use Rattle.ksm_book.proofs.Names.{lt-ltb, map, Merged, merged_into, None, none_counted, not, own_frames, pairs_append, pairs_mapped, place_frame, Placed, Private, Row, row_at, RowFits, shared_state}
-use Rattle.ksm_book.proofs.Names.{Some, Stable, StandsOn, subst, suc, true, uses, ℕ, [], ◌++◌, ◌<◌, ◌==◌, ◌∙◌, ◌∷◌, ◌≡◌, ◌≢◌, ◌≤◌}
+use Rattle.ksm_book.proofs.Names.{Contains-append_left, Contains-append_right, Contains-from_any, count_by, count_mapped, count_more, counts_one, dup_frames, DupRow, eq-eqb, eqb, eqb-true, false}
+use Rattle.ksm_book.proofs.Names.{filter, filter_passes, find, find_all, find_passes, FindsPlace, frame_at, frame_number, Frames, frames_of, get_or, get_or-map, GuestPage, has_items, home_of_item}
+use Rattle.ksm_book.proofs.Names.{inl, inr, is_frame, is_in_use, is_stale, IsDistinct-from_apart, IsOutlived, IsSound, item_count, Ledger, length-append, length-le_from_distinct_below, length-map}
+use Rattle.ksm_book.proofs.Names.{LieOn, List, lt-ltb, map, Merged, merged_into, None, none_counted, not, own_frames, pairs_append, pairs_mapped, place_frame, Placed, Private, Row, row_at, RowFits}
+use Rattle.ksm_book.proofs.Names.{shared_state, Some, Stable, StandsOn, subst, suc, true, uses, ℕ, [], ◌++◌, ◌<◌, ◌==◌, ◌∙◌, ◌∷◌, ◌≡◌, ◌≢◌, ◌≤◌}
 use Rattle.ksm_base.proofs.Changes.{contains_filter}
+use Rattle.ksm_base.proofs.Edits.{count_filter_le}
 use Rattle.ksm_book.proofs.Moves.{base_is_items, stale_is_loose}
 use Rattle.ksm_book.proofs.Standing.{empty_from_most, frames_apart, Lives, lives}
 use Rattle.ksm_book.proofs.Sharing.{first_found}
@@ -27,21 +28,12 @@ once_each (x ∷ xs) once =
     (once_each xs (λ k d lt. grind (arith, once (suc k) d, count_more (λ g. g == get_or xs k d) x xs)))
 
 -- a frame is a row's own at most as often as rows lie on it
-own_more : (f : ℕ) (frame : Frames) (r : Row) (rows : List Row)
-    → (shared_state r.state ≡ false → (g : ℕ) × (frame r.page ≡ Some g))
-    → count_by (λ g. g == f) (own_frames rows frame) ≤ uses f frame rows
-    → count_by (λ g. g == f) (own_frames (r ∷ rows) frame) ≤ uses f frame (r ∷ rows)
-own_more f frame r rows has rest =
-    grind (
-      arith,
-      count_more (λ s. is_frame f (frame s.page)) r rows,
-      count_more (λ g. g == f) (frame_number (frame r.page)) (own_frames rows frame),
-    )
-
 own_count : (f : ℕ) (frame : Frames) (rows : List Row) → All (λ r. shared_state r.state ≡ false → (g : ℕ) × (frame r.page ≡ Some g)) rows → count_by (λ g. g == f) (own_frames rows frame) ≤ uses f frame rows
-own_count f frame [] all = omega arith
-own_count f frame (r ∷ rows) all =
-    own_more f frame r rows (all 0 r (omega arith)) (own_count f frame rows (λ i d lt. all (suc i) d (omega arith)))
+own_count f frame rows all =
+    let alone : Row → Bool = λ r. not (shared_state r.state) in
+    let same = count_mapped (λ (r : Row). frame_number (frame r.page)) (λ g. g == f) (λ r. is_frame f (frame r.page)) (filter alone rows)
+    (grind (arith, filter_passes, All-filter alone (λ r. shared_state r.state ≡ false → (g : ℕ) × (frame r.page ≡ Some g)) rows all)) in
+    omega (arith, same, count_filter_le (λ (r : Row). is_frame f (frame r.page)) alone rows)
 
 all_own : (P : ℕ → Type 0) (rows : List Row) (frame : Frames) → All (λ r. shared_state r.state ≡ false → P (frame_number (frame r.page))) rows → All P (own_frames rows frame)
 all_own P rows frame all =

@@ -1,15 +1,12 @@
 -- Stale dups go one by one.
-use Rattle.ksm_book.proofs.Names.{All, ap, append-nil, append_assoc, arith, count_by, count_by-le-length, did, DupRow, elsewhere, eqb-true, false, filter, filter_all, filter_none, find, find_all}
-use Rattle.ksm_book.proofs.Names.{find_none, find_passes, frames_at_most, frames_of, has_items, InPlaceOrder, is_stale, IsLaid, IsVacant, KeeperView, length, length-append, length-filter, List, lying}
-use Rattle.ksm_book.proofs.Names.{MakesSteps, map, map-append, May, None, one_of_each_place, option_map, ordered_filter, PagesView, pairs_tail, Performs, pruning, refl, Row, Some, suc, true, Withdraw}
-use Rattle.ksm_book.proofs.Names.{ℕ, [], ◌++◌, ◌+◌, ◌<◌, ◌==◌, ◌^◌, ◌∷◌, ◌≡◌, ◌≤◌}
+use Rattle.ksm_book.proofs.Names.{All, ap, append-nil, append_assoc, arith, count_by, count_by-le-length, did, DupRow, elsewhere, eqb-true, filter, filter_all, filter_none, find, find_all, find_none}
+use Rattle.ksm_book.proofs.Names.{find_passes, frames_at_most, frames_of, has_items, InPlaceOrder, is_stale, IsLaid, IsVacant, KeeperView, length, length-append, length-filter, List, lying}
+use Rattle.ksm_book.proofs.Names.{MakesSteps, map, map-append, May, None, one_of_each_place, option_map, ordered_filter, PagesView, pairs_tail, Performs, pruning, Row, Some, suc, true, Withdraw, ℕ}
+use Rattle.ksm_book.proofs.Names.{[], ◌++◌, ◌+◌, ◌<◌, ◌==◌, ◌^◌, ◌∷◌, ◌≡◌, ◌≤◌}
 use Rattle.std.proofs.lemmas.Bool.{eq-eqb}
-use Rattle.ksm_book.proofs.Sharing.{laid_cleared, vacant_loose}
+use Rattle.ksm_base.proofs.Orders.{Lower}
+use Rattle.ksm_book.proofs.Sharing.{inside_of, laid_cleared, vacant_loose}
 use Rattle.ksm_book.proofs.Made.{made_one, made_then}
-
--- two dups are in the order of their places, with numbers of their own
-abbrev Rises : DupRow → DupRow → Type 0
-Rises a b = (a.place < b.place) × ((a.number == b.number) ≡ false)
 
 -- the place of the first stale dup has no other dup
 pub stale_vacant : (rows : List Row) (dups : List DupRow) (d : DupRow) → InPlaceOrder dups → find (is_stale rows) dups ≡ Some d → IsVacant d.place rows dups
@@ -23,9 +20,7 @@ none_stale rows dups none = filter_all _ _ (λ k x lt. grind (arith, find_none _
 
 -- a stale dup less is no dup with items less
 pub live_elsewhere : (rows : List Row) (place : ℕ) (dups : List DupRow) → IsVacant place rows dups → filter (has_items rows) (filter (elsewhere place) dups) ≡ filter (has_items rows) dups
-live_elsewhere rows place [] vacant = refl
-live_elsewhere rows place (d ∷ ds) vacant =
-    grind (arith, vacant 0 d, live_elsewhere rows place ds (λ k x lt. vacant (suc k) x (omega arith)))
+live_elsewhere rows place dups vacant = inside_of _ _ dups (λ k d lt. grind (arith, vacant k d))
 
 -- the first stale dup is the first to go
 pub first_stale : (rows : List Row) (dups : List DupRow) (d : DupRow) → InPlaceOrder dups → find (is_stale rows) dups ≡ Some d
@@ -33,14 +28,14 @@ pub first_stale : (rows : List Row) (dups : List DupRow) (d : DupRow) → InPlac
 first_stale rows [] d rise found = grind arith
 first_stale rows (x ∷ xs) d rise found =
     let off : All (λ e. elsewhere x.place e ≡ true) xs = λ i e lt. grind (arith, rise 0 (suc i) e) in
-    grind (arith, filter_all (elsewhere x.place) xs off, eq-eqb, first_stale rows xs d (pairs_tail Rises x xs rise))
+    grind (arith, filter_all (elsewhere x.place) xs off, eq-eqb, first_stale rows xs d (pairs_tail Lower x xs rise))
 
 -- dups in the order of their places, each place below a bound, are no more than the bound
 few_from : (m n : ℕ) (dups : List DupRow) → m ≤ n → InPlaceOrder dups → All (λ d. (m ≤ d.place) × (d.place < n)) dups → m + length dups ≤ n
 few_from m n [] le rise all = omega arith
 few_from m n (d ∷ ds) le rise all =
     let here = all 0 d (omega arith) in
-    let tail = few_from (d.place + 1) n ds (omega arith) (pairs_tail Rises d ds rise)
+    let tail = few_from (d.place + 1) n ds (omega arith) (pairs_tail Lower d ds rise)
     (λ i e lt. grind (arith, rise 0 (suc i) e, all (suc i) e)) in
     omega arith
 
@@ -58,12 +53,8 @@ pub record Drops (p q : PagesView) (k l : KeeperView) (count : ℕ) : Type 0 whe
   pub many : count ≡ length gone
   -- their places were withdrawn, in their order
   pub made : MakesSteps k l (map (λ d. Withdraw d.place) gone)
-  -- at first the dups were in the order of their places
-  pub first : InPlaceOrder p.dups
   -- now the dups are in the order of their places
   pub rise : InPlaceOrder q.dups
-  -- at first rows and dups lay lawfully
-  pub before : IsLaid p k
   -- now rows and dups lie lawfully
   pub laid : IsLaid q l
 
@@ -101,16 +92,16 @@ module _ {p q : PagesView} {k l : KeeperView} {count : ℕ} (h : Drops p q k l c
   )
 
   -- the count of stale dups that went, and the next one, is below 2^64
-  pub drop_few : count + 1 < 2 ^ 64
-  drop_few =
-      let frames = few_from 0 _ _ (omega arith) h.first (λ n d lt. (omega arith, (h.before.placed.each_dup n d lt).place)) in
+  pub drop_few : InPlaceOrder p.dups → IsLaid p k → count + 1 < 2 ^ 64
+  drop_few first before =
+      let frames = few_from 0 _ _ (omega arith) first (λ n d lt. (omega arith, (before.placed.each_dup n d lt).place)) in
       omega (
         arith,
         ap length h.all,
         length-append h.gone (filter (is_stale p.rows) q.dups),
         length-filter (is_stale p.rows) p.dups,
         count_by-le-length (is_stale p.rows) p.dups,
-        frames_at_most p.shape h.before.small,
+        frames_at_most p.shape before.small,
       )
 
   -- where the place of the first stale dup is withdrawn and that dup goes, one stale dup more went
@@ -122,9 +113,7 @@ module _ {p q : PagesView} {k l : KeeperView} {count : ℕ} (h : Drops p q k l c
     all = grind (arith, next, append_assoc);
     many = grind (arith, length-append);
     made = grind (arith, map-append (λ (d : DupRow). Withdraw d.place) h.gone (stale.0 ∷ []), made_then, made_one);
-    first = h.first;
     rise = rw goes (ordered_filter _ _ h.rise);
-    before = h.before;
     laid = rw goes (laid_cleared l' h.laid inside (rw is) (rw is));
   }
 

@@ -1,15 +1,98 @@
--- A dup with items, and where its pages lie before and after it moves.
-use Rattle.ksm_book.proofs.Names.{All, All-contains_itself, ap, arith, Bool, Contains, count_in, did, dup_numbered, DupFits, DupRow, each_has_number, Err, find_all, find_passes, Finds}
-use Rattle.ksm_book.proofs.Names.{frame_at, frames_of, Freeze, get_or-set_other, GuestPage, has_items, HasRemounted, instead, InUse, is_frame, IsInLife, IsLaid, IsLowestFree, item_count, items_on}
-use Rattle.ksm_book.proofs.Names.{KeeperView, length-set, List, list_any, list_any_at, MakesSteps, MayMount, MayMove, merged_into, mounting, None, Note, Ok, once_mounted, PagesView}
-use Rattle.ksm_book.proofs.Names.{place_frame, Placed, Publish, refl, Row, row_at, Shape, Some, Stable, true, with_frame, ℕ, ◌&&◌, ◌<◌, ◌==◌, ◌∙◌, ◌≡◌, ◌≢◌, ◌≤◌}
+-- A dup moves to another frame, with all of its items: where its pages lie before and after it.
+use Rattle.ksm_book.proofs.Names.{Agrees, All, All-contains_itself, ap, arith, Bool, cond, Contains, count_alike, count_in, count_none, did, dup_numbered, DupFits, DupRow, each_has_number, eq-eqb}
+use Rattle.ksm_book.proofs.Names.{Err, find_all, find_passes, Finds, frame_at, Frames, frames_of, Free, Freeze, frozen, get_or-set_other, get_or-set_same, GuestPage, has_items, HasRemounted, instead}
+use Rattle.ksm_book.proofs.Names.{InUse, is_frame, IsInLife, IsLaid, IsLowestFree, IsServed, item_count, items_on, KeeperView, Ledger, length-set, List, list_any, list_any_at, MakesSteps, MayMount}
+use Rattle.ksm_book.proofs.Names.{MayMove, merged_into, mounting, named_at, ne_eqb, node_of, None, none_counted, Note, Ok, once_mounted, PagesView, place_frame, Placed, Publish, refl, Row, row_at}
+use Rattle.ksm_book.proofs.Names.{same_Some, set, Shape, Some, Stable, true, uses, with_frame, ℕ, ◌&&◌, ◌+◌, ◌<◌, ◌==◌, ◌∙◌, ◌≡◌, ◌≢◌, ◌≤◌}
 use Rattle.ksm_book.proofs.ByPage.{found_page, same_frames}
 use Rattle.ksm_book.proofs.Filling.{at_again}
 use Rattle.ksm_book.proofs.Keeping.{searched_placed, searched_spends, spent_kept}
 use Rattle.ksm_book.proofs.Laying.{kept}
-use Rattle.ksm_book.proofs.Moves.{base_is_items, lies_as_item}
-use Rattle.ksm_book.proofs.Remounted.{dead, next, remounted}
+use Rattle.ksm_book.proofs.Moves.{base_is_items, lies_as_item, Serves}
 use Rattle.ksm_book.proofs.Standing.{Lives, lives}
+use mathlib.Core.Logic.{dite}
+use native.Mathlib.Decide.{ℕ_discrete}
+
+-- those that lay on f lie on g, and none lies on f any more
+module _ (f g : ℕ) (frame : Frames) (rows : List Row) where
+  uses_new : uses g frame rows ≡ 0 → uses g (instead f g frame) rows ≡ uses f frame rows
+  uses_new none = grind (arith, count_alike, none_counted, eq-eqb)
+
+  uses_old : g ≢ f → uses f (instead f g frame) rows ≡ 0
+  uses_old ne = grind (arith, count_none, same_Some, eq-eqb)
+
+  uses_still : (x : ℕ) → x ≢ f → x ≢ g → uses x (instead f g frame) rows ≡ uses x frame rows
+  uses_still x nf ng = grind (arith, same_Some, eq-eqb)
+
+-- one of the dups moves from the frame that its place names to another
+module _ {sh : Shape} {across : ℕ} {k : Ledger} {rows : List Row} {frame : Frames} {dups : List DupRow}
+    (p : Placed sh across k rows frame dups None) (moving : DupRow) (among : (P : DupRow → Type 0) → All P dups → P moving) (left g : ℕ)
+    (leaves : left ≡ place_frame k moving.place) where
+  -- the place of the dup that moves
+  abbrev q : ℕ
+  q = moving.place
+
+  -- the frame to which it goes, in its next life
+  abbrev mounted : Note
+  mounted = record (frame_at k left) { kind = Stable; generation = (frame_at k g).generation + 1 }
+
+  -- what the keeper knows once the dup has moved
+  abbrev next : Ledger
+  next = record { frames = set (set k.frames left (frozen (frame_at k left))) g mounted; places = set k.places q (Some (record { frame = g; generation = (frame_at k g).generation + 1 })) }
+
+  module _ (inside : g < frames_of sh) (free : (frame_at k g).kind ≡ Free) (in_life : IsInLife k q) (stable : (frame_at k left).kind ≡ Stable) (node : across ≡ 0 → node_of sh g ≡ node_of sh left) (numbers : All (λ e. e.place ≢ q → e.number ≢ moving.number) dups) where
+    new_differs : g ≢ left
+    new_differs e = cc
+
+    unused : uses g frame rows ≡ 0
+    unused = grind arith
+
+    -- the notes of the frame that comes, of the one that is left, and of any other
+    at_new : frame_at next g ≡ mounted
+    at_new = grind (arith, length-set, get_or-set_same)
+
+    at_left : frame_at next left ≡ frozen (frame_at k left)
+    at_left = grind (arith, new_differs, length-set, get_or-set_same, get_or-set_other)
+
+    at_rest : (h : ℕ) → h ≢ g → h ≢ left → frame_at next h ≡ frame_at k h
+    at_rest h ng nl = grind (arith, get_or-set_other)
+
+    ruleset notes = (at_new, at_left, at_rest)
+
+    named_off : (e : ℕ) → e ≢ q → named_at next e ≡ named_at k e
+    named_off e ne = grind (arith, get_or-set_other)
+
+    moved_agrees : (r : Row) (e : DupRow) → All (Agrees k r left) dups → DupFits sh across k e
+        → (e.place ≢ q → e.number ≢ moving.number) → Agrees k r left e → Agrees next r g e
+    moved_agrees r e all m others a = grind (arith, at_new, named_off, notes, get_or-set_same)
+
+    serves : (r : Row) (f : ℕ) → f ≢ g → Serves sh k dups r f
+        → IsServed sh next dups r (cond (is_frame left (Some f)) (Some g) (Some f))
+    serves r f far h =
+        dite (ℕ_discrete f left) (λ e. grind (arith, eq-eqb, at_new, moved_agrees)) (λ ne. grind (arith, ne_eqb, named_off, notes, get_or-set_same))
+
+    fits_still : (e : DupRow) → DupFits sh across k e → DupFits sh across next e
+    fits_still e m = grind (arith, notes, named_off, get_or-set_same)
+
+    -- rows and dups lie lawfully once a dup has moved from its Stable frame to a free one, with all of its items
+    remounted : Placed sh across next rows (instead left g frame) dups None
+    remounted = record {
+      frames_long = grind (arith, length-set);
+      places_long = grind (arith, length-set);
+      widths = grind (arith, notes);
+      lives = grind (arith, notes);
+      each_row = grind (arith, serves);
+      each_dup = λ m x l. fits_still _ (p.each_dup m x l);
+      bases = λ h. dite (ℕ_discrete h g)
+          (λ e. rw (e, at_new, uses_new left g frame rows unused) (p.bases left))
+          (λ ng. dite (ℕ_discrete h left)
+          (λ e. rw (e, at_left, uses_old left g frame rows new_differs) refl)
+          (λ nl. rw (at_rest h ng nl, uses_still left g frame rows h nl ng) (p.bases h)));
+      kinds = grind (arith, notes);
+      empty = grind (arith, named_off);
+    }
+
+-- ---------------------------------------------------------------- the dup that is to move
 
 -- a dup may move to a frame of the node, each item of a dup at its place lies on frame g, and a page without a row on none
 module _ {v : PagesView} {k : KeeperView} {dup : DupRow} {node g : ℕ} (may : MayMove v k dup node)
@@ -36,9 +119,7 @@ module _ {v : PagesView} {k : KeeperView} {dup : DupRow} {node g : ℕ} (may : M
 
   module _ {w : KeeperView} {f : ℕ} (to : Finds k w node f) where
     abbrev p : Placed sh v.knobs.merge_across_nodes w.ledger v.rows v.frame dups None
-    p = kept k may.laid.same w None
-        (λ a rows frame ds. searched_placed node (rw may.laid.same may.exists) to.reaped a
-        rows frame ds None) may.laid.placed
+    p = kept k may.laid.same w None (searched_placed node (rw may.laid.same may.exists) to.reaped) may.laid.placed
 
     abbrev n : Note
     n = frame_at w.ledger g
@@ -103,26 +184,26 @@ module _ {v : PagesView} {k : KeeperView} {dup : DupRow} {node g : ℕ} (may : M
 
       -- it is made where the keeper's references are all
       module _ (all : count_in found ≡ n.base) where
-        frozen : u.ledger ≡ with_frame w.ledger g (dead p dup among g f on_frame)
-        frozen = grind arith
+        exchanged : u.ledger ≡ with_frame w.ledger g (frozen n)
+        exchanged = grind arith
 
-        at_g : frame_at u.ledger g ≡ dead p dup among g f on_frame
-        at_g = rw frozen (at_again w.ledger g (omega (arith, p.frames_long, known)) _)
+        at_g : frame_at u.ledger g ≡ frozen n
+        at_g = rw exchanged (at_again w.ledger g (omega (arith, p.frames_long, known)) _)
 
         at_other : (x : ℕ) → x ≢ g → frame_at u.ledger x ≡ frame_at w.ledger x
-        at_other x ne = rw frozen (grind (arith, get_or-set_other))
+        at_other x ne = rw exchanged (grind (arith, get_or-set_other))
 
         -- after the exchange the new frame may take the place of the old one, with as many references as that had
         pub may_mount : {items : ℕ} → items ≡ n.base → MayMount u g f dup.place items
         may_mount is = record {
           exists = grind (arith, inside);
-          known = grind (arith, inside, p.frames_long, frozen, length-set);
+          known = grind (arith, inside, p.frames_long, exchanged, length-set);
           free = grind (arith, lowest, at_other f apart);
           old = grind (arith, known);
           dying = grind (arith, at_g);
           wide = grind (arith, at_g, at_other, p.widths);
           at = grind (arith, dup_fits);
-          loose = grind (arith, frozen, on_frame, at_g);
+          loose = grind (arith, exchanged, on_frame, at_g);
           some = omega (arith, base, item_some);
           few = grind (arith, base, among);
         }
@@ -136,7 +217,7 @@ module _ {v : PagesView} {k : KeeperView} {dup : DupRow} {node g : ℕ} (may : M
           goes_there = rw goes (items_go f)
 
           ledger_is : x.ledger ≡ next p dup among g f on_frame
-          ledger_is = grind (arith, frozen, at_other f apart, at_g)
+          ledger_is = grind (arith, exchanged, at_other f apart, at_g)
 
           laid_moved_dup : IsLaid q x
           laid_moved_dup = rw (goes ∙ ap (λ fr. record v { frame = fr }) (items_go f)) (record {

@@ -1,6 +1,6 @@
 -- How a page gets another frame.
 use Rattle.ksm_book.proofs.Names.{ap, arith, change_row, FindsNone, GuestPage, HasNewFrame, Houses, IfSome, InPageOrder, IsKnown, IsLaid, KeeperView, leaving, lies_on, List, MakesSteps, MayLeave}
-use Rattle.ksm_book.proofs.Names.{None, on_its_own, Option, PagesView, Placed, Provides, Resettled, Row, Some, subst, TurnedAway, ℕ, ◌<◌, ◌≡◌}
+use Rattle.ksm_book.proofs.Names.{on_its_own, Option, PagesView, Placed, Provides, Resettled, Row, Some, subst, TurnedAway, ℕ, ◌<◌, ◌≡◌}
 use Rattle.ksm_base.specs.declared.row.PageState.TheVariants.{Private}
 use Rattle.ksm_book.proofs.Shown.{provides_does}
 use Rattle.ksm_book.proofs.Keeping.{left_placed, left_spends, may_leave, searched_placed, searched_spends}
@@ -47,6 +47,5 @@ module _ {p : PagesView} {k w : KeeperView} (h : IsLaid p k) (rise : InPageOrder
 pub turned : {p : PagesView} {k w : KeeperView} {node : ℕ} → IsLaid p k → node < p.shape.nodes → FindsNone k w node → TurnedAway p p k w node
 turned {w = w} h less none =
     let laid =
-    laid_kept h w (rw none.reaped.after) (λ across rows frame dups. searched_placed _
-    (rw h.same less) none.reaped _ _ _ _ None) (searched_spends _ none.reaped) in
+    laid_kept h w (rw none.reaped.after) (searched_placed _ (rw h.same less) none.reaped) (searched_spends _ none.reaped) in
     grind arith

@@ -1,16 +1,16 @@
 -- What becomes of the layout where rows change together, join a dup, or make or lose one.
+use Rattle.frame_core.specs.Ledger.{named_anew}
 use Rattle.ksm_base.specs.declared.limits.TheConstants.{MOST_FRAMES, MOST_LIVES, MOST_REFERENCES}
 use Rattle.ksm_book.proofs.Names.{Add, All, All-filter, ap, arith, blank, Bool, change_row, Contains, count_by, count_none, did, DupRow, elsewhere, eq-eqb, false, filter, filter_passes, find}
 use Rattle.ksm_book.proofs.Names.{find_all, find_none, find_passes, frame_at, Frames, frames_of, get_or-set_same, get_or_default, GuestPage, IfSome, if◌then◌else◌, InPageOrder, IsInLife, IsLaid}
-use Rattle.ksm_book.proofs.Names.{IsLoose, IsServed, IsVacant, item_count, KeeperView, leaving, Ledger, ledger_after, length, lies_on, Life, life_or, List, list_any, MakesSteps, May, MayLeave}
-use Rattle.ksm_book.proofs.Names.{Merged, merged_into, merged_state, named_at, None, none_found, Note, Option, PageState, PagesView, place_frame, Placed, Private, Publish, refl, Row, row_at, RowFits}
-use Rattle.ksm_book.proofs.Names.{set, set-get_or, settled, Shape, shared_state, Some, spent, spent_on, Stable, subst, sum_by-le, sym, true, with_dup, with_frame, Withdraw, withdrawing, ℕ, [], ◌*◌}
-use Rattle.ksm_book.proofs.Names.{◌+◌, ◌-◌, ◌<◌, ◌==◌, ◌∙◌, ◌∷◌, ◌≡◌, ◌≢◌, ◌≤◌}
-use Rattle.ksm_book.proofs.Moves.{base_is_items, joined, published, Serves, stale_is_loose}
-use Rattle.ksm_book.proofs.Laying.{laid_rows, LodgesAs, served_at, shape_same}
+use Rattle.ksm_book.proofs.Names.{IsLoose, IsVacant, item_count, KeeperView, leaving, Ledger, length, lies_on, Life, life_or, List, list_any, MakesSteps, May, MayLeave, Merged, merged_into}
+use Rattle.ksm_book.proofs.Names.{merged_state, named_at, None, none_found, Note, Option, PageState, PagesView, place_frame, Placed, Private, Publish, refl, Row, row_at, RowFits, set-get_or, settled}
+use Rattle.ksm_book.proofs.Names.{Shape, shared_state, shown, Some, spent, spent_on, Stable, suc, sum_by-le, sym, true, with_dup, with_frame, Withdraw, withdrawing, ℕ, [], ◌*◌, ◌+◌, ◌-◌, ◌<◌, ◌==◌}
+use Rattle.ksm_book.proofs.Names.{◌∙◌, ◌∷◌, ◌≡◌, ◌≢◌, ◌≤◌}
+use Rattle.ksm_book.proofs.Moves.{base_is_items, emptied, joined, published, Serves, stale_is_loose, withdrawn}
+use Rattle.ksm_book.proofs.Laying.{laid_rows, LodgesAs, serves_at, shape_same}
 use Rattle.ksm_book.proofs.Keeping.{added_placed, added_spends, left_placed, left_spends, may_leave, spent_set}
 use Rattle.ksm_book.proofs.Made.{none_made, parts_made, step_made}
-use Rattle.ksm_book.proofs.Withdrawn.{withdrawn}
 
 -- the state of an item of a dup is Merged with the dup's number
 pub state_of_item : (n : ℕ) (s : PageState) → merged_into n s ≡ true → s ≡ Merged n
@@ -32,7 +32,7 @@ module _ {p : PagesView} {k : KeeperView} (h : IsLaid p k) (rise : InPageOrder p
   across = p.knobs.merge_across_nodes
 
   item_fits : Serves p.shape k.ledger p.dups item g
-  item_fits = subst (IsServed p.shape k.ledger p.dups item) there (served_at h.placed _ _ found_item)
+  item_fits = serves_at h.placed found_item there
 
   -- one reference more may come to an item's frame, where its dup has room for one item more
   pub may_join : (d : DupRow) → Contains p.dups d → merged_into d.number item.state ≡ true → item_count p.rows d ≤ MOST_REFERENCES - 1 → May k (Add g)
@@ -45,9 +45,7 @@ module _ {p : PagesView} {k : KeeperView} (h : IsLaid p k) (rise : InPageOrder p
         (lies_on page (Some g) p.frame) p.dups (p.frame page)
     joined_hand w comes =
         let q = added_placed comes (grind (arith, item_fits)) item_fits.0.frame h.placed in
-        joined _ row _ g c rise found keeps
-        (subst (IsServed p.shape w.ledger p.dups item) there (served_at q _ _ found_item)) state bytes
-        (grind arith) q
+        joined _ row _ g c rise found keeps (serves_at q found_item there) state bytes (grind arith) q
 
     -- once a reference came to the item's frame, the frame of the page that joins, if it has one, may be left
     pub may_part : (w : KeeperView) → MakesSteps k w (Add g ∷ []) → IfSome (p.frame page) (MayLeave w)
@@ -88,20 +86,19 @@ vacant_loose {k = k} {dups = dups} place p vacant = by _ refl
 module _ {p : PagesView} {k : KeeperView} (w : KeeperView) (h : IsLaid p k) (place : ℕ) (inside : place < frames_of p.shape)
     (vacant : IsVacant place p.rows p.dups) where
   -- once what a vacant place names is withdrawn, the place names nothing, and the keeper knows the rest as it was
-  pub cleared_ledger : MakesSteps k w (withdrawing p.dups place) → w.ledger ≡ record
-      { frames = k.ledger.frames; places = set k.ledger.places place None }
+  pub cleared_ledger : MakesSteps k w (withdrawing p.dups place) → w.ledger ≡ emptied k.ledger place
   cleared_ledger m = by _ refl m
     where
       by : (taken : Bool) → list_any (λ d. d.place == place) p.dups ≡ taken
           → MakesSteps k w (if taken then Withdraw place ∷ [] else [])
-          → w.ledger ≡ record { frames = k.ledger.frames; places = set k.ledger.places place None }
+          → w.ledger ≡ emptied k.ledger place
       by true is m = rw (step_made m).1
       by false is m = rw (none_made m)
           (grind (arith, h.placed.empty place (has_none _ _ is), set-get_or k.ledger.places place None))
 
 -- pages lie lawfully where a place names nothing any more and the dup that stood there is gone
 pub laid_cleared : {p : PagesView} {k : KeeperView} (w : KeeperView) {place : ℕ} → IsLaid p k → place < frames_of p.shape → w.table ≡ k.table
-    → w.ledger ≡ record { frames = k.ledger.frames; places = set k.ledger.places place None }
+    → w.ledger ≡ emptied k.ledger place
     → IsLaid (record p { dups = filter (elsewhere place) p.dups }) w
 laid_cleared {p} {k} w h inside e is = record {
   small = h.small;
@@ -110,11 +107,10 @@ laid_cleared {p} {k} w h inside e is = record {
   spent = omega (arith, ap spent is);
 }
 
--- what passes a test behind which another stands is not taken out by that other
-inside_of : (p q : DupRow → Bool) → ((d : DupRow) → p d ≡ true → q d ≡ true) → (ds : List DupRow)
-    → filter p (filter q ds) ≡ filter p ds
-inside_of p q passes [] = refl
-inside_of p q passes (d ∷ ds) = grind (arith, inside_of p q passes ds)
+-- where each element that passes a test passes another too, that other takes out none of them
+pub inside_of : {X : Type 0} (p q : X → Bool) (xs : List X) → All (λ x. p x ≡ true → q x ≡ true) xs → filter p (filter q xs) ≡ filter p xs
+inside_of p q [] passes = refl
+inside_of p q (x ∷ xs) passes = grind (arith, passes 0 x, inside_of p q xs (λ i d lt. passes (suc i) d (omega arith)))
 
 -- a dup that takes a place takes it of any that stood there
 with_elsewhere : (d : DupRow) (ds : List DupRow) → with_dup d (filter (elsewhere d.place) ds) ≡ with_dup d ds
@@ -140,17 +136,11 @@ module _ {p : PagesView} {k : KeeperView} (h : IsLaid p k) (rise : InPageOrder p
   abbrev sh : Shape
   sh = p.shape
 
-  abbrev cleared : Ledger
-  cleared = record { frames = k.ledger.frames; places = set k.ledger.places d.place None }
-
   abbrev o : Note
   o = frame_at k.ledger f
 
-  abbrev stable : Note
-  stable = record { kind = Stable; base = o.base; generation = o.generation; content = o.content }
-
   fits : RowFits sh k.ledger row f
-  fits = (subst (IsServed sh k.ledger p.dups row) lies (served_at h.placed _ row found)).0
+  fits = (serves_at h.placed found lies).0
 
   own : o.kind ≡ Private
   own = grind (arith, fits)
@@ -168,10 +158,10 @@ module _ {p : PagesView} {k : KeeperView} (h : IsLaid p k) (rise : InPageOrder p
       → IsLaid (record p { rows = change_row page c p.rows; dups = with_dup d p.dups; next = p.next + 1 }) w
   laid_found c w1 w keeps state same clears is bytes tree numbers fresh =
       let empty = cleared_ledger w1 h d.place inside vacant clears in
-      let shown = published (withdrawn d.place inside h.placed) page row rise found f lies own d inside c keeps
+      let stands = published (withdrawn d.place inside h.placed) page row rise found f lies own d inside c keeps
       (state ∙ ap Merged (sym number)) same bytes tree alone (λ i r lt. rw number (fresh i r lt))
       (All-filter (elsewhere d.place) (λ e. ¬ (e.number ≡ d.number)) p.dups (grind arith))
       (grind (arith, filter_passes, eq-eqb)) in
-      let ledger : w.ledger ≡ ledger_after w1.table.shape cleared (Publish d.place f) 0 = grind arith in
-      let now : spent w.ledger ≡ spent (with_frame k.ledger f stable) = ap spent ledger in
+      let ledger : w.ledger ≡ named_anew (emptied k.ledger d.place) d.place f = grind arith in
+      let now : spent w.ledger ≡ spent (with_frame k.ledger f (shown o)) = ap spent ledger in
       grind (arith, with_elsewhere, own, fits, spent_set)

@@ -1,12 +1,14 @@
--- The commands on single pages, carried out.
-use Rattle.ksm_book.proofs.Names.{absent_parts, All, Answer, ap, arith, BookValue, BookView, change_row, comes_before, Command, Done, Drop, Err, false, filter, filter_passes, find_put, FindsNone}
-use Rattle.ksm_book.proofs.Names.{frame_at, frames_of, fresh_row, GuestPage, HasNewFrame, Held, Houses, IfErr, IfSome, if◌then◌else◌, InPageOrder, is_some, IsCarried, IsHeld, IsLaid, IsReadable}
-use Rattle.ksm_book.proofs.Names.{IsSound, IsWritable, KeeperView, leaving, length, lies_on, List, lying, MakesSteps, map_fixed, MayLeave, MovePage, nat_le, NoFrame, None, Ok, on_its_own, Option}
-use Rattle.ksm_book.proofs.Names.{ordered_with, PAGE_WORDS, pages_ordered, PagesView, Provides, puts, refl, Register, Resettled, Resettles, Result, Row, row_at, same_page, same_page_refl}
-use Rattle.ksm_book.proofs.Names.{shared_state, Some, sound_after, state_of, stepped, Store, stored, true, view_of, with_row, without_between, without_page, ℕ, [], ◌<◌, ◌==◌, ◌∙◌, ◌∷◌, ◌≡◌}
+-- The commands on single pages, and on one dup, carried out.
+use Rattle.ksm_book.proofs.Names.{absent_parts, All, Answer, ap, arith, BookState, BookValue, BookView, change_row, comes_before, Command, Done, Drop, DupRow, Err, false, Fault, filter, filter_passes}
+use Rattle.ksm_book.proofs.Names.{find_passes, find_put, FindsNone, frame_at, frames_of, fresh_row, GuestPage, HasNewFrame, HasRemounted, Held, Houses, IfSome, if◌then◌else◌, inl, InPageOrder}
+use Rattle.ksm_book.proofs.Names.{is_some, IsCarried, IsHeld, IsLaid, IsReadable, IsSound, IsWritable, KeeperView, leaving, length, lies_on, List, live_dup_at, lying, MakesSteps, map_fixed, MayLeave}
+use Rattle.ksm_book.proofs.Names.{MayMove, MoveDup, MovePage, nat_le, NoFrame, None, Ok, on_its_own, Option, ordered_with, PAGE_WORDS, pages_ordered, PagesView, Provides, puts, refl, Register}
+use Rattle.ksm_book.proofs.Names.{Resettled, Resettles, Row, row_at, same_page, same_page_refl, shared_state, Some, sound_after, state_of, stepped, Store, stored, true, view_of, with_row}
+use Rattle.ksm_book.proofs.Names.{without_between, without_page, ℕ, [], ◌<◌, ◌==◌, ◌∙◌, ◌∷◌, ◌≡◌, ◌≤◌}
 use Rattle.ksm_base.specs.declared.row.PageState.TheVariants.{Private}
+use Rattle.ksm_base.proofs.SoundEdits.{sound_settings}
 use Rattle.ksm_book.proofs.ByPage.{at_changed, change_twice, found_page, lies_again, lies_still, row_of_page}
-use Rattle.ksm_book.proofs.Laying.{come_there, laid_rows, served_at}
+use Rattle.ksm_book.proofs.Laying.{come_there, laid_rows, retuned, serves_at}
 use Rattle.ksm_book.proofs.Keeping.{left_placed, left_spends, may_leave, searched_spends}
 use Rattle.ksm_book.proofs.Resettled.{turned}
 use Rattle.ksm_book.proofs.Shown.{provides_does}
@@ -28,6 +30,13 @@ sound_carried s h = grind (arith, sound_after)
 pub lawful : {v w : BookView} {command : Command} {answer : Answer} {L : Type 0} → IsSound v.state → IsCarried v w command answer × L
     → IsSound w.state × L
 lawful s h = (sound_carried s h.0, h.1)
+
+-- where a knob on which no dup hangs gets a value in its range, the state is sound, and all lies lawfully
+pub tuned : {p q : PagesView} {k : KeeperView} {cursor : Option GuestPage} {passes run pages zero_pages : ℕ} → IsSound (state_of p cursor passes) × IsLaid p k
+    → q ≡ record p { knobs = record p.knobs { run = run; pages_to_scan = pages; use_zero_pages = zero_pages } } → run ≤ 2 → (1 ≤ pages) × (pages ≤ 1000000) → zero_pages ≤ 1
+    → IsSound (state_of q cursor passes) × IsLaid q k
+tuned {p} {cursor = cursor} {passes} {run} {pages} {zero_pages} h goes few in_range either =
+    rw goes (sound_settings (state_of p cursor passes) run pages zero_pages passes cursor few in_range either h.0.passes h.0, retuned (inl refl) h.1)
 
 -- a command carried out from one book value was carried out from an equal one, and so was an equal command
 pub carried_so : {old now : BookValue} {w : BookView} {by given : Command} {answer : Answer} → old ≡ now → by ≡ given → IsCarried (view_of old) w by answer → IsCarried (view_of now) w given answer
@@ -59,17 +68,12 @@ module _ {p : PagesView} {k : KeeperView} (h : IsLaid p k) (page : GuestPage) (r
   -- it may be read, and has the page's bytes
   pub may_read : (g : ℕ) → p.frame page ≡ Some g
       → (g < frames_of k.table.shape) × IsReadable (frame_at k.ledger g).kind × (length (frame_at k.ledger g).content ≡ PAGE_WORDS) × ((frame_at k.ledger g).content ≡ row.bytes)
-  may_read g lies = grind (arith, rw lies at (served_at h.placed page row found))
+  may_read g lies = grind (arith, serves_at h.placed found lies)
 
   -- it may be stored to, where it is the page's own
   pub own_ready : shared_state row.state ≡ false → (g : ℕ) → p.frame page ≡ Some g
       → (g < frames_of k.table.shape) × (g < length k.ledger.frames) × IsWritable (frame_at k.ledger g).kind × (length (frame_at k.ledger g).content ≡ PAGE_WORDS)
-  own_ready alone g lies = grind (arith, may_read g lies, rw lies at (served_at h.placed page row found))
-
--- what is true anyway is true of each error of a result
-pub if_err : {T E : Type 0} (r : Result T E) (P : Type 0) → P → IfErr r (λ _. P)
-if_err (Ok x) P h = tt
-if_err (Err e) P h = h
+  own_ready alone g lies = grind (arith, may_read g lies, serves_at h.placed found lies)
 
 -- the row of a page that was resettled is found with a frame of its own
 pub found_resettled : {p m : PagesView} {k l : KeeperView} {page : GuestPage} {node : ℕ} {bytes : List ℕ} {row : Row}
@@ -78,7 +82,7 @@ found_resettled r found = grind (arith, r.pages, at_changed)
 
 -- ---------------------------------------------------------------- a store
 
-module _ (p : PagesView) (k l : KeeperView) (cursor : Option GuestPage) (passes : ℕ) (page : GuestPage) (bytes : List ℕ) (row : Row) (found : row_at page p.rows ≡ Some row) (table : l.table ≡ k.table) where
+module _ (p : PagesView) (k l : KeeperView) (cursor : Option GuestPage) (passes : ℕ) (page : GuestPage) (bytes : List ℕ) (row : Row) (found : row_at page p.rows ≡ Some row) where
   -- `Store` is carried out where the bytes are stored to the page's own frame, and its row tells them
   pub store_written : (q : PagesView) (g : ℕ) → q ≡ record p { rows = change_row page (stored bytes) p.rows } → shared_state row.state ≡ false → p.frame page ≡ Some g → l ≡ stepped k (puts g 0 bytes)
       → IsCarried (book p k cursor passes) (book q l cursor passes) (Store page bytes) (Ok Done)
@@ -105,7 +109,7 @@ module _ (p : PagesView) (k : KeeperView) (cursor : Option GuestPage) (passes : 
   pub move_home : row.home ≡ node → IsCarried (book p k cursor passes) (book p k cursor passes) (MovePage page node) (Ok Done)
   move_home same = grind (arith, row_of_page, change_still)
 
-  module _ (l : KeeperView) (table : l.table ≡ k.table) (away : (row.home == node) ≡ false) where
+  module _ (l : KeeperView) (away : (row.home == node) ≡ false) where
     -- `MovePage` is carried out, and all lies lawfully, where the page is resettled on another node and at home there
     pub move_moved : (m q : PagesView) → IsLaid p k → Resettled p m k l page node row.bytes → q ≡ record m { rows = change_row page (λ r. record r { home = node }) m.rows }
         → Carries p k q l cursor passes (MovePage page node) (Ok Done)
@@ -192,3 +196,18 @@ module _ {p m : PagesView} {page : GuestPage} {node : ℕ} {bytes : List ℕ} (n
         grind arith,
         rw back (laid_rows h l table (searched_spends _ searched.reaped) (turned h new.less searched).laid.placed),
       )
+
+-- ---------------------------------------------------------------- a dup that moves
+
+-- the dup that was found stands at the place that was asked for
+pub place_is : (b : BookState) (place : ℕ) (dup : DupRow) → Some dup ≡ live_dup_at b place → dup.place ≡ place
+place_is b place dup found = grind (arith, find_passes)
+
+module _ {p q : PagesView} {k l : KeeperView} {cursor : Option GuestPage} {passes place node : ℕ} {dup : DupRow} (found : Some dup ≡ live_dup_at (state_of p cursor passes) place) (may : MayMove p k dup node) where
+  -- `MoveDup` is carried out and answers `Done` where the dup moved to a frame of the node
+  pub done_carried : {X : Type 0} {done : X} → HasRemounted {X = X} p q k l dup node (Ok done) → IsCarried (book p k cursor passes) (book q l cursor passes) (MoveDup place node) (Ok Done)
+  done_carried h = grind arith
+
+  -- it answers the fault for which the dup stayed
+  pub fault_carried : {X : Type 0} (fault : Fault) → HasRemounted {X = X} p q k l dup node (Err fault) → IsCarried (book p k cursor passes) (book q l cursor passes) (MoveDup place node) (Err fault)
+  fault_carried fault h = grind arith

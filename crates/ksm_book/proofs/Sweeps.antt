@@ -1,6 +1,7 @@
 -- The dying frames of a range, one after another.
-use Rattle.ksm_book.proofs.Names.{ap, append-nil, arith, Bool, dying_from, dying_kind, false, filter-append, frame_at, if◌then◌else◌, Ledger, NoneOf, range_with_len, suc, true, zero, ℕ, [], ◌++◌, ◌+◌}
-use Rattle.ksm_book.proofs.Names.{◌-◌, ◌<◌, ◌∷◌, ◌≡◌, ◌≤◌}
+use Rattle.ksm_book.proofs.Names.{ap, append-nil, arith, Bool, dying_from, dying_kind, false, filter-append, FindsNone, frame_at, free_kind, if◌then◌else◌, KeeperView, Ledger, NoneOf, range_with_len}
+use Rattle.ksm_book.proofs.Names.{refl, suc, true, zero, ℕ, [], ◌*◌, ◌++◌, ◌+◌, ◌-◌, ◌<◌, ◌∷◌, ◌≡◌, ◌≤◌}
+use Rattle.ksm_book.proofs.Made.{made_none}
 
 -- one frame more is looked at
 range_more : (low n : ℕ) → range_with_len low (n + 1) ≡ range_with_len low n ++ (low + n) ∷ []
@@ -35,3 +36,12 @@ module _ (k : Ledger) (low : ℕ) where
         let at : low + (to - low) ≡ to = omega arith in
         let more : to + 1 - low ≡ to - low + 1 = omega arith in
         grind (arith, passed to further none, dying_more (to - low) true)
+
+-- a node without a free or dying frame is searched by no step, and in vain
+pub in_vain : (v : KeeperView) (node : ℕ) → let size = v.table.shape.frames_per_node in NoneOf free_kind v.ledger (node * size) (node * size + size)
+    → NoneOf dying_kind v.ledger (node * size) (node * size + size) → FindsNone v v node
+in_vain v node free dying =
+    let size = v.table.shape.frames_per_node in
+    let all : size ≡ node * size + size - node * size = omega arith in
+    let none = passed v.ledger (node * size) v.ledger (node * size) (omega arith) (λ f ge. refl) _ (omega arith) dying in
+    record { reaped = grind (arith, made_none); none = free }

@@ -95,6 +95,7 @@ impl Book {
     /// Does a command: a step of the book, and an entry of the journal. `Err` is a refusal, and changes no page, dup or
     /// knob. `Fault::Memory` may come in place of any answer; then no step was made on a frame, and there is no entry.
     /// The answer tells which steps were made on the frames, and on which frame each page lies then.
+    #[tactic(auto, using(crate::proofs::Carried::carried_own))]
     pub fn apply(&mut self, table: &FrameTable, command: &Command) -> Result<Reply, Fault>
         requires own { self.old.keeper.table ≡ table.now }
         ensures answer { IsAnswerOrMemory self.old.state command.now result }

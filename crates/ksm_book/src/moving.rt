@@ -25,8 +25,7 @@ fn remount(
 ) -> Result<(), Fault>
     requires own { keeper.old.table ≡ table.now }
     requires may { MayMove (seen pages.old) keeper.old dup node }
-    ensures own { keeper.new.table ≡ keeper.old.table }
-    ensures remounted { HasRemounted (seen pages.old) (seen pages.new) keeper.old keeper.new dup node result }
+    ensures { HasRemounted (seen pages.old) (seen pages.new) keeper.old keeper.new dup node result }
 {
     pages.lie_in_order();
     let left = pages.dup_frame(dup.place);

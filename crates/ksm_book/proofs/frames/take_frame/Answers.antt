@@ -1,19 +1,17 @@
-use Rattle.ksm_book.proofs.Names.{ap, arith, holding, KeeperView, opened, Provides, rules, ◌<◌}
+use Rattle.ksm_book.proofs.Names.{ap, arith, holding, KeeperView, opened, Provides, rules}
 use Rattle.ksm_book.proofs.Filling.{at_again, follow, found_inside, found_within, raised_ready, took}
 use Rattle.ksm_book.proofs.Made.{made_one, made_part, made_then}
 use Rattle.ksm_book.proofs.frames.take_frame.Goals as goal
 
 pub write-requires : goal.write-requires
 write-requires c =
-    let less : c.args.node < c.args.keeper.now.table.shape.nodes = rw (← c.requires.shape) c.requires.node in
-    let ready = raised_ready _ _ _ _ less c.requires.lawful c.in_ok-frame.ensures c.raise.new.self _ c.raise.ensures.1 in
-    grind (arith, found_inside _ _ _ _ less c.requires.lawful c.in_ok-frame.ensures)
+    let ready = raised_ready c.requires.shape c.requires.node c.requires.lawful c.in_ok-frame.ensures _ c.raise.ensures.1 in
+    grind (arith, found_inside c.requires.shape c.requires.node c.requires.lawful c.in_ok-frame.ensures)
 
 pub open-requires-clause-may : goal.open-requires-clause-may
 open-requires-clause-may c =
-    let less : c.args.node < c.args.keeper.now.table.shape.nodes = rw (← c.requires.shape) c.requires.node in
-    let now = raised_ready _ _ _ _ less c.requires.lawful c.in_ok-frame.ensures c.raise.new.self _ c.raise.ensures.1 in
-    grind (arith, found_inside _ _ _ _ less c.requires.lawful c.in_ok-frame.ensures, at_again)
+    let now = raised_ready c.requires.shape c.requires.node c.requires.lawful c.in_ok-frame.ensures _ c.raise.ensures.1 in
+    grind (arith, found_inside c.requires.shape c.requires.node c.requires.lawful c.in_ok-frame.ensures, at_again)
 
 abbrev provided : (c : goal.After-open) → Provides c.args.keeper.now c.open.new.self c.args.node c.args.bytes.now c.in_ok-frame.frame
 provided c = record {
@@ -28,7 +26,6 @@ returns-clause-provides c = provided c
 
 pub returns-clause-took : goal.returns-clause-took
 returns-clause-took c =
-    let less : c.args.node < c.args.keeper.now.table.shape.nodes = rw (← c.requires.shape) c.requires.node in
-    let within = found_within c.args.keeper.now c.find_frame.new.keeper _ _ less c.requires.lawful c.in_ok-frame.ensures in
-    took less c.requires.lawful (search rules) (provided c) (follow _ _ within _ opened (rw c.open.ensures)
+    let within = found_within c.requires.shape c.requires.node c.requires.lawful c.in_ok-frame.ensures in
+    took c.requires.shape c.requires.node c.requires.lawful (search rules) (provided c) (follow _ _ within _ opened (rw c.open.ensures)
     (follow _ _ within _ (λ x. holding x c.args.bytes.now) c.write.ensures.ledger (ap (λ (z : KeeperView). z.ledger) c.raise.ensures.1)))

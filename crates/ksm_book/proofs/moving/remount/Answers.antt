@@ -3,8 +3,8 @@ use Rattle.ksm_book.proofs.Remounts.{has_remounted, may_freeze, may_mount, stays
 use Rattle.ksm_book.proofs.Resettled.{turned}
 use Rattle.ksm_book.proofs.moving.remount.Goals as goal
 
-pub returns-in_default-clause-remounted : goal.returns-in_default-clause-remounted
-returns-in_default-clause-remounted c =
+pub returns-in_default : goal.returns-in_default
+returns-in_default c =
     let away = turned c.requires.may.laid c.requires.may.exists c.in_default.ensures in
     grind arith
 
@@ -16,8 +16,8 @@ pub base-items-requires : goal.base-items-requires
 base-items-requires c =
     (may_freeze c.requires.may c.dup_frame-left.ensures c.lie_in_order.ensures.absent c.in-Some.ensures).0
 
-pub returns-then-not-freeze-clause-remounted : goal.returns-then-not-freeze-clause-remounted
-returns-then-not-freeze-clause-remounted c =
+pub returns-then-not-freeze : goal.returns-then-not-freeze
+returns-then-not-freeze c =
     stays c.requires.may c.dup_frame-left.ensures c.lie_in_order.ensures.absent c.in-Some.ensures _
     c.freeze.ensures.1 (λ e. absurd (grind (arith, c.freeze.ensures.2.1 e)))
 
@@ -29,8 +29,8 @@ mount-requires-clause-may c =
 pub set_dup_frame-requires : goal.set_dup_frame-requires
 set_dup_frame-requires c = taken_place c.requires.may
 
-pub returns-clause-remounted : goal.returns-clause-remounted
-returns-clause-remounted c =
+pub returns : goal.returns
+returns c =
     has_remounted c.requires.may c.dup_frame-left.ensures c.lie_in_order.ensures.absent c.in-Some.ensures _
     c.freeze.ensures.1 (c.freeze.ensures.2.0 c.if-not-freeze.false) c.base-items.ensures c.mount.ensures.made
     c.mount.ensures.ledger _

@@ -1,5 +1,4 @@
-use Rattle.ksm_book.proofs.Names.{ap, Done, MovePage, ne_eqb, Ok, option_map, refl, Resettled, same_Some, seen, subst, sym, view_of, ◌∙◌}
-use Rattle.ksm_book.proofs.Shown.{resettles_does}
+use Rattle.ksm_book.proofs.Names.{ap, Done, MovePage, ne_eqb, Ok, option_map, refl, same_Some, seen, sym, view_of, ◌∙◌}
 use Rattle.ksm_book.proofs.Singles.{carried_so, Carries, found_resettled, move_home, move_moved, row_held, lawful}
 use Rattle.ksm_book.proofs.state.State.move_page.Goals as goal
 
@@ -19,10 +18,10 @@ moved_there c =
     let found = row_held c.in-Some.ensures in
     let bytes = same_Some _ _ (sym c.bytes-bytes.ensures ∙ ap (option_map (λ r. r.bytes)) found) in
     move_moved _ _ _ _ _ _ _ c.self.invariant.0.rows_rise found
-    (rw (← c.shape.ensures) c.if-node-shape.false) _ (resettles_does c.in_default-resettle.ensures.resettled.resettles).1.table
+    (rw (← c.shape.ensures) c.if-node-shape.false) _
     (ne_eqb c.in-Some.ensures.row.home c.args.node (λ e. c.if-held-node.false (c.in-Some.ensures.home ∙ e)))
     _ _ c.self.invariant.1
-    (subst (λ bs. Resettled (seen c.self.inside.pages) (seen c.resettle.new.pages) c.self.inside.keeper c.resettle.new.keeper c.in-Some.held.spot.page c.args.node bs) bytes c.in_default-resettle.ensures.resettled)
+    (rw bytes at c.in_default-resettle.ensures.resettled)
     c.set_home.ensures
 
 pub returns : goal.returns

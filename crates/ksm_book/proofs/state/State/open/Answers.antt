@@ -1,9 +1,6 @@
-use Rattle.ksm_book.proofs.Names.{arith, default_knobs, nowhere, PagesView, Shape, sound_opening, []}
+use Rattle.ksm_book.proofs.Names.{arith, sound_opening}
 use Rattle.ksm_book.proofs.Laying.{first_laid}
 use Rattle.ksm_book.proofs.state.State.open.Goals as goal
-
-abbrev opened : Shape → PagesView
-opened sh = record { shape = sh; rows = []; frame = nowhere; dups = []; knobs = default_knobs; next = 0 }
 
 pub invariant_of-result : goal.invariant_of-result
 invariant_of-result c = (

@@ -1,51 +1,44 @@
 use Rattle.ksm_book.proofs.Names.{ap, refl, seen, sym, view_of, ◌∙◌}
 use Rattle.std.proofs.lemmas.Option.{none-some}
 use Rattle.ksm_book.proofs.Pairing.{may_add_to, may_publish, may_sub_from, may_withdraw, pair_leads, pair_may, room, waits_one}
-use Rattle.ksm_book.proofs.RowVisits.{Leads, made_by, meets}
+use Rattle.ksm_book.proofs.RowVisits.{Leads, made_by}
 use Rattle.ksm_book.proofs.state.State.pair.Goals as goal
 
 pub unreachable-requires : goal.unreachable-requires
 unreachable-requires c =
-    let met = meets _ c.self.invariant (ap view_of c.self.view_is) c.requires.row in
-    none-some _ (sym c.in_default.ensures ∙ waits_one _ met refl refl)
+    none-some _ (sym c.in_default.ensures ∙ waits_one _ c.self.invariant (ap view_of c.self.view_is) c.requires.row refl refl)
 
 pub new_place-place-requires : goal.new_place-place-requires
 new_place-place-requires c =
-    record { room = room _ (meets _ c.self.invariant (ap view_of c.self.view_is) c.requires.row) refl refl }
+    record { room = room _ c.self.invariant (ap view_of c.self.view_is) c.requires.row refl refl }
 
 pub pair-requires : goal.pair-requires
 pair-requires c =
-    let met = meets _ c.self.invariant (ap view_of c.self.view_is) c.requires.row in
-    record { first = pair_may _ met c.in-Some.ensures.spot c.new_place-place.ensures }
+    record { first = pair_may _ c.self.invariant (ap view_of c.self.view_is) c.requires.row c.in-Some.ensures.spot c.new_place-place.ensures }
 
 pub clear-requires-clause-may : goal.clear-requires-clause-may
 clear-requires-clause-may c =
-    let met = meets _ c.self.invariant (ap view_of c.self.view_is) c.requires.row in
-    may_withdraw _ met c.in-Some.ensures.spot c.new_place-place.ensures
+    may_withdraw _ c.self.invariant (ap view_of c.self.view_is) c.requires.row c.in-Some.ensures.spot c.new_place-place.ensures
 
 pub publish-requires-clause-may : goal.publish-requires-clause-may
 publish-requires-clause-may c =
-    let met = meets _ c.self.invariant (ap view_of c.self.view_is) c.requires.row in
-    may_publish _ met c.in-Some.ensures.spot c.new_place-place.ensures c.in_ok-frame.ensures.first
+    may_publish _ c.self.invariant (ap view_of c.self.view_is) c.requires.row c.in-Some.ensures.spot c.new_place-place.ensures c.in_ok-frame.ensures.first
     c.has_dup-taken.ensures c.clear.ensures
 
 pub add-requires-clause-may : goal.add-requires-clause-may
 add-requires-clause-may c =
-    let met = meets _ c.self.invariant (ap view_of c.self.view_is) c.requires.row in
-    may_add_to _ met c.in-Some.ensures.spot c.new_place-place.ensures c.in_ok-frame.ensures.first
+    may_add_to _ c.self.invariant (ap view_of c.self.view_is) c.requires.row c.in-Some.ensures.spot c.new_place-place.ensures c.in_ok-frame.ensures.first
     c.has_dup-taken.ensures c.clear.ensures c.publish.ensures
 
 pub sub-requires-clause-may : goal.sub-requires-clause-may
 sub-requires-clause-may c =
-    let met = meets _ c.self.invariant (ap view_of c.self.view_is) c.requires.row in
-    may_sub_from _ met c.in-Some.ensures.spot c.new_place-place.ensures c.in_ok-frame.ensures.first
+    may_sub_from _ c.self.invariant (ap view_of c.self.view_is) c.requires.row c.in-Some.ensures.spot c.new_place-place.ensures c.in_ok-frame.ensures.first
     c.has_dup-taken.ensures c.clear.ensures c.publish.ensures c.in_ok-frame.ensures.second (made_by c.add.ensures)
 
 paired : (c : goal.After-sub)
     → Leads (view_of c.args.self.now) (seen c.pair.new.self) c.sub.new.self c.self.inside.cursor c.self.inside.passes c.args.spot.page
 paired c =
-    let met = meets _ c.self.invariant (ap view_of c.self.view_is) c.requires.row in
-    pair_leads _ met c.in-Some.ensures.spot c.new_place-place.ensures c.in_ok-frame.ensures.first
+    pair_leads _ c.self.invariant (ap view_of c.self.view_is) c.requires.row c.in-Some.ensures.spot c.new_place-place.ensures c.in_ok-frame.ensures.first
     c.has_dup-taken.ensures c.clear.ensures c.publish.ensures c.in_ok-frame.ensures.second (made_by c.add.ensures) (made_by c.sub.ensures)
     _ c.in_ok-frame.ensures.paired
 

@@ -1,9 +1,8 @@
-use Rattle.ksm_book.proofs.Names.{Done, inl, IsSound, Ok, rules, SetRun, sound_after, subst}
-use Rattle.ksm_book.proofs.Laying.{retuned}
+use Rattle.ksm_book.proofs.Names.{arith}
+use Rattle.ksm_book.proofs.Singles.{tuned}
 use Rattle.ksm_book.proofs.state.State.set_run.Goals as goal
 
 pub invariant_of-self : goal.invariant_of-self
-invariant_of-self c = (
-  subst IsSound (search rules) (sound_after _ (SetRun c.args.run) (Ok Done) c.self.invariant.0 (search rules)),
-  rw c.set_knobs.ensures (retuned (inl (rw c.knobs-knobs.ensures)) c.self.invariant.1),
-)
+invariant_of-self c =
+    let s = c.self.invariant.0.knobs in
+    tuned c.self.invariant (rw c.knobs-knobs.ensures at c.set_knobs.ensures) (omega arith) s.pages_to_scan s.use_zero_pages

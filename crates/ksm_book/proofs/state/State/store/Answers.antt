@@ -1,6 +1,5 @@
-use Rattle.ksm_book.proofs.Names.{ap, arith, Done, find_all, is_some, IsCarried, length, Ok, PAGE_WORDS, refl, Resettled, rules, seen, Store, subst, sym, ◌<◌, ◌∙◌, ◌≡◌}
+use Rattle.ksm_book.proofs.Names.{ap, arith, Done, find_all, is_some, IsCarried, length, Ok, PAGE_WORDS, refl, rules, seen, Store, sym, ◌<◌, ◌∙◌, ◌≡◌}
 use Rattle.ksm_book.proofs.Laying.{has_frame, laid_written}
-use Rattle.ksm_book.proofs.Shown.{resettles_does}
 use Rattle.ksm_book.proofs.Singles.{book, carried_so, Carries, found_resettled, own_ready, row_held, lawful, sound_carried, store_copied, store_written}
 use Rattle.ksm_book.proofs.state.State.store.Goals as goal
 
@@ -19,8 +18,7 @@ module _ (c : goal.After-store-2) where
   written : IsCarried (book (seen c.self.inside.pages) c.self.inside.keeper c.self.inside.cursor c.self.inside.passes) (book (seen c.store-2.new.self) c.write.new.keeper c.self.inside.cursor c.self.inside.passes) (Store c.in-Some.held.spot.page c.args.bytes.now) (Ok Done)
   written =
       store_written (seen c.self.inside.pages) _ _ _ _ _ _ c.in-Some.ensures.row
-      (row_held c.in-Some.ensures) (rw c.write.ensures.wrote)
-      _ _ c.store-2.ensures (sym c.in-Some.ensures.shared ∙ c.if-held.false)
+      (row_held c.in-Some.ensures) _ _ c.store-2.ensures (sym c.in-Some.ensures.shared ∙ c.if-held.false)
       (grind (arith, c.in-Some.ensures.spot, c.in-Some.ensures.frame, c.known_frame-frame.ensures)) c.write.ensures.wrote
 
 pub returns-clause-carried : goal.returns-clause-carried
@@ -47,9 +45,8 @@ copied : (c : goal.After-store) → Carries (seen c.self.inside.pages) c.self.in
     c.resettle.new.keeper c.self.inside.cursor c.self.inside.passes (Store c.in-Some.held.spot.page c.args.bytes.now) (Ok Done)
 copied c =
     store_copied _ _ _ _ _ _ _ c.in-Some.ensures.row
-    (row_held c.in-Some.ensures) (resettles_does c.in_default-resettle.ensures.resettled.resettles).1.table
-    _ _ c.self.invariant.1 c.self.invariant.0.rows_rise
-    (subst (λ n. Resettled (seen c.self.inside.pages) (seen c.resettle.new.pages) c.self.inside.keeper c.resettle.new.keeper c.in-Some.held.spot.page n c.args.bytes.now) c.in-Some.ensures.home c.in_default-resettle.ensures.resettled)
+    (row_held c.in-Some.ensures) _ _ c.self.invariant.1 c.self.invariant.0.rows_rise
+    (rw c.in-Some.ensures.home at c.in_default-resettle.ensures.resettled)
     c.store.ensures (sym c.in-Some.ensures.shared ∙ c.if-held.true)
 
 pub returns-then-held-clause-carried : goal.returns-then-held-clause-carried
