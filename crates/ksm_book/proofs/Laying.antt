@@ -13,10 +13,6 @@ module _ {sh : Shape} {across : ℕ} (v : KeeperView) {rows : List Row} {frame :
   pub kept : (w : KeeperView) (hand' : Option ℕ) → Keeps v w hand hand' → Placed sh across v.ledger rows frame dups hand → Placed sh across w.ledger rows frame dups hand'
   kept w hand' keeps p = rw (← same) (keeps across rows frame dups (rw same p))
 
--- a keeper of the same table has its shape
-pub shape_same : (sh : Shape) (v w : KeeperView) → v.table.shape ≡ sh → w.table ≡ v.table → w.table.shape ≡ sh
-shape_same sh v w same e = rw e same
-
 -- the frame taken serves a row with its bytes on its home
 module _ {sh : Shape} {across : ℕ} {v w : KeeperView} {rows : List Row} {frame : Frames} {dups : List DupRow} (same : v.table.shape ≡ sh) {node : ℕ} {bytes : List ℕ} {g : ℕ} (took : HasNewFrame v w node bytes g) (p : Placed sh across v.ledger rows frame dups None) where
   in_new_hand : Placed sh across w.ledger rows frame dups (Some g)

@@ -18,11 +18,11 @@ use native.Mathlib.Decide.{ℕ_discrete}
 abbrev pub Serves : Shape → Ledger → List DupRow → Row → ℕ → Type 0
 Serves sh k dups r f = RowFits sh k r f × All (Agrees k r f) dups
 
--- a row that is served is so still where its state stays and its frame, if it has one, serves it still
-pub served_as : (sh : Shape) (k k' : Ledger) (dups dups' : List DupRow) (r r' : Row) (o : Option ℕ) → r'.state ≡ r.state
-    → ((f : ℕ) → o ≡ Some f → Serves sh k dups r f → Serves sh k' dups' r' f) → IsServed sh k dups r o → IsServed sh k' dups' r' o
-served_as sh k k' dups dups' r r' None same on h = ap zero_state same ∙ h
-served_as sh k k' dups dups' r r' (Some f) same on h = on f refl h
+-- a row that is served is so still where its frame, if it has one, serves it still
+served_as : (sh : Shape) (k k' : Ledger) (dups dups' : List DupRow) (r : Row) (o : Option ℕ) → ((f : ℕ) → o ≡ Some f → Serves sh k dups r f → Serves sh k' dups' r f)
+    → IsServed sh k dups r o → IsServed sh k' dups' r o
+served_as sh k k' dups dups' r None on h = h
+served_as sh k k' dups dups' r (Some f) on h = on f refl h
 
 -- a row that is not Zero and is served has a frame that serves it
 pub framed : (sh : Shape) (k : Ledger) (dups : List DupRow) (r : Row) (o : Option ℕ) → zero_state r.state ≡ false → IsServed sh k dups r o
@@ -108,7 +108,7 @@ module _ {sh : Shape} {across : ℕ} {k : Ledger} {rows : List Row} {frame : Fra
         widths = p.widths;
         lives = p.lives;
         each_row = λ i x lt. let r : Row = get_or rows i x in
-            served_as sh k named dups (with_dup d dups) r r (frame r.page) refl (λ f is m. (
+            served_as sh k named dups (with_dup d dups) r (frame r.page) (λ f is m. (
               grind arith,
               all_with_dup (Agrees named r f) d dups (grind (arith, get_or-set_same, uses_some g frame rows i x lt))
                   (λ n y l. grind (arith, get_or-set_other)),
@@ -188,7 +188,7 @@ module _ {sh : Shape} {across : ℕ} {k : Ledger} {rows : List Row} {frame : Fra
         let fr = holding (frame_at k g) (c row).bytes in
         let here = turned_note fr refl in
         let q = turned fr refl wide (grind (arith, one)) (grind arith) (grind arith) in
-        back c keeps q (grind (arith, fits), own_agrees q _ g (grind arith) (rw here own))
+        back c keeps q (grind (arith, fits), own_agrees q (c row) g (grind arith) (rw here own))
 
     -- rows and dups lie lawfully where a place names the frame of a row, which becomes the first item of a new dup
     pub published : (d : DupRow) → d.place < frames_of sh → (c : Row → Row) → ((r : Row) → (c r).page ≡ r.page) → (c row).state ≡ Merged d.number → (c row).bytes ≡ row.bytes → d.bytes ≡ row.bytes → (across ≡ 0 → row.home ≡ d.tree) → shared_state row.state ≡ false
@@ -253,7 +253,7 @@ module _ {sh : Shape} {across : ℕ} {k : Ledger} {rows : List Row} {frame : Fra
     lives = p.lives;
     each_row = λ i r0 lt.
         let r = get_or rows i r0 in
-        served_as sh k _ _ _ r r _ refl
+        served_as sh k _ _ _ r _
         (λ f is both. (
           grind arith,
           staying (Agrees k r f) (Agrees (emptied k q) r f) (grind (arith, named_off)) both.1,

@@ -91,10 +91,7 @@ pub use Rattle.ksm_tree.specs.declared.dup.Best.{Best}
 pub use Rattle.std.proofs.Common.{ap, append-nil, append_assoc, arith, Bool, cond, drop, eq-eqb, Err, false, get_or, get_or-set_other, get_or-set_same, inl, inr, IsSome, length, length-set, List, map}
 pub use Rattle.std.proofs.Common.{None, Ok, Option, refl, replicate, rules, set, slice_index_or, Some, subst, suc, suc-mul, sym, take, true, true≢false, zero, ℕ, [], ◌%◌, ◌*◌, ◌++◌, ◌+◌, ◌-◌, ◌/◌}
 pub use Rattle.std.proofs.Common.{◌<◌, ◌^◌, ◌∙◌, ◌∷◌, ◌≡◌, ◌≢◌, ◌≤◌, ◌⊎◌}
-pub use Rattle.std.proofs.Math.Bool.{and-true}
 pub use Rattle.std.proofs.Math.Dec.{eqb}
-pub use Rattle.std.proofs.Math.ListN.{drop_of_length-le}
-pub use Rattle.std.proofs.Math.Nat.{mul_comm}
 pub use Rattle.std.proofs.Math.Seq.{take-append_seam}
 pub use Rattle.std.proofs.lemmas.Bool.{and_from, and_parts, and_right, both_ways, cases_Bool, cases_eq, cases_lt, cond-false, cond-true, cond_both, eqb-true, lt-ltb, ltb-true, ne_eqb, not-false}
 pub use Rattle.std.proofs.lemmas.Bool.{not-true, not_from_false, or_cases, or_parts}
@@ -110,7 +107,6 @@ pub use Rattle.std.proofs.lemmas.List.Sums.{count_by-le-length, length-filter, l
 pub use Rattle.std.proofs.lemmas.Map.Keys.{IsDistinct-from_apart}
 pub use Rattle.std.proofs.lemmas.Map.Steps.{length-le_from_distinct_below}
 pub use Rattle.std.proofs.lemmas.Map.Views.{any-filter_same, Contains-from_any}
-pub use Rattle.std.proofs.lemmas.Nat.{div-mul-add}
 pub use Rattle.std.proofs.lemmas.Option.{get_or_from_slice_get, same_Some, slice_get-get_or, slice_get-map, slice_get_past, slice_get_within}
 pub use Rattle.std.proofs.lemmas.Slice.Eq.{bytes_eq-Decides}
 pub use Rattle.std.specs.List.{list_all, list_any, range_with_len, sum_by}

@@ -37,13 +37,8 @@ own_count f frame rows all =
 
 all_own : (P : ℕ → Type 0) (rows : List Row) (frame : Frames) → All (λ r. shared_state r.state ≡ false → P (frame_number (frame r.page))) rows → All P (own_frames rows frame)
 all_own P rows frame all =
-    let test : Row → Bool = λ r. not (shared_state r.state) in
-    All-map P (λ r. frame_number (frame r.page)) (filter test rows)
-    (grind (
-      arith,
-      filter_passes,
-      All-filter test (λ r. shared_state r.state ≡ false → P (frame_number (frame r.page))) rows all,
-    ))
+    All-map P (λ r. frame_number (frame r.page)) _
+    (grind (arith, filter_passes, All-filter (λ r. not (shared_state r.state)) (λ r. shared_state r.state ≡ false → P (frame_number (frame r.page))) rows all))
 
 module _ (b : BookState) (k : Ledger) (s : IsSound b) (frame : Frames) (p : Placed b.shape b.knobs.merge_across_nodes k b.rows frame b.dups None) where
   abbrev own : List ℕ
@@ -72,12 +67,7 @@ module _ (b : BookState) (k : Ledger) (s : IsSound b) (frame : Frames) (p : Plac
   Live d = Lives k b.dups b.shape b.rows frame d
 
   live_kept : All Live (filter (has_items b.rows) b.dups)
-  live_kept =
-      grind (
-        arith,
-        filter_passes,
-        All-filter (has_items b.rows) (λ d. has_items b.rows d ≡ true → Live d) b.dups dup_lives,
-      )
+  live_kept = grind (arith, filter_passes, All-filter (has_items b.rows) (λ d. has_items b.rows d ≡ true → Live d) b.dups dup_lives)
 
   shown_kinds : All (λ f. (frame_at k f).kind ≡ Stable) shown
   shown_kinds = All-map (λ f. (frame_at k f).kind ≡ Stable) _ _ (λ i d lt. (live_kept i d lt).kind)

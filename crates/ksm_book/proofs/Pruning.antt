@@ -18,10 +18,6 @@ stale_vacant rows dups d rise found =
 pub none_stale : (rows : List Row) (dups : List DupRow) → find (is_stale rows) dups ≡ None → filter (has_items rows) dups ≡ dups
 none_stale rows dups none = filter_all _ _ (λ k x lt. grind (arith, find_none _ _ none k x lt))
 
--- a stale dup less is no dup with items less
-pub live_elsewhere : (rows : List Row) (place : ℕ) (dups : List DupRow) → IsVacant place rows dups → filter (has_items rows) (filter (elsewhere place) dups) ≡ filter (has_items rows) dups
-live_elsewhere rows place dups vacant = inside_of _ _ dups (λ k d lt. grind (arith, vacant k d))
-
 -- the first stale dup is the first to go
 pub first_stale : (rows : List Row) (dups : List DupRow) (d : DupRow) → InPlaceOrder dups → find (is_stale rows) dups ≡ Some d
     → filter (is_stale rows) dups ≡ d ∷ filter (is_stale rows) (filter (elsewhere d.place) dups)
@@ -108,7 +104,7 @@ module _ {p q : PagesView} {k l : KeeperView} {count : ℕ} (h : Drops p q k l c
   pub drops_more : (q' : PagesView) (l' : KeeperView) → l' ≡ did l (Withdraw place) 0 → q' ≡ record q { dups = filter (elsewhere place) q.dups } → Drops p q' k l' (count + 1)
   drops_more q' l' is goes = record {
     pages = grind (arith, h.pages);
-    live = grind (arith, live_elsewhere, h.live, drop_vacant);
+    live = grind (arith, h.live, inside_of (has_items p.rows) (elsewhere place) q.dups (λ n d lt. grind (arith, drop_vacant n d lt, h.pages)));
     gone = h.gone ++ stale.0 ∷ [];
     all = grind (arith, next, append_assoc);
     many = grind (arith, length-append);

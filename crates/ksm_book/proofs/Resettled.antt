@@ -4,7 +4,7 @@ use Rattle.ksm_book.proofs.Names.{on_its_own, Option, PagesView, Placed, Provide
 use Rattle.ksm_base.specs.declared.row.PageState.TheVariants.{Private}
 use Rattle.ksm_book.proofs.Shown.{provides_does}
 use Rattle.ksm_book.proofs.Keeping.{left_placed, left_spends, may_leave, searched_placed, searched_spends}
-use Rattle.ksm_book.proofs.Laying.{laid_kept, moved_there, shape_same}
+use Rattle.ksm_book.proofs.Laying.{laid_kept, moved_there}
 
 -- a row at home on the node, with these bytes and a frame of its own
 abbrev pub housed : ℕ → List ℕ → Row → Row
@@ -19,7 +19,7 @@ module _ {p : PagesView} {k w : KeeperView} (h : IsLaid p k) (rise : InPageOrder
   houses = grind arith
 
   same : w.table.shape ≡ p.shape
-  same = grind (arith, shape_same, provides_does)
+  same = rw (provides_does provides).1.table h.same
 
   -- once the page lies on the frame taken, the one that it had is in the hand
   in_hand : {change : Row → Row} → Houses change page node bytes p.rows → Placed p.shape across w.ledger (change_row page change p.rows) (lies_on page (Some g) p.frame) p.dups (p.frame page)

@@ -6,9 +6,9 @@ use Rattle.ksm_book.proofs.Names.{find_all, find_none, find_passes, frame_at, Fr
 use Rattle.ksm_book.proofs.Names.{IsLoose, IsVacant, item_count, KeeperView, leaving, Ledger, length, lies_on, Life, life_or, List, list_any, MakesSteps, May, MayLeave, Merged, merged_into}
 use Rattle.ksm_book.proofs.Names.{merged_state, named_at, None, none_found, Note, Option, PageState, PagesView, place_frame, Placed, Private, Publish, refl, Row, row_at, RowFits, set-get_or, settled}
 use Rattle.ksm_book.proofs.Names.{Shape, shared_state, shown, Some, spent, spent_on, Stable, suc, sum_by-le, sym, true, with_dup, with_frame, Withdraw, withdrawing, ℕ, [], ◌*◌, ◌+◌, ◌-◌, ◌<◌, ◌==◌}
-use Rattle.ksm_book.proofs.Names.{◌∙◌, ◌∷◌, ◌≡◌, ◌≢◌, ◌≤◌}
+use Rattle.ksm_book.proofs.Names.{◌∙◌, ◌∷◌, ◌≡◌, ◌≤◌}
 use Rattle.ksm_book.proofs.Moves.{base_is_items, emptied, joined, published, Serves, stale_is_loose, withdrawn}
-use Rattle.ksm_book.proofs.Laying.{laid_rows, LodgesAs, serves_at, shape_same}
+use Rattle.ksm_book.proofs.Laying.{laid_rows, LodgesAs, serves_at}
 use Rattle.ksm_book.proofs.Keeping.{added_placed, added_spends, left_placed, left_spends, may_leave, spent_set}
 use Rattle.ksm_book.proofs.Made.{none_made, parts_made, step_made}
 
@@ -49,7 +49,7 @@ module _ {p : PagesView} {k : KeeperView} (h : IsLaid p k) (rise : InPageOrder p
 
     -- once a reference came to the item's frame, the frame of the page that joins, if it has one, may be left
     pub may_part : (w : KeeperView) → MakesSteps k w (Add g ∷ []) → IfSome (p.frame page) (MayLeave w)
-    may_part w comes = may_leave w (shape_same _ k w h.same (rw comes.after)) _ (joined_hand w comes)
+    may_part w comes = may_leave w (rw comes.after h.same) _ (joined_hand w comes)
 
     -- rows and dups lie lawfully once a page is an item, lies on the item's frame and has left its own
     pub laid_joined : (u : KeeperView) → MakesSteps k u (Add g ∷ leaving (p.frame page))
@@ -60,14 +60,10 @@ module _ {p : PagesView} {k : KeeperView} (h : IsLaid p k) (rise : InPageOrder p
         (left_placed _ parts.2 (joined_hand _ parts.1))
 
 -- a place where no dup with items stands may be named anew, or not at all
-module _ (k : Ledger) where
-  loose_named : (o : Option Life) → ((frame_at k (life_or o).frame).generation ≡ (life_or o).generation
-      → ¬ ((frame_at k (life_or o).frame).kind ≡ Stable)) → IsLoose k o
-  loose_named None h = tt
-  loose_named (Some life) h = h
-
-has_none : (place : ℕ) (dups : List DupRow) → list_any (λ d. d.place == place) dups ≡ false → All (λ d. d.place ≢ place) dups
-has_none place dups e k x lt same = grind (arith, find_none (λ d. d.place == place) dups (none_found _ dups e) k x lt)
+loose_named : (k : Ledger) (o : Option Life) → ((frame_at k (life_or o).frame).generation ≡ (life_or o).generation
+    → ¬ ((frame_at k (life_or o).frame).kind ≡ Stable)) → IsLoose k o
+loose_named k None h = tt
+loose_named k (Some life) h = h
 
 -- a place where no dup with items stands names no frame that is Stable in the life named
 pub vacant_loose : {sh : Shape} {across : ℕ} {k : Ledger} {rows : List Row} {frame : Frames} {dups : List DupRow} (place : ℕ)
@@ -94,7 +90,7 @@ module _ {p : PagesView} {k : KeeperView} (w : KeeperView) (h : IsLaid p k) (pla
           → w.ledger ≡ emptied k.ledger place
       by true is m = rw (step_made m).1
       by false is m = rw (none_made m)
-          (grind (arith, h.placed.empty place (has_none _ _ is), set-get_or k.ledger.places place None))
+          (grind (arith, h.placed.empty place (grind (arith, find_none (λ d. d.place == place) p.dups (none_found (λ d. d.place == place) p.dups is))), set-get_or k.ledger.places place None))
 
 -- pages lie lawfully where a place names nothing any more and the dup that stood there is gone
 pub laid_cleared : {p : PagesView} {k : KeeperView} (w : KeeperView) {place : ℕ} → IsLaid p k → place < frames_of p.shape → w.table ≡ k.table
@@ -102,7 +98,7 @@ pub laid_cleared : {p : PagesView} {k : KeeperView} (w : KeeperView) {place : �
     → IsLaid (record p { dups = filter (elsewhere place) p.dups }) w
 laid_cleared {p} {k} w h inside e is = record {
   small = h.small;
-  same = shape_same _ k w h.same e;
+  same = rw e h.same;
   placed = rw is (withdrawn _ inside h.placed);
   spent = omega (arith, ap spent is);
 }

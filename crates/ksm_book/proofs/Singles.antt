@@ -131,11 +131,8 @@ module _ {p : PagesView} {k : KeeperView} (h : IsLaid p k) (rise : InPageOrder p
   pub drop_gone : (cursor : Option GuestPage) (passes : ℕ) (q : PagesView) (l : KeeperView) → q ≡ record p { rows = without_page page p.rows; frame = lies_on page None p.frame } → MakesSteps k l (leaving left)
       → Carries p k q l cursor passes (Drop page) (Ok Done)
   drop_gone cursor passes q l goes made =
-      let leaves = rw was at made in (
-        grind (arith, made.after),
-        rw goes
-            (laid_rows h l (grind (arith, made.after)) (left_spends _ leaves) (left_placed _ leaves (removed _ row rise found h.placed))),
-      )
+      let leaves = rw was at made in
+      (grind arith, rw goes (laid_rows h l (rw made.after) (left_spends _ leaves) (left_placed _ leaves (removed _ row rise found h.placed))))
 
 -- ---------------------------------------------------------------- a page that comes
 

@@ -16,16 +16,7 @@ overflow_add-count c = omega (arith, drop_few c.stale.invariant (sym c.in-Some.i
 
 pub stale-smaller : goal.stale-smaller
 stale-smaller c =
-    let fewer = drop_fewer c.stale.invariant (sym c.in-Some.is ∙ c.stale_place.ensures) in
-    let dups = ap (λ (p : PagesView). count_by (is_stale c.args.pages.now.rows) p.dups) c.drop_stale.ensures in
-    omega arith
+    grind (arith, c.drop_stale.ensures, drop_fewer c.stale.invariant (sym c.in-Some.is ∙ c.stale_place.ensures))
 
 pub returns : goal.returns
-returns c =
-    let done = dropped c.stale.invariant (sym c.in_default.is ∙ c.stale_place.ensures) in
-    record {
-      pages = done.0;
-      count = done.1;
-      laid = grind arith;
-      performs = done.2;
-    }
+returns c = let done = dropped c.stale.invariant (sym c.in_default.is ∙ c.stale_place.ensures) in grind arith
