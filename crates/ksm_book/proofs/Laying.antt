@@ -1,12 +1,11 @@
 -- What becomes of pages that lie lawfully, where the keeper makes its steps.
 use Rattle.ksm_book.proofs.Names.{All, arith, blank, cases_lt, change_row, cond_both, default_knobs, DupRow, false, find_all, first_ledger, frame_at, Frames, get_or, get_or_past, GuestPage}
-use Rattle.ksm_book.proofs.Names.{HasNewFrame, holding, Houses, inl, InPageOrder, IsLaid, IsServed, IsShape, KeeperView, Keeps, Knobs, Ledger, length, length-replicate, lies_on, List, map, None}
-use Rattle.ksm_book.proofs.Names.{nowhere, Option, PAGE_WORDS, PagesView, Placed, refl, Row, row_at, Shape, shared_state, Some, spent, subst, with_frame, with_row, ℕ, [], ◌≡◌, ◌≤◌, ◌⊎◌}
+use Rattle.ksm_book.proofs.Names.{HasNewFrame, Houses, inl, InPageOrder, IsLaid, IsServed, IsShape, KeeperView, Keeps, Knobs, Ledger, length-replicate, lies_on, List, map, None, nowhere, Option}
+use Rattle.ksm_book.proofs.Names.{PagesView, Placed, refl, Row, row_at, Shape, shared_state, Some, spent, subst, with_row, ℕ, [], ◌≡◌, ◌≤◌, ◌⊎◌}
 use Rattle.ksm_base.specs.declared.row.PageState.TheVariants.{Private as OwnPage}
 use Rattle.ksm_book.proofs.ByPage.{found_page, row_of_page}
 use Rattle.std.proofs.lemmas.List.{get_or-replicate}
-use Rattle.ksm_book.proofs.Keeping.{spent_kept}
-use Rattle.ksm_book.proofs.Moves.{framed, inserted, remapped, Serves, swapped, written_in}
+use Rattle.ksm_book.proofs.Moves.{framed, inserted, remapped, Serves, swapped}
 
 module _ {sh : Shape} {across : ℕ} (v : KeeperView) {rows : List Row} {frame : Frames} {dups : List DupRow} {hand : Option ℕ} (same : v.table.shape ≡ sh) where
   -- a placement that is lawful before a call is lawful after it, where the call keeps every lawful placement
@@ -77,15 +76,6 @@ module _ {p : PagesView} {k : KeeperView} (h : IsLaid p k) where
   -- a row that is not shared lies on a frame that serves it
   pub has_frame : {page : GuestPage} {row : Row} → row_at page p.rows ≡ Some row → shared_state row.state ≡ false → (f : ℕ) × (p.frame page ≡ Some f) × Serves sh k.ledger p.dups row f
   has_frame {row = row} found alone = framed sh _ _ row _ (grind arith) (served_at h.placed _ row found)
-
-  -- pages lie lawfully where the row of a page with a frame of its own gets new bytes, and the frame holds them
-  pub laid_written : (page : GuestPage) (row : Row) (c : Row → Row) (w : KeeperView) (g : ℕ) → InPageOrder p.rows → row_at page p.rows ≡ Some row → ((r : Row) → (c r).page ≡ r.page) → p.frame page ≡ Some g
-      → w.table ≡ k.table → w.ledger ≡ with_frame k.ledger g (holding (frame_at k.ledger g) (c row).bytes) → length (c row).bytes ≡ PAGE_WORDS → shared_state row.state ≡ false → (c row).home ≡ row.home → (c row).state ≡ OwnPage
-      → IsLaid (record p { rows = change_row page c p.rows }) w
-  laid_written page row c w g rise found keeps lies e ledger wide alone home is =
-      let served = serves_at h.placed found lies in
-      laid_rows w e (grind (arith, spent_kept))
-      (rw ledger (written_in h.placed _ row rise found g lies (grind arith) c keeps wide is home alone))
 
 -- pages lie lawfully with other knobs, where merge_across_nodes stays as it is or there are no dups
 pub retuned : {p : PagesView} {tuned : Knobs} {k : KeeperView} → (tuned.merge_across_nodes ≡ p.knobs.merge_across_nodes) ⊎ (p.dups ≡ []) → IsLaid p k → IsLaid (record p { knobs = tuned }) k

@@ -3,12 +3,11 @@ use Rattle.ksm_book.proofs.Names.{Agrees, All, All-filter, All-map, all_with_dup
 use Rattle.ksm_book.proofs.Names.{DupFits, DupRow, elsewhere, eq-eqb, false, filter, filter_passes, find_all, find_none, FitsBase, frame_at, Frames, frames_of, GenerationFits, get_or}
 use Rattle.ksm_book.proofs.Names.{get_or-set_other, get_or-set_same, GuestPage, holding, in_hand, inl, InPageOrder, inr, is_frame, IsInLife, IsServed, item_count, Ledger, length, length-set, lies_on}
 use Rattle.ksm_book.proofs.Names.{List, lt-ltb, map, Merged, merged_into, named_at, nat_lt, None, not, Note, Option, ordered_change, PAGE_WORDS, place_frame, Placed, Private, refl, Row, row_at}
-use Rattle.ksm_book.proofs.Names.{RowFits, same_page, same_page_refl, set, Shape, shared_state, shown, Some, Stable, suc, sym, true, uses, with_dup, with_frame, with_row, without_page, Zero}
+use Rattle.ksm_book.proofs.Names.{RowFits, same_page, same_page_refl, set, Shape, shared_state, shown, Some, Stable, stored, suc, sym, true, uses, with_dup, with_frame, with_row, without_page, Zero}
 use Rattle.ksm_book.proofs.Names.{zero_state, ℕ, ◌+◌, ◌/◌, ◌<◌, ◌∙◌, ◌∷◌, ◌≡◌, ◌≢◌}
 use Rattle.ksm_book.proofs.Noted.{at_it, at_other, noted}
 use Rattle.ksm_book.proofs.ByPage.{all_changed_row, at_changed, change_twice, found_page, lies_again, lies_still, row_of_page, uses_changed, uses_come, uses_gone, uses_mapped, uses_some}
 use Rattle.frame_core.specs.Ledger.{named_anew}
-use Rattle.ksm_base.specs.declared.row.PageState.TheVariants.{Private as OwnPage}
 use Rattle.ksm_base.proofs.Changes.{contains_filter}
 use Rattle.std.proofs.lemmas.List.Elements.{Contains-get_or}
 use mathlib.Core.Logic.{dite}
@@ -182,13 +181,13 @@ module _ {sh : Shape} {across : ℕ} {k : Ledger} {rows : List Row} {frame : Fra
         grind (arith, same_page_refl)
 
     -- rows and dups lie lawfully where a row that is not shared gets new bytes, and its frame holds them
-    pub written_in : (c : Row → Row) → ((r : Row) → (c r).page ≡ r.page) → length (c row).bytes ≡ PAGE_WORDS → (c row).state ≡ OwnPage → (c row).home ≡ row.home → shared_state row.state ≡ false
-        → Placed sh across (with_frame k g (holding (frame_at k g) (c row).bytes)) (change_row page c rows) frame dups None
-    written_in c keeps wide is home was =
-        let fr = holding (frame_at k g) (c row).bytes in
+    pub written_in : (bytes : List ℕ) → length bytes ≡ PAGE_WORDS → shared_state row.state ≡ false
+        → Placed sh across (with_frame k g (holding (frame_at k g) bytes)) (change_row page (stored bytes) rows) frame dups None
+    written_in bytes wide was =
+        let fr = holding (frame_at k g) bytes in
         let here = turned_note fr refl in
         let q = turned fr refl wide (grind (arith, one)) (grind arith) (grind arith) in
-        back c keeps q (grind (arith, fits), own_agrees q (c row) g (grind arith) (rw here own))
+        back (stored bytes) (λ r. refl) q (grind (arith, fits), own_agrees q (stored bytes row) g (grind arith) (rw here own))
 
     -- rows and dups lie lawfully where a place names the frame of a row, which becomes the first item of a new dup
     pub published : (d : DupRow) → d.place < frames_of sh → (c : Row → Row) → ((r : Row) → (c r).page ≡ r.page) → (c row).state ≡ Merged d.number → (c row).bytes ≡ row.bytes → d.bytes ≡ row.bytes → (across ≡ 0 → row.home ≡ d.tree) → shared_state row.state ≡ false

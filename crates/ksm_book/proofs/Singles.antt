@@ -1,18 +1,18 @@
 -- The commands on single pages, and on one dup, carried out.
 use Rattle.ksm_book.proofs.Names.{absent_parts, All, Answer, ap, arith, BookState, BookValue, BookView, change_row, comes_before, Command, Done, Drop, DupRow, Err, false, Fault, filter, filter_passes}
-use Rattle.ksm_book.proofs.Names.{find_passes, find_put, FindsNone, frame_at, frames_of, fresh_row, GuestPage, HasNewFrame, HasRemounted, Held, Houses, IfSome, if◌then◌else◌, inl, InPageOrder}
-use Rattle.ksm_book.proofs.Names.{is_some, IsCarried, IsHeld, IsLaid, IsReadable, IsSound, IsWritable, KeeperView, leaving, length, lies_on, List, live_dup_at, lying, MakesSteps, map_fixed, MayLeave}
-use Rattle.ksm_book.proofs.Names.{MayMove, MoveDup, MovePage, nat_le, NoFrame, None, Ok, on_its_own, Option, ordered_with, PAGE_WORDS, pages_ordered, PagesView, Provides, puts, refl, Register}
-use Rattle.ksm_book.proofs.Names.{Resettled, Resettles, Row, row_at, same_page, same_page_refl, shared_state, Some, sound_after, state_of, stepped, Store, stored, true, view_of, with_row}
-use Rattle.ksm_book.proofs.Names.{without_between, without_page, ℕ, [], ◌<◌, ◌==◌, ◌∙◌, ◌∷◌, ◌≡◌, ◌≤◌}
+use Rattle.ksm_book.proofs.Names.{find_passes, find_put, FindsNone, frame_at, frames_of, fresh_row, GuestPage, HasNewFrame, HasRemounted, Held, holding, Houses, IfSome, if◌then◌else◌, inl}
+use Rattle.ksm_book.proofs.Names.{InPageOrder, is_some, IsCarried, IsHeld, IsLaid, IsReadable, IsSound, IsWritable, KeeperView, leaving, length, lies_on, List, live_dup_at, lying, MakesSteps}
+use Rattle.ksm_book.proofs.Names.{map_fixed, MayLeave, MayMove, MoveDup, MovePage, nat_le, NoFrame, None, Ok, on_its_own, Option, ordered_with, PAGE_WORDS, pages_ordered, PagesView, Provides, puts}
+use Rattle.ksm_book.proofs.Names.{refl, Register, Resettled, Resettles, Row, row_at, same_page, same_page_refl, shared_state, Some, sound_after, state_of, stepped, Store, stored, true, view_of}
+use Rattle.ksm_book.proofs.Names.{with_frame, with_row, without_between, without_page, ℕ, [], ◌<◌, ◌==◌, ◌∙◌, ◌∷◌, ◌≡◌, ◌≤◌}
 use Rattle.ksm_base.specs.declared.row.PageState.TheVariants.{Private}
 use Rattle.ksm_base.proofs.SoundEdits.{sound_settings}
 use Rattle.ksm_book.proofs.ByPage.{at_changed, change_twice, found_page, lies_again, lies_still, row_of_page}
 use Rattle.ksm_book.proofs.Laying.{come_there, laid_rows, retuned, serves_at}
-use Rattle.ksm_book.proofs.Keeping.{left_placed, left_spends, may_leave, searched_spends}
+use Rattle.ksm_book.proofs.Keeping.{left_placed, left_spends, may_leave, spent_kept}
 use Rattle.ksm_book.proofs.Resettled.{turned}
 use Rattle.ksm_book.proofs.Shown.{provides_does}
-use Rattle.ksm_book.proofs.Moves.{removed}
+use Rattle.ksm_book.proofs.Moves.{removed, written_in}
 
 -- the pages, their keeper, the cursor and the passes as a book
 abbrev pub book : PagesView → KeeperView → Option GuestPage → ℕ → BookView
@@ -82,17 +82,22 @@ found_resettled r found = grind (arith, r.pages, at_changed)
 
 -- ---------------------------------------------------------------- a store
 
-module _ (p : PagesView) (k l : KeeperView) (cursor : Option GuestPage) (passes : ℕ) (page : GuestPage) (bytes : List ℕ) (row : Row) (found : row_at page p.rows ≡ Some row) where
-  -- `Store` is carried out where the bytes are stored to the page's own frame, and its row tells them
-  pub store_written : (q : PagesView) (g : ℕ) → q ≡ record p { rows = change_row page (stored bytes) p.rows } → shared_state row.state ≡ false → p.frame page ≡ Some g → l ≡ stepped k (puts g 0 bytes)
-      → IsCarried (book p k cursor passes) (book q l cursor passes) (Store page bytes) (Ok Done)
-  store_written q g goes alone lies wrote = grind (arith, found_page)
+module _ {p : PagesView} {k l : KeeperView} {cursor : Option GuestPage} {passes : ℕ} {page : GuestPage} {bytes : List ℕ} {row : Row}
+    (h : IsLaid p k) (rise : InPageOrder p.rows) (found : row_at page p.rows ≡ Some row) where
+  -- `Store` is carried out, and all lies lawfully, where the bytes are stored to the page's own frame, and its row tells them
+  pub store_written : {q : PagesView} (g : ℕ) → q ≡ record p { rows = change_row page (stored bytes) p.rows } → shared_state row.state ≡ false → p.frame page ≡ Some g → l ≡ stepped k (puts g 0 bytes)
+      → l.ledger ≡ with_frame k.ledger g (holding (frame_at k.ledger g) bytes) → length bytes ≡ PAGE_WORDS → Carries p k q l cursor passes (Store page bytes) (Ok Done)
+  store_written g goes alone lies wrote ledger wide =
+      let served = serves_at h.placed found lies in (
+        grind (arith, found_page),
+        rw goes (laid_rows h l (rw wrote) (grind (arith, spent_kept))
+            (rw ledger (written_in h.placed _ row rise found g lies (grind arith) bytes wide alone))),
+      )
 
   -- `Store` is carried out, and all lies lawfully, where a shared page is resettled with the bytes, as its row tells
-  pub store_copied : (m q : PagesView) → IsLaid p k → InPageOrder p.rows → Resettled p m k l page row.home bytes
-      → q ≡ record m { rows = change_row page (stored bytes) m.rows } → shared_state row.state ≡ true
+  pub store_copied : {m q : PagesView} → Resettled p m k l page row.home bytes → q ≡ record m { rows = change_row page (stored bytes) m.rows } → shared_state row.state ≡ true
       → Carries p k q l cursor passes (Store page bytes) (Ok Done)
-  store_copied m q h rise r goes shared =
+  store_copied r goes shared =
       grind (arith, settled_then h rise found r _ (stored bytes) goes (λ x. refl) refl (refl, refl, refl))
 
 -- ---------------------------------------------------------------- a move to another node
@@ -101,23 +106,19 @@ module _ (p : PagesView) (k l : KeeperView) (cursor : Option GuestPage) (passes 
 pub change_still : (page : GuestPage) (f : Row → Row) (rows : List Row) → All (λ r. same_page r.page page ≡ true → f r ≡ r) rows → change_row page f rows ≡ rows
 change_still page f rows still = grind (arith, map_fixed)
 
-module _ (p : PagesView) (k : KeeperView) (cursor : Option GuestPage) (passes : ℕ) (page : GuestPage) (node : ℕ) (row : Row) (rise : InPageOrder p.rows) (found : row_at page p.rows ≡ Some row) (less : node < p.shape.nodes) where
-  there : nat_le p.shape.nodes node ≡ false
-  there = grind (arith, less)
-
+module _ {p : PagesView} {k : KeeperView} {cursor : Option GuestPage} {passes : ℕ} {page : GuestPage} {node : ℕ} {row : Row} (rise : InPageOrder p.rows) (found : row_at page p.rows ≡ Some row) (less : node < p.shape.nodes) where
   -- `MovePage` to the node where the page is at home is carried out with nothing changed
   pub move_home : row.home ≡ node → IsCarried (book p k cursor passes) (book p k cursor passes) (MovePage page node) (Ok Done)
   move_home same = grind (arith, row_of_page, change_still)
 
-  module _ (l : KeeperView) (away : (row.home == node) ≡ false) where
-    -- `MovePage` is carried out, and all lies lawfully, where the page is resettled on another node and at home there
-    pub move_moved : (m q : PagesView) → IsLaid p k → Resettled p m k l page node row.bytes → q ≡ record m { rows = change_row page (λ r. record r { home = node }) m.rows }
-        → Carries p k q l cursor passes (MovePage page node) (Ok Done)
-    move_moved m q h r goes =
-        let s = settled_then h rise found r _
-        (λ x. if x.home == node then x else record x { home = node; state = Private }) goes
-        (grind arith) (grind (arith, away)) (grind (arith, away)) in
-        grind (arith, there)
+  -- `MovePage` is carried out, and all lies lawfully, where the page is resettled on another node and at home there
+  pub move_moved : {l : KeeperView} {m q : PagesView} → (row.home == node) ≡ false → IsLaid p k → Resettled p m k l page node row.bytes → q ≡ record m { rows = change_row page (λ r. record r { home = node }) m.rows }
+      → Carries p k q l cursor passes (MovePage page node) (Ok Done)
+  move_moved away h r goes =
+      let s = settled_then h rise found r _ (λ x. if x.home == node then x else record x { home = node; state = Private }) goes
+      (grind arith) (grind (arith, away)) (grind (arith, away)) in
+      let there : nat_le p.shape.nodes node ≡ false = grind (arith, less) in
+      grind arith
 
 -- ---------------------------------------------------------------- a page that goes
 
@@ -128,9 +129,9 @@ module _ {p : PagesView} {k : KeeperView} (h : IsLaid p k) (rise : InPageOrder p
   drop_may = rw was (may_leave k h.same _ (removed _ row rise found h.placed))
 
   -- `Drop` is carried out, and all lies lawfully, where the page has left its frame and its row is gone
-  pub drop_gone : (cursor : Option GuestPage) (passes : ℕ) (q : PagesView) (l : KeeperView) → q ≡ record p { rows = without_page page p.rows; frame = lies_on page None p.frame } → MakesSteps k l (leaving left)
+  pub drop_gone : {cursor : Option GuestPage} {passes : ℕ} {q : PagesView} {l : KeeperView} → q ≡ record p { rows = without_page page p.rows; frame = lies_on page None p.frame } → MakesSteps k l (leaving left)
       → Carries p k q l cursor passes (Drop page) (Ok Done)
-  drop_gone cursor passes q l goes made =
+  drop_gone {l = l} goes made =
       let leaves = rw was at made in
       (grind arith, rw goes (laid_rows h l (rw made.after) (left_spends _ leaves) (left_placed _ leaves (removed _ row rise found h.placed))))
 
@@ -167,32 +168,25 @@ module _ {p m : PagesView} {page : GuestPage} {node : ℕ} {bytes : List ℕ} (n
   come_known = grind (arith, found_fresh)
 
   -- `Register` is carried out, and all lies lawfully, where the page comes on a frame taken with its bytes
-  pub register_come : {k l : KeeperView} (h : IsLaid p k) (cursor : Option GuestPage) (passes : ℕ) (q : PagesView) {g : ℕ} → q ≡ record m { rows = change_row page on_its_own m.rows; frame = lies_on page (Some g) m.frame } → Provides k l node bytes g → HasNewFrame k l node bytes g
+  pub register_come : {k l : KeeperView} {cursor : Option GuestPage} {passes : ℕ} {q : PagesView} {g : ℕ} → IsLaid p k → q ≡ record m { rows = change_row page on_its_own m.rows; frame = lies_on page (Some g) m.frame } → Provides k l node bytes g → HasNewFrame k l node bytes g
       → Carries p k q l cursor passes (Register page node bytes) (Ok Done)
-  register_come {k = k} {l = l} h cursor passes q {g} goes provides taken =
-      let table = (provides_does provides).1.table in
+  register_come {l = l} {q = q} {g} h goes provides taken =
       let one = row_of_page _ _ _ (ordered_with _ _ new.rise) found_fresh in
       let rows = change_still page on_its_own (with_row fresh p.rows) (grind arith) in
-      let there : q ≡ record p {
-        rows = with_row fresh p.rows;
-        frame = lies_on page (Some g) p.frame;
-      } =
+      let there : q ≡ record p { rows = with_row fresh p.rows; frame = lies_on page (Some g) p.frame } =
       grind (arith, goes, new.comes, new.others, lies_again) in (
         grind arith,
-        rw there (laid_rows h l table taken.spent (come_there h.same taken h.placed _ new.absent refl refl refl)),
+        rw there (laid_rows h l (provides_does provides).1.table taken.spent (come_there h.same taken h.placed _ new.absent refl refl refl)),
       )
 
   -- `Register` is refused, and all lies lawfully, where no frame of the node was left and the page went again
-  pub register_turned : {k l : KeeperView} (h : IsLaid p k) (cursor : Option GuestPage) (passes : ℕ) (q : PagesView) → p.frame page ≡ None → q ≡ record m { rows = without_page page m.rows; frame = lies_on page None m.frame } → FindsNone k l node
+  pub register_turned : {k l : KeeperView} {cursor : Option GuestPage} {passes : ℕ} {q : PagesView} → IsLaid p k → p.frame page ≡ None → q ≡ record m { rows = without_page page m.rows; frame = lies_on page None m.frame } → FindsNone k l node
       → Carries p k q l cursor passes (Register page node bytes) (Err (NoFrame node))
-  register_turned {l = l} h cursor passes q nowhere_there goes searched =
-      let table = ap (λ (z : KeeperView). z.table) searched.reaped.after in
-      let rows = without_come _ _ new.rise new.absent in
-      let frame = ap (lies_on page None) new.others ∙ lies_again _ _ None _ ∙ lies_still _ None _ nowhere_there in
-      let back = goes ∙ (λ t. record (new.comes t) { rows = without_page page (new.comes t).rows; frame = lies_on page None m.frame }) ∙ (λ t. record p { rows = rows t; frame = frame t }) in (
-        grind arith,
-        rw back (laid_rows h l table (searched_spends _ searched.reaped) (turned h new.less searched).laid.placed),
-      )
+  register_turned {q = q} h nowhere_there goes searched =
+      let rows = ap (λ (x : PagesView). without_page page x.rows) new.comes ∙ without_come _ _ new.rise new.absent in
+      let frame : lies_on page None m.frame ≡ p.frame = grind (arith, new.others, lies_again, lies_still) in
+      let back : q ≡ p = grind (arith, goes, new.comes) in
+      (grind arith, rw back (turned h new.less searched).laid)
 
 -- ---------------------------------------------------------------- a dup that moves
 

@@ -8,4 +8,4 @@ release_if-requires-clause-may c =
 pub invariant_of-self : goal.invariant_of-self
 invariant_of-self c =
     lawful c.self.invariant.0 (drop_gone c.self.invariant.1 c.self.invariant.0.rows_rise (row_held c.in-Some.ensures)
-    c.remove-left.ensures.left _ _ _ _ c.remove-left.ensures.gone c.release_if.ensures)
+    c.remove-left.ensures.left c.remove-left.ensures.gone c.release_if.ensures)

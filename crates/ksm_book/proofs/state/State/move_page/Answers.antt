@@ -6,7 +6,7 @@ pub returns-then-held-node : goal.returns-then-held-node
 returns-then-held-node c =
     carried_so c.self.view_is refl
     (rw (← ap view_of c.self.view_is)
-    (move_home (seen c.self.inside.pages) _ _ _ _ _ _ c.self.invariant.0.rows_rise c.in-Some.ensures.found
+    (move_home c.self.invariant.0.rows_rise c.in-Some.ensures.found
     (rw (← c.shape.ensures) c.if-node-shape.false) (sym c.in-Some.ensures.home ∙ c.if-held-node.true)))
 
 pub set_home-requires : goal.set_home-requires
@@ -17,10 +17,10 @@ moved_there : (c : goal.After-set_home) → Carries (seen c.self.inside.pages) c
 moved_there c =
     let found = row_held c.in-Some.ensures in
     let bytes = same_Some _ _ (sym c.bytes-bytes.ensures ∙ ap (option_map (λ r. r.bytes)) found) in
-    move_moved _ _ _ _ _ _ _ c.self.invariant.0.rows_rise found
-    (rw (← c.shape.ensures) c.if-node-shape.false) _
+    move_moved c.self.invariant.0.rows_rise found
+    (rw (← c.shape.ensures) c.if-node-shape.false)
     (ne_eqb c.in-Some.ensures.row.home c.args.node (λ e. c.if-held-node.false (c.in-Some.ensures.home ∙ e)))
-    _ _ c.self.invariant.1
+    c.self.invariant.1
     (rw bytes at c.in_default-resettle.ensures.resettled)
     c.set_home.ensures
 

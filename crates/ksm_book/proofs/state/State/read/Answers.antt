@@ -4,10 +4,8 @@ use Rattle.ksm_book.proofs.state.State.read.Goals as goal
 
 pub load-requires : goal.load-requires
 load-requires c =
-    let ready = may_read c.self.invariant.1 _ _ c.in_ok-held.ensures.found _ (sym c.in_ok-held.ensures.frame ∙ c.in-Some.is) in
-    grind arith
+    grind (arith, may_read c.self.invariant.1 _ _ c.in_ok-held.ensures.found _ (sym c.in_ok-held.ensures.frame ∙ c.in-Some.is))
 
 pub returns-in-Some-clause-bytes : goal.returns-in-Some-clause-bytes
 returns-in-Some-clause-bytes c =
-    let there = may_read c.self.invariant.1 _ _ c.in_ok-held.ensures.found _ (sym c.in_ok-held.ensures.frame ∙ c.in-Some.is) in
-    grind arith
+    grind (arith, may_read c.self.invariant.1 _ _ c.in_ok-held.ensures.found _ (sym c.in_ok-held.ensures.frame ∙ c.in-Some.is))

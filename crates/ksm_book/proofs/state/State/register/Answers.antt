@@ -11,33 +11,29 @@ new c = grind arith
 pub remove-requires : goal.remove-requires
 remove-requires c = rw c.in_ok-spot.ensures.spot (come_known (new ((goal.at.remove-requires c).In_ok-spot)))
 
-module _ (c : goal.After-remove) (came : HasCome (seen c.self.inside.pages) (seen c.insert.new.self) c.args.page c.args.node c.args.bytes.now) where
-  turned : Carries (seen c.self.inside.pages) c.self.inside.keeper (seen c.remove.new.self)
-      c.take_frame.new.keeper c.self.inside.cursor c.self.inside.passes (Register c.args.page c.args.node c.args.bytes.now) (Err (NoFrame c.args.node))
-  turned =
-      register_turned came c.self.invariant.1 _ _ _ c.in_ok-spot.ensures.nowhere
-      (rw (← c.in_ok-spot.ensures.spot) c.remove.ensures.gone) c.in_default.ensures.provides
+turned : (c : goal.After-remove) → Carries (seen c.self.inside.pages) c.self.inside.keeper (seen c.remove.new.self)
+    c.take_frame.new.keeper c.self.inside.cursor c.self.inside.passes (Register c.args.page c.args.node c.args.bytes.now) (Err (NoFrame c.args.node))
+turned c =
+    register_turned {m = seen c.insert.new.self} (grind arith) c.self.invariant.1 c.in_ok-spot.ensures.nowhere
+    (rw (← c.in_ok-spot.ensures.spot) c.remove.ensures.gone) c.in_default.ensures.provides
 
 pub returns-in_default : goal.returns-in_default
-returns-in_default c = carried_so c.self.view_is refl (turned c (new ((goal.at.returns-in_default c).In_ok-spot))).0
+returns-in_default c = carried_so c.self.view_is refl (turned c).0
 
 pub invariant_of-self-in_default : goal.invariant_of-self-in_default
-invariant_of-self-in_default c =
-    lawful c.self.invariant.0 (turned c (new ((goal.at.invariant_of-self-in_default c).In_ok-spot)))
+invariant_of-self-in_default c = lawful c.self.invariant.0 (turned c)
 
 pub resettle-requires : goal.resettle-requires
 resettle-requires c = rw c.in_ok-spot.ensures.spot (come_known (new ((goal.at.resettle-requires c).In_ok-spot)))
 
-module _ (c : goal.After-resettle) (came : HasCome (seen c.self.inside.pages) (seen c.insert.new.self) c.args.page c.args.node c.args.bytes.now) where
-  come : Carries (seen c.self.inside.pages) c.self.inside.keeper (seen c.resettle.new.self)
-      c.take_frame.new.keeper c.self.inside.cursor c.self.inside.passes (Register c.args.page c.args.node c.args.bytes.now) (Ok Done)
-  come =
-      register_come came c.self.invariant.1 _ _ _ (rw (← c.in_ok-spot.ensures.spot) c.resettle.ensures.settled)
-      c.in-Some.ensures.provides c.in-Some.ensures.took
+come : (c : goal.After-resettle) → Carries (seen c.self.inside.pages) c.self.inside.keeper (seen c.resettle.new.self)
+    c.take_frame.new.keeper c.self.inside.cursor c.self.inside.passes (Register c.args.page c.args.node c.args.bytes.now) (Ok Done)
+come c =
+    register_come {m = seen c.insert.new.self} (grind arith) c.self.invariant.1 (rw (← c.in_ok-spot.ensures.spot) c.resettle.ensures.settled)
+    c.in-Some.ensures.provides c.in-Some.ensures.took
 
 pub returns : goal.returns
-returns c = carried_so c.self.view_is refl (come c (new ((goal.at.returns c).In_ok-spot))).0
+returns c = carried_so c.self.view_is refl (come c).0
 
 pub invariant_of-self-2 : goal.invariant_of-self-2
-invariant_of-self-2 c =
-    lawful c.self.invariant.0 (come c (new ((goal.at.invariant_of-self-2 c).In_ok-spot)))
+invariant_of-self-2 c = lawful c.self.invariant.0 (come c)

@@ -1,6 +1,6 @@
-use Rattle.ksm_book.proofs.Names.{ap, arith, Done, find_all, is_some, IsCarried, length, Ok, PAGE_WORDS, refl, rules, seen, Store, sym, ◌<◌, ◌∙◌, ◌≡◌}
-use Rattle.ksm_book.proofs.Laying.{has_frame, laid_written}
-use Rattle.ksm_book.proofs.Singles.{book, carried_so, Carries, found_resettled, own_ready, row_held, lawful, sound_carried, store_copied, store_written}
+use Rattle.ksm_book.proofs.Names.{ap, arith, Done, find_all, is_some, length, Ok, PAGE_WORDS, refl, rules, seen, Store, sym, ◌<◌, ◌∙◌, ◌≡◌}
+use Rattle.ksm_book.proofs.Laying.{has_frame}
+use Rattle.ksm_book.proofs.Singles.{carried_so, Carries, found_resettled, own_ready, row_held, lawful, store_copied, store_written}
 use Rattle.ksm_book.proofs.state.State.store.Goals as goal
 
 pub known_frame-frame-requires : goal.known_frame-frame-requires
@@ -10,29 +10,25 @@ known_frame-frame-requires c =
 
 pub write-requires : goal.write-requires
 write-requires c =
-    let ready = own_ready c.self.invariant.1 _ _ c.in-Some.ensures.found (sym c.in-Some.ensures.shared ∙ c.if-held.false)
-    _ (sym c.in-Some.ensures.frame ∙ c.known_frame-frame.ensures) in
-    grind arith
+    grind (
+      arith,
+      own_ready c.self.invariant.1 _ _ c.in-Some.ensures.found (sym c.in-Some.ensures.shared ∙ c.if-held.false)
+          _ (sym c.in-Some.ensures.frame ∙ c.known_frame-frame.ensures),
+    )
 
-module _ (c : goal.After-store-2) where
-  written : IsCarried (book (seen c.self.inside.pages) c.self.inside.keeper c.self.inside.cursor c.self.inside.passes) (book (seen c.store-2.new.self) c.write.new.keeper c.self.inside.cursor c.self.inside.passes) (Store c.in-Some.held.spot.page c.args.bytes.now) (Ok Done)
-  written =
-      store_written (seen c.self.inside.pages) _ _ _ _ _ _ c.in-Some.ensures.row
-      (row_held c.in-Some.ensures) _ _ c.store-2.ensures (sym c.in-Some.ensures.shared ∙ c.if-held.false)
-      (grind (arith, c.in-Some.ensures.spot, c.in-Some.ensures.frame, c.known_frame-frame.ensures)) c.write.ensures.wrote
+written : (c : goal.After-store-2) → Carries (seen c.self.inside.pages) c.self.inside.keeper (seen c.store-2.new.self)
+    c.write.new.keeper c.self.inside.cursor c.self.inside.passes (Store c.in-Some.held.spot.page c.args.bytes.now) (Ok Done)
+written c =
+    let wide : length c.args.bytes.now ≡ PAGE_WORDS = search rules in
+    store_written {row = c.in-Some.ensures.row} c.self.invariant.1 c.self.invariant.0.rows_rise (row_held c.in-Some.ensures) _
+    c.store-2.ensures (sym c.in-Some.ensures.shared ∙ c.if-held.false)
+    (grind (arith, c.in-Some.ensures.spot, c.in-Some.ensures.frame, c.known_frame-frame.ensures)) c.write.ensures.wrote c.write.ensures.ledger wide
 
 pub returns-clause-carried : goal.returns-clause-carried
-returns-clause-carried c = carried_so c.self.view_is (rw c.in-Some.ensures.spot) (written c)
+returns-clause-carried c = carried_so c.self.view_is (rw c.in-Some.ensures.spot) (written c).0
 
 pub invariant_of-self-2 : goal.invariant_of-self-2
-invariant_of-self-2 c =
-    let wide : length c.args.bytes.now ≡ PAGE_WORDS = search rules in (
-      sound_carried c.self.invariant.0 (written c),
-      rw c.store-2.ensures
-          (laid_written c.self.invariant.1 _ c.in-Some.ensures.row _ _ _ c.self.invariant.0.rows_rise
-          (row_held c.in-Some.ensures) (λ r. refl)
-          (grind arith) (rw c.write.ensures.wrote) c.write.ensures.ledger wide (sym c.in-Some.ensures.shared ∙ c.if-held.false) refl refl),
-    )
+invariant_of-self-2 c = lawful c.self.invariant.0 (written c)
 
 pub resettle-requires-clause-node : goal.resettle-requires-clause-node
 resettle-requires-clause-node c = rw c.in-Some.ensures.home
@@ -44,10 +40,8 @@ store-requires c = rw (found_resettled c.in_default-resettle.ensures.resettled (
 copied : (c : goal.After-store) → Carries (seen c.self.inside.pages) c.self.inside.keeper (seen c.store.new.self)
     c.resettle.new.keeper c.self.inside.cursor c.self.inside.passes (Store c.in-Some.held.spot.page c.args.bytes.now) (Ok Done)
 copied c =
-    store_copied _ _ _ _ _ _ _ c.in-Some.ensures.row
-    (row_held c.in-Some.ensures) _ _ c.self.invariant.1 c.self.invariant.0.rows_rise
-    (rw c.in-Some.ensures.home at c.in_default-resettle.ensures.resettled)
-    c.store.ensures (sym c.in-Some.ensures.shared ∙ c.if-held.true)
+    store_copied {row = c.in-Some.ensures.row} c.self.invariant.1 c.self.invariant.0.rows_rise (row_held c.in-Some.ensures)
+    (rw c.in-Some.ensures.home at c.in_default-resettle.ensures.resettled) c.store.ensures (sym c.in-Some.ensures.shared ∙ c.if-held.true)
 
 pub returns-then-held-clause-carried : goal.returns-then-held-clause-carried
 returns-then-held-clause-carried c = carried_so c.self.view_is (rw c.in-Some.ensures.spot) (copied c).0
