@@ -1,17 +1,11 @@
 -- Rows that change at one page: what becomes of what holds of each row, and of how many lie on a frame.
-use Rattle.ksm_book.proofs.Names.{All, All-map, arith, Bool, change_row, cond, count_alike, count_mapped, count_with_row, count_without_page, counts_one, eq-eqb, false, filter_passes, find_all}
-use Rattle.ksm_book.proofs.Names.{find_changed, find_none, find_passes, Frames, GuestPage, if◌then◌else◌, InPageOrder, is_frame, lies_on, List, map, map_mapped, None, not, not-true, one_of_each_page}
-use Rattle.ksm_book.proofs.Names.{Option, Row, row_at, same_page, same_page_eq, same_page_refl, Some, true, uses, with_row, without_page, ℕ, ◌+◌, ◌≡◌, ◌≤◌}
+use Rattle.ksm_book.proofs.Names.{All, All-map, arith, Bool, change_row, count_alike, count_mapped, count_with_row, count_without_page, counts_one, eq-eqb, false, filter_passes, find_all}
+use Rattle.ksm_book.proofs.Names.{find_changed, find_none, find_passes, Frames, GuestPage, if◌then◌else◌, in_hand, InPageOrder, is_frame, lies_on, List, map, map_mapped, None, not, not-true}
+use Rattle.ksm_book.proofs.Names.{one_of_each_page, Option, Row, row_at, same_page, same_page_eq, same_page_refl, Some, true, uses, with_row, without_page, ℕ, ◌+◌, ◌≡◌, ◌≤◌}
 
 -- frames that are equal at each page are equal
 pub same_frames : (f g : Frames) → ((page : GuestPage) → f page ≡ g page) → f ≡ g
 same_frames f g each = λ i page. each page i
-
--- ---------------------------------------------------------------- a frame
-
--- 1 for this frame, 0 for another or none
-abbrev pub one_at : ℕ → Option ℕ → ℕ
-one_at f o = cond (is_frame f o) 1 0
 
 -- ---------------------------------------------------------------- a page
 
@@ -59,14 +53,14 @@ module _ (f : ℕ) (page : GuestPage) (o : Option ℕ) (frame : Frames) where
   apart_uses rows apart = grind (arith, count_alike)
 
   -- where the row of a page goes, one row less lies on the frame if the page lay there, else as many
-  pub uses_gone : (rows : List Row) (row : Row) → InPageOrder rows → row_at page rows ≡ Some row → uses f (lies_on page o frame) (without_page page rows) + one_at f (frame page) ≡ uses f frame rows
+  pub uses_gone : (rows : List Row) (row : Row) → InPageOrder rows → row_at page rows ≡ Some row → uses f (lies_on page o frame) (without_page page rows) + in_hand f (frame page) ≡ uses f frame rows
   uses_gone rows row rise found =
       let rest = apart_uses (without_page page rows) (λ i d lt. not-true _ (filter_passes (λ r. not (same_page r.page page)) rows i d lt)) in
       grind (arith, found_page page rows row found, count_without_page old_test page rows row rise found)
 
   -- where a page comes to lie on another frame, one row less lies on the old frame and one more on the new one
   pub uses_changed : (c : Row → Row) (rows : List Row) (row : Row) → InPageOrder rows → row_at page rows ≡ Some row → ((r : Row) → (c r).page ≡ r.page)
-      → uses f (lies_on page o frame) (change_row page c rows) + one_at f (frame page) ≡ uses f frame rows + one_at f o
+      → uses f (lies_on page o frame) (change_row page c rows) + in_hand f (frame page) ≡ uses f frame rows + in_hand f o
   uses_changed c rows row rise found keeps =
       let same = uses_mapped f (lies_on page o frame) (λ r. if same_page r.page page then c r else r) rows (λ r. grind (arith, keeps r)) in
       let on_new = count_without_page new_test page rows row rise found in
@@ -74,7 +68,7 @@ module _ (f : ℕ) (page : GuestPage) (o : Option ℕ) (frame : Frames) where
 
 -- where a row comes at a page that had none, one row more lies on the frame if it comes there, else as many
 pub uses_come : (f : ℕ) (o : Option ℕ) (frame : Frames) (row : Row) (rows : List Row) → row_at row.page rows ≡ None
-    → uses f (lies_on row.page o frame) (with_row row rows) ≡ uses f frame rows + one_at f o
+    → uses f (lies_on row.page o frame) (with_row row rows) ≡ uses f frame rows + in_hand f o
 uses_come f o frame row rows absent =
     grind (arith, apart_uses f row.page o frame rows (find_none _ rows absent), count_with_row)
 

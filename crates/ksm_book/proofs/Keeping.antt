@@ -76,8 +76,7 @@ module _ (v : KeeperView) (g found : ℕ) where
 
   reap_placed : {hand : Option ℕ} → IsLeft v.table.shape v.ledger g → Keeps v (did v (Reap g) found) hand hand
   reap_placed {hand} left across rows frame dups p =
-      let reaps : Placed v.table.shape across (with_frame v.ledger g new) rows frame dups hand =
-      noted p g left.0 new hand (grind arith) (λ f ne. refl) in
+      let reaps = noted p g left.0 new hand (grind arith) (λ f ne. refl) in
       grind arith
 
 -- frames on which nothing is were reaped: rows and dups lie lawfully

@@ -127,11 +127,7 @@ module _ (b : BookState) (k : Ledger) (s : IsSound b) (frame : Frames) (p : Plac
       (ap not alone) in
       let most = length-le_from_distinct_below (own ++ shown) (frames_of b.shape)
       (grind (arith, IsDistinct-from_apart, all_distinct))
-      (λ q in_it. grind (
-        arith,
-        Contains-from_any {eq = eqb} (λ x y e. eqb-true x y e) q (own ++ shown) in_it,
-        inside,
-      )) in
+      (λ q in_it. grind (arith, Contains-from_any {eq = eqb} (λ x y e. eqb-true x y e) q (own ++ shown) in_it, inside)) in
       let stale = λ (d : DupRow) (is : find (is_stale b.rows) b.dups ≡ Some d).
       find_all _ (λ e. e.place < frames_of b.shape) b.dups d is (grind arith) in
       grind (arith, stale, length-append, length-map, none_stale, empty_from_most)

@@ -80,25 +80,14 @@ module _ {p q : PagesView} {k l : KeeperView} {count : ℕ} (h : Drops p q k l c
 
   -- once the first stale dup goes, one dup less is stale
   pub drop_fewer : count_by (is_stale p.rows) (filter (elsewhere place) q.dups) + 1 ≡ count_by (is_stale p.rows) q.dups
-  drop_fewer = omega (
-    arith,
-    ap length next,
-    length-filter (is_stale p.rows) q.dups,
-    length-filter (is_stale p.rows) (filter (elsewhere place) q.dups),
-  )
+  drop_fewer = let fewer = simp length-filter at (ap length next) in omega arith
 
   -- the count of stale dups that went, and the next one, is below 2^64
   pub drop_few : InPlaceOrder p.dups → IsLaid p k → count + 1 < 2 ^ 64
   drop_few first before =
       let frames = few_from 0 _ _ (omega arith) first (λ n d lt. (omega arith, (before.placed.each_dup n d lt).place)) in
-      omega (
-        arith,
-        ap length h.all,
-        length-append h.gone (filter (is_stale p.rows) q.dups),
-        length-filter (is_stale p.rows) p.dups,
-        count_by-le-length (is_stale p.rows) p.dups,
-        frames_at_most p.shape before.small,
-      )
+      let all = simp (length-filter, length-append) at (ap length h.all) in
+      omega (arith, count_by-le-length (is_stale p.rows) p.dups, next, frames_at_most p.shape before.small)
 
   -- where the place of the first stale dup is withdrawn and that dup goes, one stale dup more went
   pub drops_more : (q' : PagesView) (l' : KeeperView) → l' ≡ did l (Withdraw place) 0 → q' ≡ record q { dups = filter (elsewhere place) q.dups } → Drops p q' k l' (count + 1)
