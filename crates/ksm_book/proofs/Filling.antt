@@ -1,7 +1,7 @@
 -- Frames written, read, found and filled, and a dup's place that comes to name another frame.
 use Rattle.ksm_book.proofs.Names.{Add, ap, arith, did, Dying, Finds, frame_at, frames_of, Free, get_or-set_other, get_or-set_same, HasNewFrame, holding, IsLawful, KeeperView, Keeps, Ledger, length}
 use Rattle.ksm_book.proofs.Names.{length-set, List, loads, MakesSteps, mounting, None, Note, Open, opened, PAGE_WORDS, Placed, Provides, Publish, puts, Raise, raised, replicate}
-use Rattle.ksm_book.proofs.Names.{replicate-append-replicate, set-set, Shape, Some, spent, stepped, with_frame, ℕ, ◌+◌, ◌-◌, ◌<◌, ◌∙◌, ◌≡◌}
+use Rattle.ksm_book.proofs.Names.{replicate-append-replicate, set-set, Shape, Some, stepped, with_frame, ℕ, ◌+◌, ◌-◌, ◌<◌, ◌∙◌, ◌≡◌}
 use Rattle.ksm_book.proofs.Keeping.{searched_placed, searched_spends, spent_kept}
 use Rattle.ksm_book.proofs.Made.{made_one, made_part, made_then}
 use Rattle.ksm_book.proofs.Noted.{noted}
@@ -59,7 +59,6 @@ module _ {v w : KeeperView} {shape : Shape} {node : ℕ} {bytes : List ℕ} {g :
       let now = ap (λ z. frame_at z g) taken_ledger ∙ at_again u.ledger g (found_within same less l h.finds) own in
       let more = spent_kept u.ledger g own (grind arith) in
       let before = searched_spends _ h.finds.reaped in
-      let end = ap spent taken_ledger in
       let keeps : Keeps v w None (Some g) = λ across rows frame dups p.
       let q = searched_placed _ (rw (← same) less) h.finds.reaped _ _ _ _ p in
       rw taken_ledger (noted q g (found_inside same less l h.finds) own _ (grind arith) (grind arith)) in

@@ -49,11 +49,6 @@ all_without P d dups apart h =
     )
 
 module _ {sh : Shape} {across : ℕ} {k : Ledger} {rows : List Row} {frame : Frames} {dups : List DupRow} where
-  module _ {hand : Option ℕ} (p : Placed sh across k rows frame dups hand) where
-    -- a row that is no item of any dup agrees with each dup, where its frame is Private
-    pub own_agrees : (r : Row) (g : ℕ) → ((n : ℕ) → merged_into n r.state ≡ false) → (frame_at k g).kind ≡ Private → All (Agrees k r g) dups
-    own_agrees r g alone kind = grind arith
-
   -- a row changes, or comes, or goes, with its frame, if it has one
   -- other rows in the same frames
   rehoused : {rows' : List Row} {frame' : Frames} {o o' : Option ℕ} → Placed sh across k rows frame dups o → All (λ r. IsServed sh k dups r (frame' r.page)) rows'
@@ -187,7 +182,7 @@ module _ {sh : Shape} {across : ℕ} {k : Ledger} {rows : List Row} {frame : Fra
         let fr = holding (frame_at k g) bytes in
         let here = turned_note fr refl in
         let q = turned fr refl wide (grind (arith, one)) (grind arith) (grind arith) in
-        back (stored bytes) (λ r. refl) q (grind (arith, fits), own_agrees q (stored bytes row) g (grind arith) (rw here own))
+        back (stored bytes) (λ r. refl) q (grind (arith, fits), grind arith)
 
     -- rows and dups lie lawfully where a place names the frame of a row, which becomes the first item of a new dup
     pub published : (d : DupRow) → d.place < frames_of sh → (c : Row → Row) → ((r : Row) → (c r).page ≡ r.page) → (c row).state ≡ Merged d.number → (c row).bytes ≡ row.bytes → d.bytes ≡ row.bytes → (across ≡ 0 → row.home ≡ d.tree) → shared_state row.state ≡ false

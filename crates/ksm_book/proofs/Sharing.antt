@@ -5,8 +5,7 @@ use Rattle.ksm_book.proofs.Names.{Add, All, All-filter, ap, arith, blank, Bool, 
 use Rattle.ksm_book.proofs.Names.{find_all, find_none, find_passes, frame_at, Frames, frames_of, get_or-set_same, get_or_default, GuestPage, IfSome, if◌then◌else◌, InPageOrder, IsInLife, IsLaid}
 use Rattle.ksm_book.proofs.Names.{IsLoose, IsVacant, item_count, KeeperView, leaving, Ledger, length, lies_on, Life, life_or, List, list_any, MakesSteps, May, MayLeave, Merged, merged_into}
 use Rattle.ksm_book.proofs.Names.{merged_state, named_at, None, none_found, Note, Option, PageState, PagesView, place_frame, Placed, Private, Publish, refl, Row, row_at, RowFits, set-get_or, settled}
-use Rattle.ksm_book.proofs.Names.{Shape, shared_state, shown, Some, spent, spent_on, Stable, suc, sum_by-le, sym, true, with_dup, with_frame, Withdraw, withdrawing, ℕ, [], ◌*◌, ◌+◌, ◌-◌, ◌<◌, ◌==◌}
-use Rattle.ksm_book.proofs.Names.{◌∙◌, ◌∷◌, ◌≡◌, ◌≤◌}
+use Rattle.ksm_book.proofs.Names.{Shape, shared_state, Some, spent, spent_on, Stable, suc, sum_by-le, sym, true, with_dup, Withdraw, withdrawing, ℕ, [], ◌*◌, ◌+◌, ◌-◌, ◌<◌, ◌==◌, ◌∙◌, ◌∷◌, ◌≡◌, ◌≤◌}
 use Rattle.ksm_book.proofs.Moves.{base_is_items, emptied, joined, published, Serves, stale_is_loose, withdrawn}
 use Rattle.ksm_book.proofs.Laying.{laid_rows, LodgesAs, serves_at}
 use Rattle.ksm_book.proofs.Keeping.{added_placed, added_spends, left_placed, left_spends, may_leave, spent_set}
@@ -159,5 +158,4 @@ module _ {p : PagesView} {k : KeeperView} (h : IsLaid p k) (rise : InPageOrder p
       (All-filter (elsewhere d.place) (λ e. ¬ (e.number ≡ d.number)) p.dups (grind arith))
       (grind (arith, filter_passes, eq-eqb)) in
       let ledger : w.ledger ≡ named_anew (emptied k.ledger d.place) d.place f = grind arith in
-      let now : spent w.ledger ≡ spent (with_frame k.ledger f (shown o)) = ap spent ledger in
       grind (arith, with_elsewhere, own, fits, spent_set)
