@@ -31,14 +31,16 @@ once_each (x ∷ xs) once =
 own_count : (f : ℕ) (frame : Frames) (rows : List Row) → All (λ r. shared_state r.state ≡ false → (g : ℕ) × (frame r.page ≡ Some g)) rows → count_by (λ g. g == f) (own_frames rows frame) ≤ uses f frame rows
 own_count f frame rows all =
     let alone : Row → Bool = λ r. not (shared_state r.state) in
-    let same = count_mapped (λ (r : Row). frame_number (frame r.page)) (λ g. g == f) (λ r. is_frame f (frame r.page)) (filter alone rows)
-    (grind (arith, filter_passes, All-filter alone (λ r. shared_state r.state ≡ false → (g : ℕ) × (frame r.page ≡ Some g)) rows all)) in
+    let each = All-filter alone (λ r. shared_state r.state ≡ false → (g : ℕ) × (frame r.page ≡ Some g)) rows all in
+    let same = count_mapped (λ (r : Row). frame_number (frame r.page)) (λ g. g == f) (λ r. is_frame f (frame r.page))
+    (filter alone rows) (grind (arith, filter_passes, each)) in
     omega (arith, same, count_filter_le (λ (r : Row). is_frame f (frame r.page)) alone rows)
 
 all_own : (P : ℕ → Type 0) (rows : List Row) (frame : Frames) → All (λ r. shared_state r.state ≡ false → P (frame_number (frame r.page))) rows → All P (own_frames rows frame)
 all_own P rows frame all =
-    All-map P (λ r. frame_number (frame r.page)) _
-    (grind (arith, filter_passes, All-filter (λ r. not (shared_state r.state)) (λ r. shared_state r.state ≡ false → P (frame_number (frame r.page))) rows all))
+    let alone : Row → Bool = λ r. not (shared_state r.state) in
+    let each = All-filter alone (λ r. shared_state r.state ≡ false → P (frame_number (frame r.page))) rows all in
+    All-map P (λ r. frame_number (frame r.page)) (filter alone rows) (grind (arith, filter_passes, each))
 
 module _ (b : BookState) (k : Ledger) (s : IsSound b) (frame : Frames) (p : Placed b.shape b.knobs.merge_across_nodes k b.rows frame b.dups None) where
   abbrev own : List ℕ
@@ -67,7 +69,9 @@ module _ (b : BookState) (k : Ledger) (s : IsSound b) (frame : Frames) (p : Plac
   Live d = Lives k b.dups b.shape b.rows frame d
 
   live_kept : All Live (filter (has_items b.rows) b.dups)
-  live_kept = grind (arith, filter_passes, All-filter (has_items b.rows) (λ d. has_items b.rows d ≡ true → Live d) b.dups dup_lives)
+  live_kept =
+      let kept = All-filter (has_items b.rows) (λ d. has_items b.rows d ≡ true → Live d) b.dups dup_lives in
+      grind (arith, filter_passes, kept)
 
   shown_kinds : All (λ f. (frame_at k f).kind ≡ Stable) shown
   shown_kinds = All-map (λ f. (frame_at k f).kind ≡ Stable) _ _ (λ i d lt. (live_kept i d lt).kind)

@@ -74,6 +74,10 @@ module _ {p q : PagesView} {k l : KeeperView} {count : ℕ} (h : Drops p q k l c
   pub drop_may : May l (Withdraw place)
   drop_may = (rw h.laid.same inside, vacant_loose _ h.laid.placed drop_vacant)
 
+  -- of those with items none goes
+  live : filter (has_items p.rows) (filter (elsewhere place) q.dups) ≡ filter (has_items p.rows) q.dups
+  live = inside_of _ _ q.dups (λ n d lt. grind (arith, drop_vacant n d lt, h.pages))
+
   -- it is the first of those still stale
   next : filter (is_stale p.rows) q.dups ≡ stale.0 ∷ filter (is_stale p.rows) (filter (elsewhere place) q.dups)
   next = grind (arith, first_stale)
@@ -93,7 +97,7 @@ module _ {p q : PagesView} {k l : KeeperView} {count : ℕ} (h : Drops p q k l c
   pub drops_more : (q' : PagesView) (l' : KeeperView) → l' ≡ did l (Withdraw place) 0 → q' ≡ record q { dups = filter (elsewhere place) q.dups } → Drops p q' k l' (count + 1)
   drops_more q' l' is goes = record {
     pages = grind (arith, h.pages);
-    live = grind (arith, h.live, inside_of (has_items p.rows) (elsewhere place) q.dups (λ n d lt. grind (arith, drop_vacant n d lt, h.pages)));
+    live = grind (arith, h.live, live);
     gone = h.gone ++ stale.0 ∷ [];
     all = grind (arith, next, append_assoc);
     many = grind (arith, length-append);

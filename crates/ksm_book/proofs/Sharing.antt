@@ -88,8 +88,10 @@ module _ {p : PagesView} {k : KeeperView} (w : KeeperView) (h : IsLaid p k) (pla
           → MakesSteps k w (if taken then Withdraw place ∷ [] else [])
           → w.ledger ≡ emptied k.ledger place
       by true is m = rw (step_made m).1
-      by false is m = rw (none_made m)
-          (grind (arith, h.placed.empty place (grind (arith, find_none (λ d. d.place == place) p.dups (none_found (λ d. d.place == place) p.dups is))), set-get_or k.ledger.places place None))
+      by false is m =
+          let none = find_none (λ (d : DupRow). d.place == place) p.dups (none_found _ p.dups is) in
+          rw (none_made m)
+          (grind (arith, h.placed.empty place (grind (arith, none)), set-get_or k.ledger.places place None))
 
 -- pages lie lawfully where a place names nothing any more and the dup that stood there is gone
 pub laid_cleared : {p : PagesView} {k : KeeperView} (w : KeeperView) {place : ℕ} → IsLaid p k → place < frames_of p.shape → w.table ≡ k.table

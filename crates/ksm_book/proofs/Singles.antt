@@ -36,7 +36,10 @@ pub tuned : {p q : PagesView} {k : KeeperView} {cursor : Option GuestPage} {pass
     → q ≡ record p { knobs = record p.knobs { run = run; pages_to_scan = pages; use_zero_pages = zero_pages } } → run ≤ 2 → (1 ≤ pages) × (pages ≤ 1000000) → zero_pages ≤ 1
     → IsSound (state_of q cursor passes) × IsLaid q k
 tuned {p} {cursor = cursor} {passes} {run} {pages} {zero_pages} h goes few in_range either =
-    rw goes (sound_settings (state_of p cursor passes) run pages zero_pages passes cursor few in_range either h.0.passes h.0, retuned (inl refl) h.1)
+    rw goes (
+      sound_settings (state_of p cursor passes) run pages zero_pages passes cursor few in_range either h.0.passes h.0,
+      retuned (inl refl) h.1,
+    )
 
 -- a command carried out from one book value was carried out from an equal one, and so was an equal command
 pub carried_so : {old now : BookValue} {w : BookView} {by given : Command} {answer : Answer} → old ≡ now → by ≡ given → IsCarried (view_of old) w by answer → IsCarried (view_of now) w given answer
@@ -132,8 +135,11 @@ module _ {p : PagesView} {k : KeeperView} (h : IsLaid p k) (rise : InPageOrder p
   pub drop_gone : {cursor : Option GuestPage} {passes : ℕ} {q : PagesView} {l : KeeperView} → q ≡ record p { rows = without_page page p.rows; frame = lies_on page None p.frame } → MakesSteps k l (leaving left)
       → Carries p k q l cursor passes (Drop page) (Ok Done)
   drop_gone {l = l} goes made =
-      let leaves = rw was at made in
-      (grind arith, rw goes (laid_rows h l (rw made.after) (left_spends _ leaves) (left_placed _ leaves (removed _ row rise found h.placed))))
+      let leaves = rw was at made in (
+        grind arith,
+        rw goes (laid_rows h l (rw made.after) (left_spends _ leaves)
+            (left_placed _ leaves (removed _ row rise found h.placed))),
+      )
 
 -- ---------------------------------------------------------------- a page that comes
 
@@ -176,7 +182,8 @@ module _ {p m : PagesView} {page : GuestPage} {node : ℕ} {bytes : List ℕ} (n
       let there : q ≡ record p { rows = with_row fresh p.rows; frame = lies_on page (Some g) p.frame } =
       grind (arith, goes, new.comes, new.others, lies_again) in (
         grind arith,
-        rw there (laid_rows h l (provides_does provides).1.table taken.spent (come_there h.same taken h.placed _ new.absent refl refl refl)),
+        rw there (laid_rows h l (provides_does provides).1.table taken.spent
+            (come_there h.same taken h.placed _ new.absent refl refl refl)),
       )
 
   -- `Register` is refused, and all lies lawfully, where no frame of the node was left and the page went again

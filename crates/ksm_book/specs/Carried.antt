@@ -75,7 +75,7 @@ pub record IsCarried (v w : BookView) (command : Command) (given : Answer) : Typ
   -- the steps that it made, and no others, and the frame of each page after them
   pub steps : TakesSteps v w command given
 
--- the same, and what follows from its steps: the keeper's table stays, which frames they gave, and what the log shows of the answer
+-- the same, and what follows from its steps: the table kept, the frames given, and what the log shows of the answer
 pub record CarriedOut (v w : BookView) (command : Command) (given : Answer) : Type 0 where
   -- the keeper is of the same table
   pub own : w.keeper.table ≡ v.keeper.table

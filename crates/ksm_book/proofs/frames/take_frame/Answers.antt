@@ -5,11 +5,13 @@ use Rattle.ksm_book.proofs.frames.take_frame.Goals as goal
 
 pub write-requires : goal.write-requires
 write-requires c =
-    grind (arith, raised_ready c.requires.shape c.requires.node c.requires.lawful c.in_ok-frame.ensures _ c.raise.ensures.1, found_inside c.requires.shape c.requires.node c.requires.lawful c.in_ok-frame.ensures)
+    let ready = raised_ready c.requires.shape c.requires.node c.requires.lawful c.in_ok-frame.ensures _ c.raise.ensures.1 in
+    grind (arith, found_inside c.requires.shape c.requires.node c.requires.lawful c.in_ok-frame.ensures)
 
 pub open-requires-clause-may : goal.open-requires-clause-may
 open-requires-clause-may c =
-    grind (arith, raised_ready c.requires.shape c.requires.node c.requires.lawful c.in_ok-frame.ensures _ c.raise.ensures.1, found_inside c.requires.shape c.requires.node c.requires.lawful c.in_ok-frame.ensures, at_again)
+    let ready = raised_ready c.requires.shape c.requires.node c.requires.lawful c.in_ok-frame.ensures _ c.raise.ensures.1 in
+    grind (arith, found_inside c.requires.shape c.requires.node c.requires.lawful c.in_ok-frame.ensures, at_again)
 
 abbrev provided : (c : goal.After-open) → Provides c.args.keeper.now c.open.new.self c.args.node c.args.bytes.now c.in_ok-frame.frame
 provided c = record {

@@ -12,7 +12,8 @@ pub stale-preserved : goal.stale-preserved
 stale-preserved c = grind (arith, drops_more)
 
 pub overflow_add-count : goal.overflow_add-count
-overflow_add-count c = omega (arith, drop_few c.stale.invariant (sym c.in-Some.is ∙ c.stale_place.ensures) c.requires.rise c.requires.laid)
+overflow_add-count c =
+    omega (arith, drop_few c.stale.invariant (sym c.in-Some.is ∙ c.stale_place.ensures) c.requires.rise c.requires.laid)
 
 pub stale-smaller : goal.stale-smaller
 stale-smaller c =

@@ -14,32 +14,35 @@ new_place-place-requires c =
 
 pub pair-requires : goal.pair-requires
 pair-requires c =
-    record { first = pair_may _ c.self.invariant (ap view_of c.self.view_is) c.requires.row c.in-Some.ensures.spot c.new_place-place.ensures }
+    let may = pair_may _ c.self.invariant (ap view_of c.self.view_is) c.requires.row c.in-Some.ensures.spot
+    c.new_place-place.ensures in
+    record { first = may }
 
 pub clear-requires-clause-may : goal.clear-requires-clause-may
 clear-requires-clause-may c =
-    may_withdraw _ c.self.invariant (ap view_of c.self.view_is) c.requires.row c.in-Some.ensures.spot c.new_place-place.ensures
+    may_withdraw _ c.self.invariant (ap view_of c.self.view_is) c.requires.row c.in-Some.ensures.spot
+    c.new_place-place.ensures
 
 pub publish-requires-clause-may : goal.publish-requires-clause-may
 publish-requires-clause-may c =
-    may_publish _ c.self.invariant (ap view_of c.self.view_is) c.requires.row c.in-Some.ensures.spot c.new_place-place.ensures c.in_ok-frame.ensures.first
-    c.has_dup-taken.ensures c.clear.ensures
+    may_publish _ c.self.invariant (ap view_of c.self.view_is) c.requires.row c.in-Some.ensures.spot
+    c.new_place-place.ensures c.in_ok-frame.ensures.first c.has_dup-taken.ensures c.clear.ensures
 
 pub add-requires-clause-may : goal.add-requires-clause-may
 add-requires-clause-may c =
-    may_add_to _ c.self.invariant (ap view_of c.self.view_is) c.requires.row c.in-Some.ensures.spot c.new_place-place.ensures c.in_ok-frame.ensures.first
-    c.has_dup-taken.ensures c.clear.ensures c.publish.ensures
+    may_add_to _ c.self.invariant (ap view_of c.self.view_is) c.requires.row c.in-Some.ensures.spot
+    c.new_place-place.ensures c.in_ok-frame.ensures.first c.has_dup-taken.ensures c.clear.ensures c.publish.ensures
 
 pub sub-requires-clause-may : goal.sub-requires-clause-may
 sub-requires-clause-may c =
-    may_sub_from _ c.self.invariant (ap view_of c.self.view_is) c.requires.row c.in-Some.ensures.spot c.new_place-place.ensures c.in_ok-frame.ensures.first
-    c.has_dup-taken.ensures c.clear.ensures c.publish.ensures c.in_ok-frame.ensures.second (made_by c.add.ensures)
+    may_sub_from _ c.self.invariant (ap view_of c.self.view_is) c.requires.row c.in-Some.ensures.spot
+    c.new_place-place.ensures c.in_ok-frame.ensures.first c.has_dup-taken.ensures c.clear.ensures c.publish.ensures c.in_ok-frame.ensures.second (made_by c.add.ensures)
 
 paired : (c : goal.After-sub)
     → Leads (view_of c.args.self.now) (seen c.pair.new.self) c.sub.new.self c.self.inside.cursor c.self.inside.passes c.args.spot.page
 paired c =
-    pair_leads _ c.self.invariant (ap view_of c.self.view_is) c.requires.row c.in-Some.ensures.spot c.new_place-place.ensures c.in_ok-frame.ensures.first
-    c.has_dup-taken.ensures c.clear.ensures c.publish.ensures c.in_ok-frame.ensures.second (made_by c.add.ensures) (made_by c.sub.ensures)
+    pair_leads _ c.self.invariant (ap view_of c.self.view_is) c.requires.row c.in-Some.ensures.spot
+    c.new_place-place.ensures c.in_ok-frame.ensures.first c.has_dup-taken.ensures c.clear.ensures c.publish.ensures c.in_ok-frame.ensures.second (made_by c.add.ensures) (made_by c.sub.ensures)
     _ c.in_ok-frame.ensures.paired
 
 pub invariant_of-self-2 : goal.invariant_of-self-2

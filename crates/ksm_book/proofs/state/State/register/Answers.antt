@@ -29,8 +29,8 @@ resettle-requires c = rw c.in_ok-spot.ensures.spot (come_known (new ((goal.at.re
 come : (c : goal.After-resettle) → Carries (seen c.self.inside.pages) c.self.inside.keeper (seen c.resettle.new.self)
     c.take_frame.new.keeper c.self.inside.cursor c.self.inside.passes (Register c.args.page c.args.node c.args.bytes.now) (Ok Done)
 come c =
-    register_come {m = seen c.insert.new.self} (grind arith) c.self.invariant.1 (rw (← c.in_ok-spot.ensures.spot) c.resettle.ensures.settled)
-    c.in-Some.ensures.provides c.in-Some.ensures.took
+    register_come {m = seen c.insert.new.self} (grind arith) c.self.invariant.1
+    (rw (← c.in_ok-spot.ensures.spot) c.resettle.ensures.settled) c.in-Some.ensures.provides c.in-Some.ensures.took
 
 pub returns : goal.returns
 returns c = carried_so c.self.view_is refl (come c).0

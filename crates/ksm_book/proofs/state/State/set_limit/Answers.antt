@@ -7,7 +7,8 @@ pub invariant_of-self : goal.invariant_of-self
 invariant_of-self c =
     let s = c.self.inside in
     let there = c.drop_stale.ensures.pages in
-    let did : IsCarried (view_of c.args.self.now) (book (seen c.set_knobs.new.self) c.drop_stale.new.keeper s.cursor s.passes) (SetLimit c.args.limit) (Ok Done) = grind arith in (
+    let did : IsCarried (view_of c.args.self.now) (book (seen c.set_knobs.new.self) c.drop_stale.new.keeper s.cursor s.passes)
+    (SetLimit c.args.limit) (Ok Done) = grind arith in (
       sound_carried {v = view_of c.args.self.now} (rw (← c.self.view_is) c.self.invariant.0) did,
       rw c.set_knobs.ensures
           (retuned (inl (rw c.knobs-knobs.ensures (sym (grind (arith, there))))) c.drop_stale.ensures.laid),

@@ -22,7 +22,8 @@ written c =
     let wide : length c.args.bytes.now ≡ PAGE_WORDS = search rules in
     store_written {row = c.in-Some.ensures.row} c.self.invariant.1 c.self.invariant.0.rows_rise (row_held c.in-Some.ensures) _
     c.store-2.ensures (sym c.in-Some.ensures.shared ∙ c.if-held.false)
-    (grind (arith, c.in-Some.ensures.spot, c.in-Some.ensures.frame, c.known_frame-frame.ensures)) c.write.ensures.wrote c.write.ensures.ledger wide
+    (grind (arith, c.in-Some.ensures.spot, c.in-Some.ensures.frame, c.known_frame-frame.ensures))
+    c.write.ensures.wrote c.write.ensures.ledger wide
 
 pub returns-clause-carried : goal.returns-clause-carried
 returns-clause-carried c = carried_so c.self.view_is (rw c.in-Some.ensures.spot) (written c).0
