@@ -1,9 +1,9 @@
 -- Frames written, read, found and filled, and a dup's place that comes to name another frame.
-use Rattle.ksm_book.proofs.Names.{Add, ap, arith, did, Dying, Finds, frame_at, frames_of, Free, get_or-set_other, get_or-set_same, HasNewFrame, holding, IsLawful, KeeperView, Keeps, Ledger, length}
-use Rattle.ksm_book.proofs.Names.{length-set, List, loads, MakesSteps, mounting, None, Note, Open, opened, PAGE_WORDS, Placed, Provides, Publish, puts, Raise, raised, replicate}
-use Rattle.ksm_book.proofs.Names.{replicate-append-replicate, set-set, Shape, Some, stepped, with_frame, ℕ, ◌+◌, ◌-◌, ◌<◌, ◌∙◌, ◌≡◌}
+use Rattle.ksm_book.proofs.Names.{Add, added, ap, arith, blank, did, Dying, Finds, frame_at, frames_of, Free, get_or-set_other, get_or-set_same, HasNewFrame, holding, IsLawful, KeeperView, Keeps}
+use Rattle.ksm_book.proofs.Names.{Ledger, length, length-set, List, loads, MakesSteps, mounting, None, Note, Open, opened, PAGE_WORDS, Placed, Provides, Publish, puts, Raise, raised, refl, replicate}
+use Rattle.ksm_book.proofs.Names.{replicate-append-replicate, set-get_or, set-set, Shape, Some, stepped, suc, with_frame, with_more, zero, ℕ, ◌+◌, ◌-◌, ◌<◌, ◌∙◌, ◌≡◌}
 use Rattle.ksm_book.proofs.Keeping.{searched_placed, searched_spends, spent_kept}
-use Rattle.ksm_book.proofs.Made.{made_one, made_part, made_then}
+use Rattle.ksm_book.proofs.Made.{first_made, made_one, made_part, made_then, none_made}
 use Rattle.ksm_book.proofs.Noted.{noted}
 
 -- ---------------------------------------------------------------- one frame's note
@@ -27,7 +27,7 @@ module _ {v w : KeeperView} {shape : Shape} {node g : ℕ} (same : shape ≡ v.t
     (finds : Finds v w node g) where
   -- rows and dups lie lawfully once the frame is found
   pub found_placed : Placed v.table.shape l.0 w.ledger l.1 l.2 l.3 None
-  found_placed = searched_placed _ (rw (← same) less) finds.reaped l.0 l.1 l.2 l.3 l.4
+  found_placed = searched_placed _ finds.reaped l.0 l.1 l.2 l.3 l.4
 
   -- the frame found is one of the table
   pub found_inside : g < frames_of v.table.shape
@@ -55,12 +55,12 @@ module _ {v w : KeeperView} {shape : Shape} {node : ℕ} {bytes : List ℕ} {g :
   -- a frame that was found and filled is in hand with its bytes
   pub took : w.ledger ≡ with_frame u.ledger g own → HasNewFrame v w node bytes g
   took taken_ledger =
-      let free = h.finds.lowest.free in
+      let free : (frame_at u.ledger g).kind ≡ Free = grind (arith, h.finds.lowest.there) in
       let now = ap (λ z. frame_at z g) taken_ledger ∙ at_again u.ledger g (found_within same less l h.finds) own in
       let more = spent_kept u.ledger g own (grind arith) in
       let before = searched_spends _ h.finds.reaped in
       let keeps : Keeps v w None (Some g) = λ across rows frame dups p.
-      let q = searched_placed _ (rw (← same) less) h.finds.reaped _ _ _ _ p in
+      let q = searched_placed _ h.finds.reaped _ _ _ _ p in
       rw taken_ledger (noted q g (found_inside same less l h.finds) own _ (grind arith) (grind arith)) in
       grind (arith, found_inside same less l h.finds)
 
@@ -69,6 +69,16 @@ module _ {v w : KeeperView} {shape : Shape} {node : ℕ} {bytes : List ℕ} {g :
 -- n references that came to a frame, and one more, are n + 1 steps of the keeper
 pub add_more : (v w w' : KeeperView) (f n found : ℕ) → MakesSteps v w (replicate n (Add f)) → w' ≡ did w (Add f) found → MakesSteps v w' (replicate (n + 1) (Add f))
 add_more v w w' f n found so_far is = grind (arith, replicate-append-replicate n 1 (Add f), made_then)
+
+-- n references that came to a frame change its note alone
+pub adds_ledger : (n : ℕ) {v w : KeeperView} (f : ℕ) → f < length v.ledger.frames → MakesSteps v w (replicate n (Add f))
+    → w.ledger ≡ with_frame v.ledger f (with_more (frame_at v.ledger f) n)
+adds_ledger zero {v} f lt m = grind (arith, none_made m, set-get_or v.ledger.frames f blank)
+adds_ledger (suc n) {v} f lt m =
+    let first = first_made m in
+    let note = frame_at v.ledger f in
+    follow v.ledger f lt (added note) (λ x. with_more x n) (adds_ledger n f (grind (arith, length-set)) first.1) refl
+    ∙ ap (λ b. with_frame v.ledger f (record note { base = b })) (omega arith)
 
 -- the words of a dying frame stay where a free one is raised
 pub words_kept : (v w : KeeperView) (f g found : ℕ) → (frame_at v.ledger g).kind ≡ Free → (frame_at v.ledger f).kind ≡ Dying → w ≡ did v (Raise g) found

@@ -1,6 +1,6 @@
 -- The sets of the free and of the dying frames follow the keeper's steps.
 use Rattle.ksm_book.proofs.Names.{ap, AreSets, arith, Bool, cases_lt, cond, did, Dying, dying_kind, frame_at, Free, free_kind, Freeze, get_or-set_other, get_or-set_same, get_or_past, inl, inr}
-use Rattle.ksm_book.proofs.Names.{IsSetOf, KeeperView, Kind, Ledger, length-set, List, Marks, MayLeave, Note, Raise, Reap, refl, Stable, Sub, true, with_frame, ℕ, ◌≡◌, ◌≢◌, ◌⊎◌}
+use Rattle.ksm_book.proofs.Names.{KeeperView, Kind, Ledger, length-set, List, Marks, MayLeave, Note, Raise, Reap, refl, Stable, Sub, true, with_frame, ℕ, ◌≡◌, ◌≢◌, ◌⊎◌}
 
 -- a step on one frame leaves the note of another, also where the step found that it could not be made
 pub other_if : (made : Bool) (k : Ledger) (f g : ℕ) (note : Note) → g ≢ f → frame_at (cond made (with_frame k f note) k) g ≡ frame_at k g
@@ -21,14 +21,9 @@ Tracks asked v w frame words words' = Marks words words' frame (asked (note w fr
 -- where no other frame changed, a set that was marked so, or stays so, is right again
 module _ {v w : KeeperView} (frame : ℕ) (table : w.table ≡ v.table)
     (others : (f : ℕ) → f ≢ frame → note w f ≡ note v f) where
-  right : (asked : Kind → Bool) {words words' : List ℕ} → IsSetOf asked v words → Tracks asked v w frame words words'
-      → IsSetOf asked w words'
-  right asked are follows = grind arith
-
   both : {free dying free' dying' : List ℕ} → AreSets v free dying → Tracks free_kind v w frame free free'
-      → Tracks dying_kind v w frame dying dying'
-      → AreSets w free' dying'
-  both are f d = record { free = right free_kind are.free f; dying = right dying_kind are.dying d }
+      → Tracks dying_kind v w frame dying dying' → AreSets w free' dying'
+  both are f d = grind arith
 
 -- both sets after a step on a frame
 module _ {v w : KeeperView} (found frame : ℕ) {free dying : List ℕ} (are : AreSets v free dying) where

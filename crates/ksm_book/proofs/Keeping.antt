@@ -1,8 +1,7 @@
 -- The keeper's steps as changes of a placement, and the lives that they spend.
-use Rattle.ksm_book.proofs.Names.{Add, added, All, All-filter, arith, blank, cases_eq, cases_lt, did, DupRow, dying_kind, dying_on, filter_passes, frame_at, Frames, frames_of, get_or}
-use Rattle.ksm_book.proofs.Names.{get_or-range_with_len, get_or-set_other, get_or-set_same, get_or_past, IfSome, KeeperView, Keeps, leaving, Ledger, length, length-range_with_len, List, MakesSteps}
-use Rattle.ksm_book.proofs.Names.{map, MayLeave, None, Note, Option, Placed, range_with_len, Reap, reaped, refl, Row, set, Shape, Some, spent, spent_on, Stable, suc, sum_by-set, with_frame, ℕ, []}
-use Rattle.ksm_book.proofs.Names.{◌*◌, ◌+◌, ◌<◌, ◌∷◌, ◌≡◌, ◌≤◌}
+use Rattle.ksm_book.proofs.Names.{Add, added, All, arith, blank, cases_eq, cases_lt, did, DupRow, dying_on, filter_passes, frame_at, Frames, frames_of, get_or, get_or-set_other, get_or-set_same}
+use Rattle.ksm_book.proofs.Names.{get_or_past, IfSome, KeeperView, Keeps, leaving, Ledger, length, length-set, List, MakesSteps, map, MayLeave, None, Note, Option, Placed, Reap, reaped, refl, Row}
+use Rattle.ksm_book.proofs.Names.{set, Shape, Some, spent, spent_on, Stable, suc, sum_by-set, with_frame, ℕ, [], ◌+◌, ◌<◌, ◌∷◌, ◌≡◌, ◌≤◌}
 use Rattle.std.proofs.lemmas.List.{set_past}
 use Rattle.ksm_book.proofs.Made.{first_made, none_made, step_made}
 use Rattle.ksm_book.proofs.Noted.{noted}
@@ -59,9 +58,9 @@ added_spends {v} {w} {g} m = grind (arith, step_made m, spent_kept v.ledger g (a
 
 -- ---------------------------------------------------------------- frames are reaped
 
--- a frame of the table on which nothing is
-abbrev IsLeft : Shape → Ledger → ℕ → Type 0
-IsLeft sh k f = (f < frames_of sh) × ((frame_at k f).base ≡ 0)
+-- a frame that the keeper knows, on which nothing is
+abbrev IsLeft : Ledger → ℕ → Type 0
+IsLeft k f = (f < length k.frames) × ((frame_at k f).base ≡ 0)
 
 -- what holds of each of two notes holds where one is put among others
 pub set_holds : (P : Note → Type 0) (xs : List Note) (i h : ℕ) (y : Note) → P y → P (get_or xs h blank) → P (get_or (set xs i y) h blank)
@@ -71,17 +70,17 @@ module _ (v : KeeperView) (g found : ℕ) where
   abbrev new : Note
   new = reaped v.table.shape.last_generation (frame_at v.ledger g)
 
-  still_left : (h : ℕ) → IsLeft v.table.shape v.ledger h → IsLeft v.table.shape (did v (Reap g) found).ledger h
-  still_left h left = grind (arith, set_holds (λ x. x.base ≡ 0) v.ledger.frames g h new refl left.1)
+  still_left : (h : ℕ) → IsLeft v.ledger h → IsLeft (did v (Reap g) found).ledger h
+  still_left h left = grind (arith, length-set, set_holds (λ x. x.base ≡ 0) v.ledger.frames g h new refl left.1)
 
-  reap_placed : {hand : Option ℕ} → IsLeft v.table.shape v.ledger g → Keeps v (did v (Reap g) found) hand hand
+  reap_placed : {hand : Option ℕ} → IsLeft v.ledger g → Keeps v (did v (Reap g) found) hand hand
   reap_placed {hand} left across rows frame dups p =
-      let reaps = noted p g left.0 new hand (grind arith) (λ f ne. refl) in
+      let reaps = noted p g (rw (← p.frames_long) left.0) new hand (grind arith) (λ f ne. refl) in
       grind arith
 
 -- frames on which nothing is were reaped: rows and dups lie lawfully
 reaps_placed : {hand : Option ℕ} (fs : List ℕ) (v w : KeeperView) → MakesSteps v w (map Reap fs)
-    → All (IsLeft v.table.shape v.ledger) fs → Keeps v w hand hand
+    → All (IsLeft v.ledger) fs → Keeps v w hand hand
 reaps_placed [] v w m left across rows frame dups p = rw (none_made m) p
 reaps_placed (f ∷ fs) v w m left across rows frame dups p =
     let first = first_made m in
@@ -96,22 +95,10 @@ reaps_spend (f ∷ fs) v w m =
     grind (arith, spent_kept, reaps_spend fs (did v (Reap f) first.0) w first.1)
 
 -- the dying frames of a node were reaped: rows and dups lie lawfully
-pub searched_placed : {v w : KeeperView} (node : ℕ) → node < v.table.shape.nodes → MakesSteps v w (map Reap (dying_on v.table.shape v.ledger node))
+pub searched_placed : {v w : KeeperView} (node : ℕ) → MakesSteps v w (map Reap (dying_on v.table.shape v.ledger node))
     → {hand : Option ℕ} → Keeps v w hand hand
-searched_placed {v} {w} node less m across rows frame dups p =
-    let sh = v.table.shape in
-    let size = sh.frames_per_node in
-    let end : node * size + size ≤ sh.nodes * size = grind arith in
-    let inside : All (λ f. f < frames_of sh) (range_with_len (node * size) size) =
-    λ i d lt. grind (arith, length-range_with_len, get_or-range_with_len) in
-    reaps_placed _ v w m
-    (λ i d lt. grind (
-      arith,
-      All-filter (λ f. dying_kind (frame_at v.ledger f).kind) (λ f. f < frames_of sh) _ inside i d lt,
-      filter_passes,
-      p.kinds,
-    ))
-    across rows frame dups p
+searched_placed {v} {w} node m across rows frame dups p =
+    reaps_placed _ v w m (λ i d lt. grind (arith, filter_passes, get_or_past, p.kinds)) across rows frame dups p
 
 -- reaping spends no fewer lives
 pub searched_spends : {v w : KeeperView} (node : ℕ) → MakesSteps v w (map Reap (dying_on v.table.shape v.ledger node)) → spent v.ledger ≤ spent w.ledger

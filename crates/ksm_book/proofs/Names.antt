@@ -62,7 +62,7 @@ pub use Rattle.ksm_book.specs.Due.{AreDue, comes_later, due_row_visited, due_vis
 pub use Rattle.ksm_book.specs.DuePass.{part_before, part_visited, ReachedBefore, StaysBefore, StopsInPart, TakesOverFrom}
 pub use Rattle.ksm_book.specs.Folded.{begun, IsBeside, IsStill, next_visited, page_visited, pages_ahead, pages_visited, restless_at, restless_row, visited, visits_beside}
 pub use Rattle.ksm_tree.specs.NumberSets.{has, Marks}
-pub use Rattle.ksm_book.specs.FrameSets.{AreSets, IsSetOf, MayLeave, NoneOf}
+pub use Rattle.ksm_book.specs.FrameSets.{AreSets, IsSetOf, MayLeave}
 pub use Rattle.ksm_book.specs.Keeping.{HasNewFrame, holding, IsLawful, Keeps, NoneLeft, past_lives, spent, spent_on, with_more}
 pub use Rattle.ksm_book.specs.Laid.{HasRemounted, Houses, IsLaid, lying, MayMove, Resettled, state_of, TurnedAway}
 pub use Rattle.ksm_book.specs.Mounted.{HasLost, HasMoved, MayMount, once_mounted}
@@ -70,7 +70,7 @@ pub use Rattle.ksm_book.specs.Placement.{Agrees, DupFits, FitsBase, in_hand, is_
 pub use Rattle.ksm_book.specs.Promised.{dup_frames, FindsPlace, HasItsOwn, is_in_use, IsOutlived, LieOn, own_frames, StandsOn}
 pub use Rattle.ksm_book.specs.Scanned.{Comes, doing, HasStayed, is_nowhere, IsForZero, last_visited, MayJoin, MeetsPage, Reached, up_to, VisitsPage}
 pub use Rattle.ksm_book.specs.Steps.{Allocates, AllocatesOn, along, dying_from, dying_kind, dying_on, free_kind, given_by, Gives, IsLowestFree, IsNeeded, loads, Log, MakesSteps, needed_after, puts}
-pub use Rattle.ksm_book.specs.Steps.{replayed, stepped, steps_of}
+pub use Rattle.ksm_book.specs.Steps.{NoneOf, replayed, stepped, steps_of}
 pub use Rattle.ksm_book.specs.Unmerged.{HasLeft, is_shared_of, IsStop, left_by, MayNotLeave, shared_of, Unshares}
 pub use Rattle.ksm_book.specs.Whole.{BookValue, BookView, HasShown, listed, mapped, nodes_got, view_of}
 pub use Rattle.ksm_book.specs.Worked.{apart, page, together}

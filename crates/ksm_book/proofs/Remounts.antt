@@ -1,9 +1,9 @@
 -- A dup moves to another frame, with all of its items: where its pages lie before and after it.
-use Rattle.ksm_book.proofs.Names.{Agrees, All, All-contains_itself, ap, arith, Bool, cond, Contains, count_alike, count_in, count_none, did, dup_numbered, DupFits, DupRow, each_has_number, eq-eqb}
-use Rattle.ksm_book.proofs.Names.{Err, find_all, find_passes, Finds, frame_at, Frames, frames_of, Free, Freeze, frozen, get_or-set_other, get_or-set_same, GuestPage, has_items, HasRemounted, instead}
-use Rattle.ksm_book.proofs.Names.{InUse, is_frame, IsInLife, IsLaid, IsLowestFree, IsServed, item_count, items_on, KeeperView, Ledger, length-set, List, list_any, list_any_at, MakesSteps, MayMount}
-use Rattle.ksm_book.proofs.Names.{MayMove, merged_into, mounting, named_at, ne_eqb, node_of, None, none_counted, Note, Ok, once_mounted, PagesView, place_frame, Placed, Publish, refl, Row, row_at}
-use Rattle.ksm_book.proofs.Names.{same_Some, set, Shape, Some, Stable, true, uses, with_frame, ℕ, ◌&&◌, ◌+◌, ◌<◌, ◌==◌, ◌∙◌, ◌≡◌, ◌≢◌, ◌≤◌}
+use Rattle.ksm_book.proofs.Names.{Agrees, All, All-contains_itself, ap, arith, Bool, cond, Contains, count_alike, count_in, count_none, did, Done, dup_numbered, DupFits, DupRow, each_has_number}
+use Rattle.ksm_book.proofs.Names.{eq-eqb, Err, find_all, find_passes, Finds, frame_at, Frames, frames_of, Free, Freeze, frozen, get_or-set_other, get_or-set_same, GuestPage, has_items, HasRemounted}
+use Rattle.ksm_book.proofs.Names.{instead, InUse, is_frame, IsInLife, IsLaid, IsLowestFree, IsServed, item_count, items_on, KeeperView, Ledger, length-set, List, list_any, list_any_at, MakesSteps}
+use Rattle.ksm_book.proofs.Names.{MayMount, MayMove, merged_into, mounting, named_at, ne_eqb, node_of, None, none_counted, Note, Ok, once_mounted, PagesView, place_frame, Placed, Publish, refl, Row}
+use Rattle.ksm_book.proofs.Names.{row_at, same_Some, set, Shape, Some, Stable, true, uses, with_frame, ℕ, ◌&&◌, ◌+◌, ◌<◌, ◌==◌, ◌∙◌, ◌≡◌, ◌≢◌, ◌≤◌}
 use Rattle.ksm_book.proofs.ByPage.{found_page, same_frames}
 use Rattle.ksm_book.proofs.Filling.{at_again}
 use Rattle.ksm_book.proofs.Keeping.{searched_placed, searched_spends, spent_kept}
@@ -119,7 +119,7 @@ module _ {v : PagesView} {k : KeeperView} {dup : DupRow} {node g : ℕ} (may : M
 
   module _ {w : KeeperView} {f : ℕ} (to : Finds k w node f) where
     abbrev p : Placed sh v.knobs.merge_across_nodes w.ledger v.rows v.frame dups None
-    p = kept k may.laid.same w None (searched_placed node (rw may.laid.same may.exists) to.reaped) may.laid.placed
+    p = kept k may.laid.same w None (searched_placed node to.reaped) may.laid.placed
 
     abbrev n : Note
     n = frame_at w.ledger g
@@ -179,7 +179,7 @@ module _ {v : PagesView} {k : KeeperView} {dup : DupRow} {node g : ℕ} (may : M
       -- it fails where a reader holds the frame
       module _ (other : count_in found ≢ n.base) where
         -- where the exchange found another count than the keeper's references, the dup stays
-        pub stays : {X : Type 0} → HasRemounted {X = X} v v k u dup node (Err InUse)
+        pub stays : HasRemounted v v k u dup node (Err InUse)
         stays = grind (arith, searched_spends _ to.reaped, p, known, item_lies)
 
       -- it is made where the keeper's references are all
@@ -223,14 +223,13 @@ module _ {v : PagesView} {k : KeeperView} {dup : DupRow} {node g : ℕ} (may : M
           laid_moved_dup = rw (goes ∙ ap (λ fr. record v { frame = fr }) (items_go f)) (record {
             small = may.laid.small;
             same = grind arith;
-            placed = rw ledger_is (remounted p dup among g f on_frame inside lowest.free live.life known.1
+            placed = rw ledger_is (remounted p dup among g f on_frame inside (grind (arith, lowest)) live.life known.1
                 (grind (arith, dup_fits, on_frame)) numbers);
             spent = grind (arith, spent_kept, searched_spends _ to.reaped);
           })
 
           -- once the new frame is mounted and the items lie there, the dup has moved to a frame of the node
-          pub has_remounted : {X : Type 0} {done : X} → (before : KeeperView) × (x ≡ did before (Publish dup.place f) 0)
-              → HasRemounted {X = X} v q k x dup node (Ok done)
+          pub has_remounted : (before : KeeperView) × (x ≡ did before (Publish dup.place f) 0) → HasRemounted v q k x dup node (Ok Done)
           has_remounted shows = grind (arith, laid_moved_dup, item_lies, known, may_mount, base, at_g, goes_there)
 
 -- where a dup is to move from a place, a dup stands at that place

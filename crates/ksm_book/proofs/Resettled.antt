@@ -1,6 +1,6 @@
 -- How a page gets another frame.
 use Rattle.ksm_book.proofs.Names.{ap, arith, change_row, FindsNone, GuestPage, HasNewFrame, Houses, IfSome, InPageOrder, IsKnown, IsLaid, KeeperView, leaving, lies_on, List, MakesSteps, MayLeave}
-use Rattle.ksm_book.proofs.Names.{on_its_own, Option, PagesView, Placed, Provides, Resettled, Row, Some, subst, TurnedAway, ℕ, ◌<◌, ◌≡◌}
+use Rattle.ksm_book.proofs.Names.{on_its_own, Option, PagesView, Placed, Provides, Resettled, Row, Some, subst, TurnedAway, ℕ, ◌≡◌}
 use Rattle.ksm_base.specs.declared.row.PageState.TheVariants.{Private}
 use Rattle.ksm_book.proofs.Shown.{provides_does}
 use Rattle.ksm_book.proofs.Keeping.{left_placed, left_spends, may_leave, searched_placed, searched_spends}
@@ -44,8 +44,7 @@ module _ {p : PagesView} {k w : KeeperView} (h : IsLaid p k) (rise : InPageOrder
         }
 
 -- where no frame of a node was found, pages that lie lawfully are turned away, and no page changed
-pub turned : {p : PagesView} {k w : KeeperView} {node : ℕ} → IsLaid p k → node < p.shape.nodes → FindsNone k w node → TurnedAway p p k w node
-turned {w = w} h less none =
-    let laid =
-    laid_kept h w (rw none.reaped.after) (searched_placed _ (rw h.same less) none.reaped) (searched_spends _ none.reaped) in
+pub turned : {p : PagesView} {k w : KeeperView} {node : ℕ} → IsLaid p k → FindsNone k w node → TurnedAway p p k w node
+turned {w = w} h none =
+    let laid = laid_kept h w (rw none.reaped.after) (searched_placed _ none.reaped) (searched_spends _ none.reaped) in
     grind arith

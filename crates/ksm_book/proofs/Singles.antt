@@ -1,5 +1,5 @@
 -- The commands on single pages, and on one dup, carried out.
-use Rattle.ksm_book.proofs.Names.{absent_parts, All, Answer, ap, arith, BookState, BookValue, BookView, change_row, comes_before, Command, Done, Drop, DupRow, Err, false, Fault, filter, filter_passes}
+use Rattle.ksm_book.proofs.Names.{absent_parts, All, Answer, ap, arith, BookState, BookValue, BookView, change_row, comes_before, Command, Done, Drop, DupRow, Err, false, filter, filter_passes}
 use Rattle.ksm_book.proofs.Names.{find_passes, find_put, FindsNone, frame_at, frames_of, fresh_row, GuestPage, HasNewFrame, HasRemounted, Held, holding, Houses, IfSome, if◌then◌else◌, inl}
 use Rattle.ksm_book.proofs.Names.{InPageOrder, is_some, IsCarried, IsHeld, IsLaid, IsReadable, IsSound, IsWritable, KeeperView, leaving, length, lies_on, List, live_dup_at, lying, MakesSteps}
 use Rattle.ksm_book.proofs.Names.{map_fixed, MayLeave, MayMove, MoveDup, MovePage, nat_le, NoFrame, None, Ok, on_its_own, Option, ordered_with, PAGE_WORDS, pages_ordered, PagesView, Provides, puts}
@@ -193,7 +193,7 @@ module _ {p m : PagesView} {page : GuestPage} {node : ℕ} {bytes : List ℕ} (n
       let rows = ap (λ (x : PagesView). without_page page x.rows) new.comes ∙ without_come _ _ new.rise new.absent in
       let frame : lies_on page None m.frame ≡ p.frame = grind (arith, new.others, lies_again, lies_still) in
       let back : q ≡ p = grind (arith, goes, new.comes) in
-      (grind arith, rw back (turned h new.less searched).laid)
+      (grind arith, rw back (turned h searched).laid)
 
 -- ---------------------------------------------------------------- a dup that moves
 
@@ -202,10 +202,6 @@ pub place_is : (b : BookState) (place : ℕ) (dup : DupRow) → Some dup ≡ liv
 place_is b place dup found = grind (arith, find_passes)
 
 module _ {p q : PagesView} {k l : KeeperView} {cursor : Option GuestPage} {passes place node : ℕ} {dup : DupRow} (found : Some dup ≡ live_dup_at (state_of p cursor passes) place) (may : MayMove p k dup node) where
-  -- `MoveDup` is carried out and answers `Done` where the dup moved to a frame of the node
-  pub done_carried : {X : Type 0} {done : X} → HasRemounted {X = X} p q k l dup node (Ok done) → IsCarried (book p k cursor passes) (book q l cursor passes) (MoveDup place node) (Ok Done)
-  done_carried h = grind arith
-
-  -- it answers the fault for which the dup stayed
-  pub fault_carried : {X : Type 0} (fault : Fault) → HasRemounted {X = X} p q k l dup node (Err fault) → IsCarried (book p k cursor passes) (book q l cursor passes) (MoveDup place node) (Err fault)
-  fault_carried fault h = grind arith
+  -- `MoveDup` is carried out, and answers `Done` where the dup moved to a frame of the node, else the fault for which it stayed
+  pub remount_carried : (answer : Answer) → HasRemounted p q k l dup node answer → IsCarried (book p k cursor passes) (book q l cursor passes) (MoveDup place node) answer
+  remount_carried answer h = grind arith

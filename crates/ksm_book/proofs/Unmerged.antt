@@ -1,8 +1,8 @@
 -- Pages that leave their dups, or the zero page, one after another.
-use Rattle.ksm_book.proofs.Names.{All, append-nil, arith, Bool, change_row, change_rows, false, Fault, filter, filter_none, find, find_all, find_passes, GuestPage, HasLeft, Held}
-use Rattle.ksm_book.proofs.Names.{InPageOrder, is_next, is_of, is_shared_of, is_some, IsHeld, IsLaid, KeeperView, left_by, length, length-append, let_go, List, lying, Mapped, MayNotLeave, None, not}
-use Rattle.ksm_book.proofs.Names.{of_guest, on_its_own, Option, option_map, PagesView, refl, Resettled, ResettlesEach, Row, row_at, same_page, same_Some, shared_state, slice_get, Some}
-use Rattle.ksm_book.proofs.Names.{take-append_seam, true, Unshares, ℕ, [], ◌++◌, ◌+◌, ◌<◌, ◌∷◌, ◌≡◌, ◌≤◌}
+use Rattle.ksm_book.proofs.Names.{All, append-nil, arith, Bool, change_row, change_rows, false, Fault, filter, filter_none, find, find_all, find_passes, GuestPage, HasLeft, Held, InPageOrder, is_next}
+use Rattle.ksm_book.proofs.Names.{is_shared_of, is_some, IsHeld, IsLaid, KeeperView, left_by, length, length-append, let_go, List, lying, Mapped, MayNotLeave, None, not, of_guest, on_its_own, Option}
+use Rattle.ksm_book.proofs.Names.{option_map, PagesView, refl, Resettled, ResettlesEach, Row, row_at, same_page, same_Some, shared_state, slice_get, Some, take-append_seam, true, Unshares, ℕ, []}
+use Rattle.ksm_book.proofs.Names.{◌++◌, ◌+◌, ◌<◌, ◌∷◌, ◌≡◌, ◌≤◌}
 use Rattle.ksm_base.proofs.Edits.{count_more}
 use Rattle.ksm_base.specs.Counting.{mergeable_count}
 use Rattle.ksm_base.specs.declared.row.PageState.TheVariants.{Private}
@@ -10,7 +10,7 @@ use Rattle.std.proofs.lemmas.List.Sums.{count_by-le-length}
 use Rattle.ksm_book.proofs.Along.{along_end, along_next, along_none, along_stop, FitsPage, further, IsAlong, next_is, parted, passed, passed_all, position, there}
 use Rattle.ksm_book.proofs.ByPage.{row_of_page}
 use Rattle.ksm_book.proofs.Laying.{laid_changed}
-use Rattle.ksm_book.proofs.Shown.{each_does, unmerges_does}
+use Rattle.ksm_book.proofs.Shown.{each_does}
 use Rattle.ksm_book.proofs.Singles.{change_still, settled_then}
 
 -- where all rows are mergeable, none changes by becoming so
@@ -116,11 +116,6 @@ seam : (xs : List Row) (x : Row) (ys : List Row) → slice_get (xs ++ x ∷ ys) 
 seam [] x ys = refl
 seam (y ∷ xs) x ys = seam xs x ys
 
--- rows that were unshared, to the last or up to a stop, are in the frames of the same table
-pub unshares_own : {p q : PagesView} {k l : KeeperView} {guest : Option ℕ} {count : ℕ} {stop : Option Fault} → Unshares p q k l guest count stop
-    → l.table ≡ k.table
-unshares_own u = (unmerges_does _ _ _ _ u.unmerges).1.table
-
 module _ {p q : PagesView} {k l : KeeperView} {guest : Option ℕ} {count : ℕ} {last : Option GuestPage}
     (u : IsUnsharing p q k l guest count last) (rise : InPageOrder p.rows) where
   abbrev met : List Row
@@ -197,24 +192,3 @@ module _ {p q : PagesView} {k l : KeeperView} {guest : Option ℕ} {count : ℕ}
 -- the row is visited by the scan
 abbrev pub in_scan : Row → Row
 in_scan r = record r { mergeable = true }
-
--- a guest's pages are mergeable up to the cursor
-pub record IsMarking (p q : PagesView) (guest : ℕ) (last : Option GuestPage) : Type 0 where
-  -- the guest's rows are in the scan up to the cursor
-  pub along : IsAlong (is_of guest) in_scan p.rows q.rows last
-  -- nothing changed but the rows
-  pub pages : q ≡ record p { rows = q.rows }
-  -- the numbers of the cursor's page fit
-  pub fits : FitsPage last
-
-module _ {p q : PagesView} {guest : ℕ} {last : Option GuestPage} (u : IsMarking p q guest last) where
-  -- once the next page of the guest is mergeable too, the guest's pages are so up to that page
-  pub marking_next : InPageOrder p.rows → {page : GuestPage}
-      → option_map (λ r. r.page) (find (is_next (Some guest) last) q.rows) ≡ Some page
-      → {v : PagesView} → v ≡ record q { rows = change_row page in_scan q.rows }
-      → FitsPage (Some page) → IsMarking p v guest (Some page)
-  marking_next rise told {v} goes fits = grind (arith, along_next (λ _. refl) u.along rise told)
-
-  -- where no page of the guest is left, all its rows are mergeable
-  pub marking_end : find (is_next (Some guest) last) q.rows ≡ None → q ≡ record p { rows = change_rows (is_of guest) in_scan p.rows }
-  marking_end ended = grind (arith, along_end (λ _. refl) u.along ended)

@@ -4,7 +4,7 @@ use Rattle.ksm_book.proofs.Names.{KeeperView, Knobs, left_by, list_any, map, map
 use Rattle.ksm_book.proofs.Names.{Some, state_of, true, UnknownPage, Unmerge, Unmerged, unshare_stopped, unshared, Unshares, ℕ, ◌∙◌, ◌≡◌}
 use Rattle.ksm_book.proofs.Laying.{laid_mapped, retuned}
 use Rattle.ksm_book.proofs.Singles.{book, Carries}
-use Rattle.ksm_book.proofs.Unmerged.{in_scan, unshares_own}
+use Rattle.ksm_book.proofs.Unmerged.{in_scan}
 
 -- the first row of a guest is told, if it has one
 abbrev pub IsTold : PagesView → ℕ → Option Held → Type 0
@@ -17,18 +17,14 @@ has_told p guest o told = any_found (is_of guest) p.rows ∙ (grind (arith, told
 
 -- it was asked for the first row of a guest
 module _ (p : PagesView) {k : KeeperView} {cursor : Option GuestPage} {passes guest : ℕ} (o : Option Held) (told : IsTold p guest o) where
-  -- where the guest has no row, `Unmerge` of it is refused, and nothing changes
-  pub unmerge_refused : is_some o ≡ false → IsCarried (book p k cursor passes) (book p k cursor passes) (Unmerge guest) (Err UnknownPage)
-  unmerge_refused none = grind (arith, has_told p guest o told)
-
-  -- and so is `Mergeable`
-  pub mergeable_refused : is_some o ≡ false → IsCarried (book p k cursor passes) (book p k cursor passes) (Mergeable guest) (Err UnknownPage)
-  mergeable_refused none = grind (arith, has_told p guest o told)
+  -- where the guest has no row, `Unmerge` and `Mergeable` of it are refused, and nothing changes
+  pub guest_refused : is_some o ≡ false → let b = book p k cursor passes in IsCarried b b (Unmerge guest) (Err UnknownPage) × IsCarried b b (Mergeable guest) (Err UnknownPage)
+  guest_refused none = grind (arith, has_told p guest o told)
 
   -- `Unmerge` of a guest that has a row is carried out where its shared rows are unshared up to a stop or the end
   pub unmerge_carried : {q : PagesView} {l : KeeperView} {count : ℕ} {stop : Option Fault} → is_some o ≡ true → Unshares p q k l (Some guest) count stop
       → Carries p k q l cursor passes (Unmerge guest) (Ok (Unmerged count stop))
-  unmerge_carried some u = (grind (arith, has_told p guest o told, unshares_own u, slice_get_past), u.laid)
+  unmerge_carried some u = (grind (arith, has_told p guest o told, slice_get_past), u.laid)
 
   -- `Mergeable` of a guest that has a row is carried out where all its rows are put in the scan
   pub mergeable_carried : {q : PagesView} → is_some o ≡ true → IsLaid p k → q ≡ record p { rows = change_rows (is_of guest) in_scan p.rows }
@@ -45,7 +41,7 @@ module _ {p m : PagesView} {k l : KeeperView} (cursor : Option GuestPage) (passe
   -- whatever it does to the rows and knobs once the pages have left
   carried : (q : PagesView) (cursor' : Option GuestPage) → q.frame ≡ m.frame → state_of q cursor' passes ≡ unshare_stopped stop count b
       → IsCarried (book p k cursor passes) (book q l cursor' passes) (SetRun 2) (Ok (Unmerged count stop))
-  carried q cursor' frame state = grind (arith, unshares_own u)
+  carried q cursor' frame state = grind arith
 
   across : knobs.merge_across_nodes ≡ m.knobs.merge_across_nodes
   across = grind arith

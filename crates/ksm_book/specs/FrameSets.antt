@@ -1,9 +1,8 @@
 -- The sets of the free and of the dying frames that the keeper knows (own).
-use Rattle.std.specs.Prelude.{◌≡◌, ◌*◌, ℕ, ◌<◌, ◌≤◌, Bool, true, false, List, length}
+use Rattle.std.specs.Prelude.{◌≡◌, ◌*◌, ℕ, ◌<◌, ◌≤◌, Bool, false, List, length}
 use Rattle.ksm_base.specs.Values.{frames_of}
 use Rattle.frame_core.specs.declared.event.KeeperStep.TheVariants.{Sub}
 use Rattle.frame_core.specs.declared.frame.Kind.{Kind}
-use Rattle.frame_core.specs.declared.ledger.Ledger.{Ledger}
 use Rattle.frame_core.specs.Ledger.{frame_at}
 use Rattle.frame_table.specs.Kept.{May}
 use Rattle.frame_table.specs.Named.{KeeperView}
@@ -23,14 +22,3 @@ pub record AreSets (v : KeeperView) (free_set dying_set : List ℕ) : Type 0 whe
 -- a frame in use may lose a reference of the keeper
 abbrev pub MayLeave : KeeperView → ℕ → Type 0
 MayLeave v f = May v (Sub f) × (free_kind (frame_at v.ledger f).kind ≡ false)
-
--- none of the frames from low on and below high is of this kind
-abbrev pub NoneOf : (Kind → Bool) → Ledger → ℕ → ℕ → Type 0
-NoneOf asked k low high = (f : ℕ) → low ≤ f → f < high → asked (frame_at k f).kind ≡ false
-
--- f is the first that is
-pub record IsFirstOf (asked : Kind → Bool) (k : Ledger) (low high f : ℕ) : Type 0 where
-  pub low_is : low ≤ f
-  pub high_is : f < high
-  pub there : asked (frame_at k f).kind ≡ true
-  pub least : NoneOf asked k low f

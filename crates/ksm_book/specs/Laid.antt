@@ -1,9 +1,10 @@
 -- The pages as they lie in the keeper's frames, and the state of the book that they tell (own).
-use Rattle.std.specs.Prelude.{◌≡◌, ℕ, ◌<◌, ◌≤◌, ◌&&◌, ◌==◌, find, MatchOption, Result, Ok, Err, Option, None, Some, List, []}
+use Rattle.std.specs.Prelude.{◌≡◌, ℕ, ◌<◌, ◌≤◌, ◌&&◌, ◌==◌, find, MatchOption, Ok, Err, Option, None, Some, List, []}
 use Rattle.ksm_base.specs.declared.page.GuestPage.{GuestPage}
 use Rattle.ksm_base.specs.declared.row.PageState.TheVariants.{Private}
-use Rattle.ksm_base.specs.declared.fault.Fault.{Fault}
 use Rattle.ksm_base.specs.declared.fault.Fault.TheVariants.{InUse, NoFrame}
+use Rattle.ksm_base.specs.declared.reply.Reply.TheVariants.{Done}
+use Rattle.ksm_base.specs.Answers.{Answer}
 use Rattle.ksm_base.specs.declared.row.DupRow.{DupRow}
 use Rattle.ksm_base.specs.declared.row.Row.{Row}
 use Rattle.ksm_base.specs.Rows.{change_row, has_items, row_at}
@@ -62,12 +63,11 @@ pub record TurnedAway (p q : PagesView) (k l : KeeperView) (node : ℕ) : Type 0
   pub laid : IsLaid q l
 
 -- a dup moved to a frame of the node; or none was free; or a reader holds its frame
-abbrev pub MovesOr : {X : Type 0} → PagesView → PagesView → KeeperView → KeeperView → DupRow → ℕ → Result X Fault
-    → Type 0
-MovesOr p q k l dup node (Ok moved) = Moves (lying p k) (lying q l) p.rows dup node
+abbrev pub MovesOr : PagesView → PagesView → KeeperView → KeeperView → DupRow → ℕ → Answer → Type 0
+MovesOr p q k l dup node (Ok Done) = Moves (lying p k) (lying q l) p.rows dup node
 MovesOr p q k l dup node (Err (NoFrame n)) = (n ≡ node) × TurnsAway (lying p k) (lying q l) n
 MovesOr p q k l dup node (Err InUse) = FindsHeld (lying p k) (lying q l) p.rows dup node
-MovesOr p q k l dup node (Err fault) = ⊥
+MovesOr p q k l dup node _ = ⊥
 
 -- a dup may move to a frame of a node
 pub record MayMove (p : PagesView) (k : KeeperView) (dup : DupRow) (node : ℕ) : Type 0 where
@@ -80,15 +80,14 @@ pub record MayMove (p : PagesView) (k : KeeperView) (dup : DupRow) (node : ℕ) 
   pub exists : node < p.shape.nodes
   pub home : p.knobs.merge_across_nodes ≡ 0 → node ≡ dup.tree
 
--- a dup was to move to a frame of a node; the result tells whether it did
-pub record HasRemounted {X : Type 0} (p q : PagesView) (k l : KeeperView) (dup : DupRow) (node : ℕ)
-    (result : Result X Fault) : Type 0 where
+-- a dup was to move to a frame of a node; the answer tells whether it did
+pub record HasRemounted (p q : PagesView) (k l : KeeperView) (dup : DupRow) (node : ℕ) (answer : Answer) : Type 0 where
   -- but for where its pages lie, the pages are as they were
   pub rest : q ≡ record p { frame = q.frame }
   -- rows and dups lie lawfully
   pub laid : IsLaid q l
   -- the steps that were made, and where each page lies after them
-  pub moves : MovesOr p q k l dup node result
+  pub moves : MovesOr p q k l dup node answer
 
 -- the keeper loaded the bytes from the frame, each word once, if there was a page to read and it has a frame
 abbrev pub LoadsIf : Option ℕ → Option (List ℕ) → KeeperView → KeeperView → Type 0

@@ -49,18 +49,25 @@ dying_from k low count = filter (λ f. dying_kind (frame_at k f).kind) (range_wi
 abbrev pub dying_on : Shape → Ledger → ℕ → List ℕ
 dying_on sh k node = dying_from k (node * sh.frames_per_node) sh.frames_per_node
 
+-- none of the frames from low on and below high is of this kind
+abbrev pub NoneOf : (Kind → Bool) → Ledger → ℕ → ℕ → Type 0
+NoneOf asked k low high = (f : ℕ) → low ≤ f → f < high → asked (frame_at k f).kind ≡ false
+
+-- f is the first that is
+pub record IsFirstOf (asked : Kind → Bool) (k : Ledger) (low high f : ℕ) : Type 0 where
+  pub low_is : low ≤ f
+  pub high_is : f < high
+  pub there : asked (frame_at k f).kind ≡ true
+  pub least : NoneOf asked k low f
+
 -- no frame of the node is free
 abbrev pub HasNoFree : Shape → Ledger → ℕ → Type 0
-HasNoFree sh k node =
-    (f : ℕ) → node * sh.frames_per_node ≤ f → f < node * sh.frames_per_node + sh.frames_per_node
-    → free_kind (frame_at k f).kind ≡ false
+HasNoFree sh k node = NoneOf free_kind k (node * sh.frames_per_node) (node * sh.frames_per_node + sh.frames_per_node)
 
 -- f is the lowest free frame of the node
-pub record IsLowestFree (sh : Shape) (k : Ledger) (node f : ℕ) : Type 0 where
-  pub low : node * sh.frames_per_node ≤ f
-  pub high : f < node * sh.frames_per_node + sh.frames_per_node
-  pub free : (frame_at k f).kind ≡ Free
-  pub least : (g : ℕ) → node * sh.frames_per_node ≤ g → g < f → free_kind (frame_at k g).kind ≡ false
+abbrev pub IsLowestFree : Shape → Ledger → ℕ → ℕ → Type 0
+IsLowestFree sh k node =
+    IsFirstOf free_kind k (node * sh.frames_per_node) (node * sh.frames_per_node + sh.frames_per_node)
 
 -- the frame that a step gives
 abbrev pub given_by : KeeperStep → Option ℕ

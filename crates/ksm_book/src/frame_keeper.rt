@@ -10,8 +10,8 @@ ghost use Rattle.frame_core.specs.Ledger.{frame_at, first_ledger};
 ghost use Rattle.frame_core.specs.State.{frame_word, count_in};
 ghost use Rattle.frame_table.specs.Kept.{May, did, Did};
 ghost use Rattle.ksm_tree.specs.NumberSets.{Marks};
-ghost use Rattle.ksm_book.specs.FrameSets.{NoneOf, IsFirstOf, MayLeave};
-ghost use Rattle.ksm_book.specs.Steps.{free_kind, dying_kind};
+ghost use Rattle.ksm_book.specs.FrameSets.{MayLeave};
+ghost use Rattle.ksm_book.specs.Steps.{NoneOf, IsFirstOf, free_kind, dying_kind};
 
 use frame_core::Kind;
 use frame_table::{FrameTable, Keeper};

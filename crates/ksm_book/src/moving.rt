@@ -22,7 +22,7 @@ fn remount(
     table: &FrameTable,
     dup: DupRow,
     node: u32,
-) -> Result<(), Fault>
+) -> Result<Reply, Fault>
     requires own { keeper.old.table ≡ table.now }
     requires may { MayMove (seen pages.old) keeper.old dup node }
     ensures { HasRemounted (seen pages.old) (seen pages.new) keeper.old keeper.new dup node result }
@@ -39,7 +39,7 @@ fn remount(
     }
     mount(keeper, table, left, frame, dup.place, items);
     pages.set_dup_frame(dup.place, frame);
-    Ok(())
+    Ok(Reply::Done)
 }
 
 impl State {
@@ -57,9 +57,6 @@ impl State {
         if self.pages.knobs().merge_across_nodes == 0 && dup.tree != node {
             return Err(Fault::CrossesNodes);
         }
-        match remount(&mut self.pages, &mut self.keeper, table, dup, node) {
-            Ok(()) => Ok(Reply::Done),
-            Err(fault) => Err(fault),
-        }
+        remount(&mut self.pages, &mut self.keeper, table, dup, node)
     }
 }

@@ -71,8 +71,7 @@ fn unshare_each(
     requires own { keeper.old.table ≡ table.now }
     requires laid { IsLaid (seen pages.old) keeper.old }
     requires homes { All (λ r. r.home < pages.old.shape.nodes) pages.old.rows }
-    ensures own { keeper.new.table ≡ keeper.old.table }
-    ensures unshares { Unshares (seen pages.old) (seen pages.new) keeper.old keeper.new guest result.0 result.1 }
+    ensures { Unshares (seen pages.old) (seen pages.new) keeper.old keeper.new guest result.0 result.1 }
 {
     pages.lie_in_order();
     let mut count = 0;

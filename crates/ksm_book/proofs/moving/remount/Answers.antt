@@ -4,7 +4,7 @@ use Rattle.ksm_book.proofs.Resettled.{turned}
 use Rattle.ksm_book.proofs.moving.remount.Goals as goal
 
 pub returns-in_default : goal.returns-in_default
-returns-in_default c = grind (arith, turned c.requires.may.laid c.requires.may.exists c.in_default.ensures)
+returns-in_default c = grind (arith, turned c.requires.may.laid c.in_default.ensures)
 
 pub freeze-requires-clause-may : goal.freeze-requires-clause-may
 freeze-requires-clause-may c =

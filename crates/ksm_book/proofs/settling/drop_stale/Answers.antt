@@ -1,4 +1,4 @@
-use Rattle.ksm_book.proofs.Names.{ap, arith, count_by, is_stale, PagesView, sym, ◌∙◌}
+use Rattle.ksm_book.proofs.Names.{arith, sym, ◌∙◌}
 use Rattle.ksm_book.proofs.Pruning.{drop_few, drop_fewer, drop_may, drop_vacant, dropped, drops_more}
 use Rattle.ksm_book.proofs.settling.drop_stale.Goals as goal
 

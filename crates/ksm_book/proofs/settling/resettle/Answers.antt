@@ -3,7 +3,7 @@ use Rattle.ksm_book.proofs.Resettled.{may_left, resettled, turned}
 use Rattle.ksm_book.proofs.settling.resettle.Goals as goal
 
 pub returns-in_default-clause-turned : goal.returns-in_default-clause-turned
-returns-in_default-clause-turned c = (refl, turned c.requires.laid c.requires.node c.in_default.ensures.provides)
+returns-in_default-clause-turned c = (refl, turned c.requires.laid c.in_default.ensures.provides)
 
 pub release_if-requires-clause-may : goal.release_if-requires-clause-may
 release_if-requires-clause-may c =

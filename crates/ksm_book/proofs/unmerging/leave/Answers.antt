@@ -39,7 +39,7 @@ release_if-requires-clause-may c =
 
 pub returns-in_default-clause-turned : goal.returns-in_default-clause-turned
 returns-in_default-clause-turned c =
-    search (rules, turned c.requires.laid c.requires.home c.in_default.ensures.provides)
+    search (rules, turned c.requires.laid c.in_default.ensures.provides)
 
 pub returns-then-is_some-2-clause-left : goal.returns-then-is_some-2-clause-left
 returns-then-is_some-2-clause-left c =

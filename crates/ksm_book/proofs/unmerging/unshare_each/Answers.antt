@@ -1,5 +1,5 @@
 use Rattle.ksm_book.proofs.Names.{rules, ◌∙◌}
-use Rattle.ksm_book.proofs.Unmerged.{unshares_own, unsharing_begins, unsharing_end, unsharing_home, unsharing_next, unsharing_own, unsharing_stop}
+use Rattle.ksm_book.proofs.Unmerged.{unsharing_begins, unsharing_end, unsharing_home, unsharing_next, unsharing_own, unsharing_stop}
 use Rattle.ksm_book.proofs.unmerging.unshare_each.Goals as goal
 
 pub pages-init : goal.pages-init
@@ -8,23 +8,16 @@ pages-init c = unsharing_begins _ _ _ c.requires.laid
 pub leave-requires-clause-own : goal.leave-requires-clause-own
 leave-requires-clause-own c = unsharing_own c.pages.invariant c.lie_in_order.ensures.rise ∙ c.requires.own
 
-pub returns-in-Err-clause-own : goal.returns-in-Err-clause-own
-returns-in-Err-clause-own c =
-    unshares_own (unsharing_stop c.pages.invariant c.lie_in_order.ensures.rise c.in-Some.ensures.1 c.in-Err.ensures.turned)
-
-pub returns-clause-own : goal.returns-clause-own
-returns-clause-own c = unshares_own (unsharing_end c.pages.invariant c.lie_in_order.ensures.rise c.in_default.ensures)
-
 pub leave-requires-clause-home : goal.leave-requires-clause-home
 leave-requires-clause-home c =
     unsharing_home c.pages.invariant c.lie_in_order.ensures.rise c.in-Some.ensures.1 c.in-Some.ensures.0 c.requires.homes
 
-pub returns-in-Err-clause-unshares : goal.returns-in-Err-clause-unshares
-returns-in-Err-clause-unshares c = unsharing_stop c.pages.invariant c.lie_in_order.ensures.rise c.in-Some.ensures.1 c.in-Err.ensures.turned
+pub returns-in-Err : goal.returns-in-Err
+returns-in-Err c = unsharing_stop c.pages.invariant c.lie_in_order.ensures.rise c.in-Some.ensures.1 c.in-Err.ensures.turned
 
 pub pages-preserved : goal.pages-preserved
 pages-preserved c =
     unsharing_next c.pages.invariant c.lie_in_order.ensures.rise c.in-Some.ensures.1 c.in-Ok.ensures.left (search rules, search rules)
 
-pub returns-clause-unshares : goal.returns-clause-unshares
-returns-clause-unshares c = unsharing_end c.pages.invariant c.lie_in_order.ensures.rise c.in_default.ensures
+pub returns : goal.returns
+returns c = unsharing_end c.pages.invariant c.lie_in_order.ensures.rise c.in_default.ensures

@@ -1,10 +1,10 @@
 use Rattle.ksm_book.proofs.Names.{refl, seen}
 use Rattle.ksm_book.proofs.Singles.{carried_so, lawful}
-use Rattle.ksm_book.proofs.Unshared.{mergeable_carried, mergeable_refused}
+use Rattle.ksm_book.proofs.Unshared.{guest_refused, mergeable_carried}
 use Rattle.ksm_book.proofs.state.State.mergeable.Goals as goal
 
 pub returns-then-is_none : goal.returns-then-is_none
-returns-then-is_none c = rw (← c.self.view_is) (mergeable_refused (seen c.self.inside.pages) _ c.next.ensures c.if-is_none.ensures)
+returns-then-is_none c = rw (← c.self.view_is) (guest_refused (seen c.self.inside.pages) _ c.next.ensures c.if-is_none.ensures).1
 
 pub invariant_of-self : goal.invariant_of-self
 invariant_of-self c =

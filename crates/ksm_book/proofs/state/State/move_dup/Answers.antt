@@ -1,8 +1,8 @@
-use Rattle.std.proofs.Common.{arith}
 use Rattle.ksm_book.proofs.Names.{MayMove, refl, seen, state_of}
-use Rattle.ksm_book.proofs.Singles.{carried_so, done_carried, fault_carried, place_is}
+use Rattle.std.proofs.Common.{arith}
+use Rattle.ksm_book.proofs.Singles.{carried_so, place_is, remount_carried}
 use Rattle.ksm_book.proofs.state.State.move_dup.Goals as goal
-use Rattle.ksm_book.proofs.state.State.move_dup.Goals.{in-Err, in-Ok, Joined-else-knobs-eq0}
+use Rattle.ksm_book.proofs.state.State.move_dup.Goals.{Joined-else-knobs-eq0}
 
 -- the dup may move to the node
 may : (c : Joined-else-knobs-eq0) → MayMove (seen c.self.inside.pages) c.self.inside.keeper c.in-Some.dup c.args.node
@@ -22,7 +22,4 @@ remount-requires-clause-may c = grind (arith, may)
 pub returns : goal.returns
 returns c =
     let there = may ((goal.at.returns c).Joined-else-knobs-eq0) in
-    carried_so c.self.view_is refl (elim c.match-remount.branch [
-      | in-Ok w ↦ rw w.result-is (done_carried c.in-Some.ensures there w.in-Ok.ensures)
-      | in-Err w ↦ rw w.result-is (fault_carried c.in-Some.ensures there _ w.in-Err.ensures)
-    ])
+    carried_so c.self.view_is refl (remount_carried c.in-Some.ensures there _ c.remount.ensures)
