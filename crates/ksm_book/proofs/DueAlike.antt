@@ -1,15 +1,15 @@
 -- Visits of pages do what those of the definitions do, where the rows further on that still wait are hidden from these.
 use Rattle.ksm_book.proofs.Scanned.{restless_mergeable}
-use Rattle.ksm_book.proofs.Names.{after_cursor, All, All-map, ap, AreAscending, arith, before_irrefl, best_dup, BookState, Bool, cases_Bool, change_row, change_rows, comes_before, comes_later}
-use Rattle.ksm_book.proofs.Names.{count_mapped, Deed, doing, due_visited, due_visits, dup_frame, DupRow, each_at_page, false, find_all, find_mapped, find_none, find_nothing, find_passes, Frames}
-use Rattle.ksm_book.proofs.Names.{get_or, get_or_from_slice_get, GuestPage, handled, has_item, HasStayed, hidden_from, if◌then◌else◌, inl, InPageOrder, inr, is_best, is_for_zero, is_no_rival}
-use Rattle.ksm_book.proofs.Names.{is_restless, is_stale, IsSound, item_count, List, made_dup, map_alike, map_mapped, may_join, mergeable_pages, merged_into, new_place, None, not, not_both}
-use Rattle.ksm_book.proofs.Names.{one_before, Option, option_map, page, page_visited, pages_visited, paired, pairs_head, pairs_tail, partner, place_count, refl, restless_at, restless_row, Row}
-use Rattle.ksm_book.proofs.Names.{row_at, row_visiting, same_page, same_page_eq, same_page_refl, settled, settled_calmer, slice_get_within, Some, sound_changed, sound_row_visited, stayed, subst, sym}
-use Rattle.ksm_book.proofs.Names.{taken_over, takes_over, true, true≢false, visited, waiting_state, waits_for, waits_tells, Zero, ℕ, [], ◌&&◌, ◌++◌, ◌+◌, ◌==◌, ◌||◌, ◌∙◌, ◌∷◌, ◌≡◌}
+use Rattle.ksm_book.proofs.Names.{after_cursor, All, All-map, ap, apart, AreAscending, arith, before_irrefl, best_dup, BookState, Bool, cases_Bool, change_row, change_rows, comes_before}
+use Rattle.ksm_book.proofs.Names.{comes_later, count_mapped, Deed, doing, due_visited, due_visits, dup_frame, DupRow, each_at_page, false, find_all, find_mapped, find_none, find_passes}
+use Rattle.ksm_book.proofs.Names.{Frames, freed, get_or, get_or_from_slice_get, GuestPage, handled, has, has_item, hidden_from, if◌then◌else◌, inl, InPageOrder, inr, is_best, is_for_zero}
+use Rattle.ksm_book.proofs.Names.{is_no_rival, is_restless, is_stale, IsSound, item_count, List, made_dup, map_alike, map_mapped, may_join, mergeable_pages, merged_into, new_place, None}
+use Rattle.ksm_book.proofs.Names.{not, not_both, one_before, Option, option_map, page, page_visited, pages_visited, paired, pairs_head, pairs_tail, partner, place_count, refl, restless_at}
+use Rattle.ksm_book.proofs.Names.{Row, row_at, row_visiting, same_page, same_page_eq, same_page_refl, settled, settled_calmer, slice_get_within, Some, sound_changed, subst, sym, takes_over}
+use Rattle.ksm_book.proofs.Names.{true, visited, waiting_state, waits_for, waits_tells, Zero, [], ℕ, ◌&&◌, ◌||◌, ◌∙◌, ◌∷◌, ◌≡◌}
 use Rattle.ksm_base.specs.declared.row.PageState.TheVariants.{Private}
-use Rattle.ksm_book.proofs.Folded.{by_row, pages_go, then_idle}
-use Rattle.ksm_book.proofs.Going.{change_goes, Goes, goes_on, goes_same}
+use Rattle.ksm_book.proofs.Folded.{by_row}
+use Rattle.ksm_book.proofs.Going.{mergeable_kept}
 use Rattle.ksm_book.proofs.PagesAhead.{after_later, Before, place_of}
 use Rattle.ksm_book.proofs.Walked.{visits_page}
 use Rattle.std.proofs.lemmas.List.{map-id}
@@ -217,30 +217,15 @@ module _ (b : BookState) (r : Row) where
   abbrev waits : Row → Bool
   waits = waits_for b.knobs r
 
-  -- the book in which no row waits for it any more
-  abbrev pub freed : BookState
-  freed = record b { rows = change_rows waits settled b.rows }
-
-  none_waits : All (λ x. waits x ≡ false) freed.rows
+  none_waits : All (λ x. waits x ≡ false) (freed b r).rows
   none_waits = All-map (λ x. waits x ≡ false) _ _ (grind arith)
 
-  -- the row is found there where it was found
-  pub freed_found : row_at r.page b.rows ≡ Some r → row_at r.page freed.rows ≡ Some r
+  -- once none waits for it the book is sound, and the row is found where it was
+  pub freed_sound : IsSound b → IsSound (freed b r)
+  freed_sound s = sound_changed b _ _ settled_calmer (λ x home. home) s
+
+  pub freed_found : row_at r.page b.rows ≡ Some r → row_at r.page (freed b r).rows ≡ Some r
   freed_found found = grind (arith, calmed_at waits b r.page)
-
-  -- where it takes over, its visit there makes it wait
-  pub taken_is : is_restless r ≡ true → takes_over b r ≡ true → (deed : Deed)
-      → visited doing (freed, deed) (Some r) ≡ (taken_over b r, deed)
-  taken_is is takes deed = grind (
-    arith,
-    best_kept waits b r,
-    find_nothing waits freed.rows none_waits,
-    then_idle,
-  )
-
-  -- it has stayed there
-  pub freed_stays : is_restless r ≡ true → takes_over b r ≡ true → HasStayed freed false r
-  freed_stays is takes = grind (arith, best_kept waits b r)
 
   -- in a sound book all rows that wait for it come behind it, if the one that is found does
   side : IsSound b → (o : Option Row) → partner b.knobs b.rows r ≡ o
@@ -260,7 +245,7 @@ calm_stays s page calm = grind arith
 abbrev pub IsAlike : BookState → Deed → GuestPage → Type 0
 IsAlike b deed page =
     let due : BookState × Deed = due_visited doing (b, deed) page in
-    IsSound due.0 × Goes b.rows due.0.rows
+    IsSound due.0 × (mergeable_pages due.0.rows ≡ mergeable_pages b.rows)
     × (page_visited doing (hidden_from page b, deed) page
     ≡ (veiled (comes_before page) due.0, due.1))
 
@@ -268,16 +253,16 @@ module _ (b : BookState) (s : IsSound b) (deed : Deed) where
   -- that is so where the visit of the row by the definitions does in another book what ours does, and the rows that
   -- wait for it come before it if it is to wait
   by_visit : (r : Row) → is_restless r ≡ true → (o : BookState) → IsSound o → row_at r.page o.rows ≡ Some r
-      → Goes b.rows o.rows → covered b r ≡ covered o r
+      → mergeable_pages o.rows ≡ mergeable_pages b.rows → covered b r ≡ covered o r
       → (best_dup o.knobs o.rows o.dups r ≡ None → r.unchanged ≡ true → is_for_zero o.knobs r ≡ false → NoneVeiled o r)
       → visited doing (o, deed) (Some r) ≡ due_visited doing (b, deed) r.page → IsAlike b deed r.page
-  by_visit r restless o sound found goes covers near is =
+  by_visit r restless o sound found same covers near is =
       let at = calmed_at (is_on o r) o r.page ∙ ap (option_map (cover o r)) found
       ∙ ap (λ z. Some (if not z then settled r else r)) (before_irrefl r.page) in (
         subst (λ (z : BookState × Deed). IsSound z.0) is
             (rw found at (visits_page.sound o deed r.page sound)),
-        subst (λ (z : BookState × Deed). Goes b.rows z.0.rows) is
-            (goes_on goes (grind (arith, pages_go doing (r.page ∷ []) (o, deed) sound.rows_rise))),
+        subst (λ (z : BookState × Deed). mergeable_pages z.0.rows ≡ mergeable_pages b.rows) is
+            (rw found at (visits_page.mergeable o deed r.page sound) ∙ same),
         ap (λ c. page_visited doing (c, deed) r.page) covers ∙ ap (visited doing (covered o r, deed)) at
             ∙ visit_alike o r restless near deed ∙ (λ t. (veiled (comes_before r.page) (is t).0, (is t).1)),
       )
@@ -286,13 +271,13 @@ module _ (b : BookState) (s : IsSound b) (deed : Deed) where
   row_due : (r : Row) → row_at r.page b.rows ≡ Some r → is_restless r ≡ true → IsAlike b deed r.page
   row_due r found restless = elim (cases_Bool (takes_over b r)) [
     | inl takes ↦
-        by_visit r restless (freed b r) (sound_changed b _ _ settled_calmer (λ x home. home) s) (freed_found b r found)
-        (change_goes _ (grind arith) (grind arith))
+        by_visit r restless (freed b r) (freed_sound b r s) (freed_found b r found)
+        (mergeable_kept _ (grind arith) b.rows)
         (sym (veiled_over (λ q. not (comes_before q r.page)) b (waits b r)
         (λ k d lt is. grind (arith, side b r s _ refl k d lt is, not_both))))
-        (λ _ _ _ k d lt. grind (arith, none_waits b r k d lt)) (grind (arith, taken_is b r restless takes deed))
+        (λ _ _ _ k d lt. grind (arith, none_waits b r k d lt)) (grind arith)
     | inr stays ↦
-        by_visit r restless b s found goes_same refl (λ none unchanged zeroes k d lt is.
+        by_visit r restless b s found refl refl (λ none unchanged zeroes k d lt is.
         grind (arith, side b r s _ refl k d lt is, one_before, waits_tells b.knobs r (get_or b.rows k d) is))
         (grind arith)
   ]
@@ -303,7 +288,7 @@ module _ (b : BookState) (s : IsSound b) (deed : Deed) where
       calmly : restless_at page b.rows ≡ false → IsAlike b deed page
       calmly calm =
           let at = calmed_at (λ x. not (comes_before x.page page)) b page in
-          rw (calm_stays (b, deed) page calm) (s, goes_same, grind (arith, at) ∙ (λ t. (still t, deed)))
+          rw (calm_stays (b, deed) page calm) (s, refl, grind (arith, at) ∙ (λ t. (still t, deed)))
         where
           still : hidden_from page b ≡ veiled (comes_before page) b
           still = veiled_alike _ b _ (λ k d lt waits.
@@ -370,4 +355,4 @@ module _ (e : GuestPage → Bool) (up : (p q : GuestPage) → e q ≡ true → e
       (λ t. pages_visited doing (veiled_same (after_cursor c) s.0 _ sound (from_first c s.0 page pages l) t, s.1)
       (page ∷ pages))
       ∙ ap (λ z. pages_visited doing z pages) first.2
-      ∙ along pages (Some page) (due_visited doing s page) first.0 (leaves_rest c s.0 page pages l _ first.1.mergeable)
+      ∙ along pages (Some page) (due_visited doing s page) first.0 (leaves_rest c s.0 page pages l _ first.1)

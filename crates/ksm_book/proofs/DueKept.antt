@@ -1,11 +1,11 @@
 -- Passes that visit only the pages that are due: what waits on is left as it is, and what is due stays so.
-use Rattle.ksm_book.proofs.Names.{All, All-cons, All-head, All-tail, all_changed, all_with_dup, ap, AreDue, arith, best_dup, BookState, Bool, bytes_eq, bytes_eq-Decides, cases_Bool, change_row}
-use Rattle.ksm_book.proofs.Names.{change_rows, cond_both, count_by, count_mapped, doing, due_visited, dup_of_row, DupRow, eqb-true, false, find_all, find_none, find_nothing, find_passes, get_or}
-use Rattle.ksm_book.proofs.Names.{GuestPage, handled, has_item, HasStayed, inl, InPageOrder, inr, is_best, is_for_zero, is_restless, IsDueNoMore, IsSound, item_count, Knobs, List}
+use Rattle.ksm_book.proofs.Names.{All, All-cons, All-head, All-tail, all_changed, all_with_dup, ap, AreDue, arith, best_dup, BookState, Bool, bytes_eq, bytes_eq-Decides, cases_Bool}
+use Rattle.ksm_book.proofs.Names.{change_row, change_rows, cond_both, count_by, count_mapped, doing, due_visited, dup_of_row, DupRow, eqb-true, false, find_all, find_none, find_nothing}
+use Rattle.ksm_book.proofs.Names.{find_passes, freed, get_or, GuestPage, handled, has, has_item, inl, InPageOrder, inr, is_best, is_for_zero, is_restless, IsSound, item_count, Knobs, List}
 use Rattle.ksm_book.proofs.Names.{list_all-from_AllPass, made_dup, may_join, Merged, merged_into, merged_state, nat_le, nat_lt, nat_tests, None, not, not_an_item, one_of_each_page, Option}
-use Rattle.ksm_book.proofs.Names.{ordered_change, paired, partner, refl, restless_at, Row, row_at, row_visited, same_page, same_page_refl, same_page_sym, settled, Some, stayed, taken_over}
-use Rattle.ksm_book.proofs.Names.{takes_over, tree_of, true, Waiting, waiting_state, waits_for, waits_on, waits_tells, WaitsFor, with_dup, Zero, ℕ, [], ◌&&◌, ◌+◌, ◌==◌, ◌||◌, ◌∙◌, ◌∷◌, ◌≡◌}
-use Rattle.ksm_book.proofs.DueAlike.{at_own_page, by_counts, calm_stays, freed, freed_found, freed_stays, one_waits}
+use Rattle.ksm_book.proofs.Names.{page, paired, partner, refl, Row, row_at, row_visited, same_page, same_page_refl, same_page_sym, settled, Some, stayed, sym, takes_over, tree_of, true}
+use Rattle.ksm_book.proofs.Names.{true≢false, Waiting, waiting_state, waits_for, waits_on, waits_tells, WaitsFor, with_dup, Zero, [], ℕ, ◌&&◌, ◌+◌, ◌==◌, ◌||◌, ◌∙◌, ◌∷◌, ◌≡◌}
+use Rattle.ksm_book.proofs.DueAlike.{by_counts, calm_stays, freed_found, freed_sound, one_waits}
 use Rattle.ksm_base.specs.declared.row.PageState.TheVariants.{Private}
 use Rattle.ksm_book.proofs.ByPage.{row_of_page}
 use Rattle.ksm_book.proofs.Folded.{by_row, then_idle}
@@ -125,11 +125,6 @@ module _ (b : BookState) (page : GuestPage) (f : Row → Row) (row : Row) (rise 
       single_due b (λ r. same_page r.page page) f (λ k d lt same. rw (is k d lt same) single) due more
       (λ k d lt same. rw (is k d lt same) ours) (λ k d lt. others (get_or b.rows k d).page) was
 
--- a page whose row a visit may not change is not due
-pub calm_undue : (b : BookState) (page : GuestPage) → InPageOrder b.rows → restless_at page b.rows ≡ false → IsDueNoMore page b b
-calm_undue b page rise calm pages was k d lt restless out =
-    was k d lt restless (grind (arith, at_own_page page b.rows rise k d lt))
-
 -- ---------------------------------------------------------------- the visit of a row
 
 module _ (b : BookState) (sound : IsSound b) (row : Row) (found : row_at row.page b.rows ≡ Some row) (restless : is_restless row ≡ true) where
@@ -141,28 +136,27 @@ module _ (b : BookState) (sound : IsSound b) (row : Row) (found : row_at row.pag
   unmerged = own_not_merged _ (restless_own row restless)
 
   module _ (pages : List GuestPage) (was : AreDue b (row.page ∷ pages)) where
-    abbrev Due : BookState → Type 0
-    Due c = AreDue c (row.page ∷ pages)
-
-    -- the row gets another state that is not merged, and another flag
-    alone_due : (f : Row → Row) → (f row).page ≡ row.page → merged_state (f row).state ≡ false
-        → Due (record b { rows = change_row row.page f b.rows })
-    alone_due f keeps single =
-        own_due b row.page f row sound.rows_rise found (unmerged, single) (row.page ∷ pages) (row.page ∷ pages)
-        (grind (arith, same_page_refl)) (λ p other is. is) was
+    -- the row gets another state that is not merged, and waits on then, or no visit may change it
+    alone_due : (f : Row → Row) → merged_state (f row).state ≡ false → WaitsElse b pages (f row)
+        → AreDue (record b { rows = change_row row.page f b.rows }) pages
+    alone_due f single ours =
+        own_due b row.page f row sound.rows_rise found (unmerged, single) (row.page ∷ pages) pages ours
+        (grind (arith, same_page_sym)) was
 
     -- rows become merged, its own among them: the others wait on that did, where they may join no dup then
     merged_due : (test : Row → Bool) (number : ℕ) (dups : List DupRow) (next : ℕ)
+        → ((r : Row) → test r ≡ false → same_page row.page r.page ≡ false)
         → All (λ r. test r ≡ false → waiting_state r.state ≡ true → JoinsNone b.knobs b.rows r b.dups
         → JoinsNone b.knobs (change_rows test (merge number) b.rows) r dups) b.rows
-        → Due (record b { rows = change_rows test (merge number) b.rows; dups = dups; next = next })
-    merged_due test number dups next still =
+        → AreDue (record b { rows = change_rows test (merge number) b.rows; dups = dups; next = next }) pages
+    merged_due test number dups next own still =
         let new = change_rows test (merge number) b.rows in
         let c = record b { rows = new; dups = dups; next = next } in
-        all_changed (WaitsElse c (row.page ∷ pages)) test (merge number) b.rows (grind arith)
+        all_changed (WaitsElse c pages) test (merge number) b.rows (grind arith)
         (λ k d lt fails calm out.
-        let on = was k d lt calm out in
-        on_still b new dups next (get_or b.rows k d) (still k d lt fails (grind arith)) on)
+        let r = get_or b.rows k d in
+        let on = was k d lt calm (grind (arith, own r fails)) in
+        on_still b new dups next r (still k d lt fails (grind arith)) on)
 
     -- a dup of another number has as many items then, where rows become merged that were not
     other_count : (test : Row → Bool) (number : ℕ) → All (λ r. test r ≡ true → merged_state r.state ≡ false) b.rows
@@ -173,8 +167,8 @@ module _ (b : BookState) (sound : IsSound b) (row : Row) (found : row_at row.pag
 
     -- the row joins a dup, which has an item and room: a row that may join none is of another tree or content
     joined_due : (dup : DupRow) → best_dup b.knobs b.rows b.dups row ≡ Some dup
-        → Due (record b { rows = change_row row.page (merge dup.number) b.rows })
-    joined_due dup best = merged_due of_page dup.number b.dups b.next
+        → AreDue (record b { rows = change_row row.page (merge dup.number) b.rows }) pages
+    joined_due dup best = merged_due of_page dup.number b.dups b.next (λ r other. same_page_sym row.page r.page ∙ other)
         (λ k d lt _ _ none j e lt_e. each (get_or b.rows k d) (get_or b.dups j e) (none j e lt_e))
       where
         of_page : Row → Bool
@@ -196,8 +190,8 @@ module _ (b : BookState) (sound : IsSound b) (row : Row) (found : row_at row.pag
         )
 
     -- the row makes a dup with the one that waits for it: no other row that waits is of its tree and content
-    made_due : (place : ℕ) (w : Row) → partner b.knobs b.rows row ≡ Some w → Due (made_dup place b w row)
-    made_due place w waits = merged_due test b.next (with_dup new b.dups) (b.next + 1) (λ k d lt fails waiting none.
+    made_due : (place : ℕ) (w : Row) → partner b.knobs b.rows row ≡ Some w → AreDue (made_dup place b w row) pages
+    made_due place w waits = merged_due test b.next (with_dup new b.dups) (b.next + 1) (grind (arith, same_page_sym)) (λ k d lt fails waiting none.
         let r = get_or b.rows k d in
         all_with_dup (λ e. may_join b.knobs (change_rows test (merge b.next) b.rows) r e ≡ false) new b.dups
         (grind (arith, apart k d lt fails waiting)) (λ j e lt_e. let old = get_or b.dups j e in
@@ -232,24 +226,26 @@ module _ (b : BookState) (sound : IsSound b) (row : Row) (found : row_at row.pag
               bytes_eq-Decides r.bytes row.bytes,
             )
 
-    paired_due : (o : Option Row) → partner b.knobs b.rows row ≡ o → Due (paired o b row)
-    paired_due (Some w) waits = made_due _ w waits
-    paired_due None alone = alone_due _ refl refl
-
-    handled_due : (o : Option DupRow) → best_dup b.knobs b.rows b.dups row ≡ o → Due (handled o b row)
-    handled_due (Some dup) best = joined_due dup best
-    handled_due None best =
+    handled_due : (o : Option DupRow) → best_dup b.knobs b.rows b.dups row ≡ o → (o ≡ None → row.unchanged ≡ true)
+        → AreDue (handled o b row) pages
+    handled_due (Some dup) best same = joined_due dup best
+    handled_due None best same =
         cond_both row.unchanged (stayed b row)
-        (record b { rows = change_row row.page (λ r. record r { unchanged = true; state = Private }) b.rows }) Due
+        (record b { rows = change_row row.page (λ r. record r { unchanged = true; state = Private }) b.rows })
+        (λ c. AreDue c pages)
         (λ _. cond_both (is_for_zero b.knobs row)
         (record b { rows = change_row row.page (λ r. record r { state = Zero }) b.rows })
-        (paired (partner b.knobs b.rows row) b row) Due (λ _. alone_due (λ r. record r { state = Zero }) refl refl)
-        (λ _. paired_due _ refl))
-        (λ _. alone_due (λ r. record r { unchanged = true; state = Private }) refl refl)
+        (paired (partner b.knobs b.rows row) b row) (λ c. AreDue c pages)
+        (λ _. alone_due (λ r. record r { state = Zero }) refl (grind arith)) (λ other. paired_due _ refl other))
+        (λ changed. absurd (true≢false (sym (same refl) ∙ changed)))
+      where
+        paired_due : (o : Option Row) → partner b.knobs b.rows row ≡ o → is_for_zero b.knobs row ≡ false → AreDue (paired o b row) pages
+        paired_due (Some w) waits other = made_due _ w waits
+        paired_due None alone other = alone_due (λ r. record r { state = Waiting }) refl (grind (arith, best, same))
 
-    -- the visit of a row leaves due what was, and its own page
-    pub row_due : Due (row_visited b row)
-    row_due = grind (arith, handled_due)
+    -- once a row was visited its page is due no longer, but where its bytes had changed
+    pub row_undue : (best_dup b.knobs b.rows b.dups row ≡ None → row.unchanged ≡ true) → AreDue (row_visited b row) pages
+    row_undue same = grind (arith, handled_due _ refl same, restless_own row restless)
 
 -- ---------------------------------------------------------------- a page that is not due
 
@@ -273,24 +269,14 @@ undue_rests b due sound are page =
         change_still _ _ _ (grind (arith, row_of_page r.page b.rows r sound.rows_rise found)) in
         grind (arith, then_idle)
 
--- ---------------------------------------------------------------- a row that begins to wait
+-- ---------------------------------------------------------------- a row that takes over
 
--- a row whose bytes have stayed is due no longer once it waits
-pub waits_undue : (b : BookState) (row : Row) → row_at row.page b.rows ≡ Some row → InPageOrder b.rows
-    → HasStayed b false row
-    → IsDueNoMore row.page b (record b { rows = change_row row.page (λ r. record r { state = Waiting }) b.rows })
-waits_undue b row found rise h pages was =
-    own_due b row.page (λ r. record r { state = Waiting }) row rise found
-    (own_not_merged _ (restless_own row h.restless), refl)
-    (row.page ∷ pages) pages (grind arith) (grind (arith, same_page_sym)) was
-
--- a row that takes over waits on, and the one in whose stead it waits is due
+-- where a row takes over, the one in whose stead it waits is due then
 pub taken_due : (b : BookState) (row w : Row) (pages : List GuestPage) → IsSound b → row_at row.page b.rows ≡ Some row
-    → is_restless row ≡ true → takes_over b row ≡ true → partner b.knobs b.rows row ≡ Some w → AreDue b (row.page ∷ pages)
-    → AreDue (taken_over b row) (w.page ∷ pages)
-taken_due b row w pages sound found restless takes waits was =
+    → takes_over b row ≡ true → partner b.knobs b.rows row ≡ Some w → AreDue b (row.page ∷ pages)
+    → AreDue (row_visited (freed b row) row) (w.page ∷ pages)
+taken_due b row w pages sound found takes waits was =
     let of_w = one_waits b row w sound waits in
-    waits_undue (freed b row) row (freed_found b row found) (ordered_change _ _ _ (λ r. refl) sound.rows_rise)
-    (freed_stays b row restless takes) (w.page ∷ pages)
+    row_undue (freed b row) (freed_sound b row sound) row (freed_found b row found) (grind arith) (w.page ∷ pages)
     (single_due b (waits_for b.knobs row) settled (grind arith) (row.page ∷ pages) (row.page ∷ w.page ∷ pages)
-    (λ k d lt is _ out. grind (arith, of_w k d lt is, same_page_refl)) (grind arith) was)
+    (λ k d lt is _ out. grind (arith, of_w k d lt is, same_page_refl)) (grind arith) was) (grind arith)

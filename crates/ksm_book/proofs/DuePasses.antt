@@ -1,16 +1,15 @@
 -- A pass over what is due comes to what the pass of the definitions comes to.
-use Rattle.ksm_book.proofs.Names.{after_cursor, All, AllPairs-filter, ap, AreAscending, AreDue, arith, BookState, BookValue, Bool, Comes, comes_before, Deed, doing, due_visited, due_visits, false}
-use Rattle.ksm_book.proofs.Names.{GuestPage, has_item, hidden_from, if◌then◌else◌, is_none, IsSound, IsStill, List, mergeable_pages, None, not, Option, pages_ahead, pages_visited, part_before}
-use Rattle.ksm_book.proofs.Names.{part_visited, pass_begun, Reached, ReachedBefore, refl, restless_at, Some, StaysBefore, StopsInPart, subst, sym, true, true≢false, with_none_waiting, [], ◌&&◌}
-use Rattle.ksm_book.proofs.Names.{◌∙◌, ◌≡◌}
-use Rattle.ksm_book.specs.Scanned.{ahead_before, ahead_up_to, HasVisited, StaysStill, StopsBefore, up_to}
+use Rattle.ksm_book.proofs.Names.{after_cursor, All, AllPairs-filter, ap, AreAscending, AreDue, arith, BookState, BookValue, Bool, Comes, comes_before, Deed, doing, due_visited, due_visits}
+use Rattle.ksm_book.proofs.Names.{false, GuestPage, has_item, hidden_from, if◌then◌else◌, is_none, IsSound, IsStill, List, mergeable_pages, None, not, Option, page, pages_ahead}
+use Rattle.ksm_book.proofs.Names.{pages_visited, part_before, part_visited, pass_begun, Reached, ReachedBefore, refl, restless_at, Some, StaysBefore, StopsInPart, subst, sym, true}
+use Rattle.ksm_book.proofs.Names.{true≢false, view_of, with_none_waiting, [], ◌&&◌, ◌∙◌, ◌≡◌}
+use Rattle.ksm_book.specs.Scanned.{ahead_before, ahead_up_to, StaysStill, up_to}
 use Rattle.ksm_book.proofs.DueAlike.{all_has, along, calm_stays, one_due, unveiled, veiled}
 use Rattle.ksm_book.proofs.DueKept.{undue_rests}
 use Rattle.ksm_book.specs.Due.{FindsFirst}
-use Rattle.ksm_book.proofs.Folded.{ascending_ahead, every_page, still_on}
+use Rattle.ksm_book.proofs.Folded.{ascending_ahead, every_page}
 use Rattle.ksm_book.proofs.PagesAhead.{Before, has_filter}
-use Rattle.ksm_book.proofs.Scanned.{begins_still}
-use Rattle.ksm_book.proofs.Reached.{agrees, comes_as, comes_to}
+use Rattle.ksm_book.proofs.Reached.{agrees, changed_comes, comes_as}
 use Rattle.ksm_book.proofs.Scanned.{begun_ahead}
 use Rattle.ksm_book.proofs.Walked.{before_it, is_ahead, IsVisit, IsWalking, resting, Rests}
 
@@ -20,7 +19,7 @@ use Rattle.ksm_book.proofs.Walked.{before_it, is_ahead, IsVisit, IsWalking, rest
 pub visits_due : IsVisit (due_visited doing)
 visits_due = record {
   sound = λ b deed page sound. (one_due b sound deed page).0;
-  mergeable = λ b deed page sound. (one_due b sound deed page).1.mergeable;
+  mergeable = λ b deed page sound. (one_due b sound deed page).1;
   calm = λ b page calm deed. calm_stays (b, deed) page calm;
 }
 
@@ -90,12 +89,12 @@ module _ (b : BookState) (deed : Deed) (sound : IsSound b) (start : b.cursor ≡
 module _ (old : BookValue) (sound : IsSound old.state) (start : old.state.cursor ≡ None) where
   -- where all that is due was visited, the whole pass was made
   pub whole_comes : (new : BookValue) → Comes old new (λ s. due_visits doing s (ahead_up_to None s.0)) → Comes old new (part_visited None)
-  whole_comes new = comes_as new (agrees old (λ deed. whole_part old.state deed sound start))
+  whole_comes new = comes_as new (agrees old (λ _ deed _. whole_part old.state deed sound start))
 
   -- where nothing is due, the whole pass changes nothing but which rows wait
   pub whole_still : AreDue old.state [] → StaysStill old (part_visited None)
   whole_still are from s before =
-      subst (IsStill s) ((agrees old {f = λ z. z} {g = part_visited None} (λ deed.
+      subst (IsStill s) ((agrees old {f = λ z. z} {g = part_visited None} (λ _ deed _.
       sym (resting (due_visited doing) (ahead_up_to None old.state) (old.state, deed)
       (λ k d lt. undue_rests old.state [] sound are _ refl)) ∙ whole_part old.state deed sound start)).same from s before)
       (assumption)
@@ -104,37 +103,13 @@ module _ (old : BookValue) (sound : IsSound old.state) (start : old.state.cursor
 pub part_stops : {old mid : BookValue} (next new : BookValue) {last : Option GuestPage} (due : List GuestPage)
     (w : IsWalking (due_visited doing) None old mid last) → AreDue mid.state due → (page : GuestPage) → FindsFirst last due (Some page)
     → old.state.cursor ≡ None → StaysBefore page mid next → restless_at page mid.state.rows ≡ true
-    → Comes next new (λ s. (hidden_from page s.0, s.1)) → StopsInPart old new None page
+    → view_of new ≡ record (view_of next) { state = hidden_from page next.state } → StopsInPart old new None page
 part_stops {old} next new due w are page first start stays restless hides = record {
   within = refl;
   ahead = is_ahead visits_due w page first.1 (rests_between due w are page first) restless;
-  comes = comes_as new (agrees old (λ deed. before_part old.state deed w.began start page)) (λ from s before.
+  comes = comes_as new (agrees old (λ _ deed _. before_part old.state deed w.began start page)) (λ from s before.
       let there = subst (ReachedBefore page from next) ((before_it visits_due w page first.1 (rests_between due w are page first)).same from s before)
       (stays from _ (w.comes from s before)) in
       subst (λ (b : BookState). Reached from new (b, (due_visits doing s (ahead_before page s.0)).1)) there.0
-      (hides from (next.state, (due_visits doing s (ahead_before page s.0)).1) (refl, there.1)));
+      (changed_comes next new (hidden_from page) hides from (next.state, (due_visits doing s (ahead_before page s.0)).1) (refl, there.1)));
 }
-
--- ---------------------------------------------------------------- a part of a pass
-
--- a pass begins where it is to begin
-module _ (old mid : BookValue) (begins_so : Comes old mid (λ s. (pass_begun s.0, s.1))) where
-  abbrev begins_as : mid.state ≡ pass_begun old.state
-  begins_as = comes_to old mid (λ s. (pass_begun s.0, s.1)) begins_so
-
-  -- the visits behind that are those of the part
-  pub part_visits : (new : BookValue) (last : Option GuestPage) (quiet : Bool)
-      → HasVisited mid new (λ s. pages_visited doing s (ahead_up_to last s.0)) quiet → HasVisited old new (part_visited last) quiet
-  part_visits new last quiet visited = record {
-    comes = λ from s before. visited.comes from _ (begins_so from s before);
-    still = λ is from s before. still_on s (pass_begun s.0, s.1) _ (begins_still s)
-        (visited.still is from _ (begins_so from s before));
-  }
-
-  -- so where they stopped
-  pub part_stopped : {new : BookValue} {last : Option GuestPage} {page : GuestPage} → StopsBefore mid new last page → StopsInPart old new last page
-  part_stopped stops = record {
-    within = stops.within;
-    ahead = rw (← (ap pages_ahead begins_as ∙ begun_ahead old.state)) stops.ahead;
-    comes = λ from s before. stops.comes from _ (begins_so from s before);
-  }

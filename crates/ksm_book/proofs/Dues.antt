@@ -1,16 +1,14 @@
 -- The pages that are due, as they are kept: which there are once one came or went, and the first behind a cursor.
-use Rattle.ksm_book.proofs.Names.{after_cursor, All, All-map, any-filter_same, any_found, append-nil, arith, Bool, comes_before, Err, false, filter, find, find_all, find_none, find_passes, get_or}
-use Rattle.ksm_book.proofs.Names.{GuestPage, has_item, is_some, length, List, list_any, list_any_at, map, None, not, Ok, Option, option_map, pages_ordered, refl, Result, same_page, same_page_refl}
-use Rattle.ksm_book.proofs.Names.{Some, true, [], ◌&&◌, ◌++◌, ◌==◌, ◌||◌, ◌∙◌, ◌∷◌, ◌≡◌}
+use Rattle.ksm_book.proofs.Names.{added, after_cursor, All, All-map, any-filter_same, any_found, append-nil, arith, Bool, comes_before, false, filter, find, find_all, find_none, find_passes}
+use Rattle.ksm_book.proofs.Names.{get_or, GuestPage, has_item, is_some, length, List, list_any, list_any_at, map, None, not, Option, option_map, page, refl, same_page, same_page_refl, Some}
+use Rattle.ksm_book.proofs.Names.{true, [], ◌&&◌, ◌++◌, ◌==◌, ◌||◌, ◌∙◌, ◌∷◌, ◌≡◌}
 use Rattle.std.proofs.lemmas.List.Folds.{list_any-append}
-use Rattle.std.specs.Prelude.{OnErr, OnOk}
 use Rattle.ksm_pages.proofs.Found.{first_found as found_first}
 use Rattle.ksm_book.specs.Due.{FindsFirst}
 use Rattle.ksm_pages.specs.Held.{pages_of}
 use Rattle.ksm_pages.specs.declared.named.Named.{Named}
 use Rattle.ksm_pages.specs.declared.row.Spot.{Spot}
 use Rattle.ksm_pages.specs.Ordered.{AreAscending, is_of, with_named, without_named}
-use Rattle.ksm_rmap.proofs.Ordered.{with_rises}
 
 -- the pages that are kept
 abbrev pub pages_in : List Named → List GuestPage
@@ -46,20 +44,7 @@ pub has_taken : (page : GuestPage) (order : List Named) (x : GuestPage)
     → has_item x (pages_in (without_named page order)) ≡ (has_item x (pages_in order) && not (same_page page x))
 has_taken page order x = picked (λ p. not (same_page p page)) x order ∙ (grind arith)
 
--- and where one is put in, or memory was refused
-pub inserted_rises : {T E : Type 0} (r : Result T E) (n : Named) (old new : List Named) → AreAscending old
-    → OnOk r (new ≡ with_named n old) → OnErr r (new ≡ old) → AreAscending new
-inserted_rises r n old new rise added kept =
-    grind (arith, with_rises pages_ordered (λ (m : Named). m.page) n.page n old refl rise)
-
 -- ---------------------------------------------------------------- pages that were added
-
--- where one was put in, it is there, and the others as before, with some more behind them
-pub inserted_has : {T E : Type 0} (r : Result T E) (n : Named) (old new : List Named) (more pages : List GuestPage)
-    → pages_in old ++ more ≡ pages → OnOk r (new ≡ with_named n old)
-    → OnOk r ((x : GuestPage) → has_item x (pages_in new ++ more) ≡ (same_page n.page x || has_item x pages))
-inserted_has (Err e) n old new more pages same added = tt
-inserted_has (Ok u) n old new more pages same added = λ x. grind (arith, list_any-append, has_put)
 
 -- where all is ready no page was added that does not stand in order
 pub none_added : (known : Bool) (order : List Named) (added : List Spot) → (known && length added == 0) ≡ true

@@ -1,5 +1,5 @@
 -- What was reached of a scan: it begins with no step, and tells the state of the book.
-use Rattle.ksm_book.proofs.Names.{BookState, BookValue, Comes, Deed, idle, Reached, refl, subst, view_of, ◌≡◌}
+use Rattle.ksm_book.proofs.Names.{ap, BookState, BookValue, BookView, Comes, Deed, idle, mapped, Performs, Reached, refl, subst, sym, view_of, ◌∙◌, ◌≡◌}
 use Rattle.ksm_book.proofs.Made.{made_none}
 
 -- the state of a book, and a deed without a step
@@ -14,23 +14,28 @@ begins v = (refl, record { made = made_none refl; frame = refl })
 pub comes_to : (v w : BookValue) (change : BookState × Deed → BookState × Deed) → Comes v w change → w.state ≡ (change (first v)).0
 comes_to v w change comes = (comes v (first v) (begins v)).0
 
+-- and the keeper is of the same table
+pub comes_own : (v w : BookValue) (change : BookState × Deed → BookState × Deed) → Comes v w change → w.keeper.table ≡ v.keeper.table
+comes_own v w change comes = ap (λ k. k.table) (comes v (first v) (begins v)).1.made.after
+
+-- where the state alone changed, that change was reached
+pub changed_comes : (v w : BookValue) (f : BookState → BookState) → view_of w ≡ record (view_of v) { state = f v.state }
+    → Comes v w (λ s. (f s.0, s.1))
+changed_comes v w f same from s before = (
+  ap (λ (x : BookView). x.state) same ∙ ap f before.0,
+  subst (λ (x : BookView). Performs (mapped (view_of from)) (mapped x) s.1) (sym same) before.1,
+)
+
 -- two changes come to the same of whatever was reached with a book
 pub record Agree (v : BookValue) (f g : BookState × Deed → BookState × Deed) : Type 0 where
   pub same : (from : BookValue) (s : BookState × Deed) → Reached from v s → f s ≡ g s
 
--- so they do where they come to the same of the book's state, whatever the deed
+-- so they do where they come to the same of the book's state, with whatever deed was reached
 pub agrees : (v : BookValue) {f g : BookState × Deed → BookState × Deed}
-    → ((deed : Deed) → f (v.state, deed) ≡ g (v.state, deed)) → Agree v f g
+    → ((from : BookValue) (deed : Deed) → Reached from v (v.state, deed) → f (v.state, deed) ≡ g (v.state, deed)) → Agree v f g
 agrees v {f} {g} each = record {
-  same = λ from s before. subst (λ (b : BookState). f (b, s.1) ≡ g (b, s.1)) before.0 (each s.1);
-}
-
--- or where they do so once a third change has led to a book
-pub agree : (v w : BookValue) (h : BookState × Deed → BookState × Deed) {f g : BookState × Deed → BookState × Deed}
-    → Comes v w h → ((deed : Deed) → w.state ≡ (h (v.state, deed)).0 → f (v.state, deed) ≡ g (v.state, deed)) → Agree v f g
-agree v w h {f} {g} comes each = record {
   same = λ from s before.
-      subst (λ (b : BookState). w.state ≡ (h (b, s.1)).0 → f (b, s.1) ≡ g (b, s.1)) before.0 (each s.1) (comes from s before).0;
+      subst (λ (b : BookState). Reached from v (b, s.1) → f (b, s.1) ≡ g (b, s.1)) before.0 (each from s.1) before;
 }
 
 -- what comes of the one comes of the other then

@@ -13,7 +13,7 @@ use Rattle.ksm_book.proofs.Along.{FitsPage}
 use Rattle.ksm_book.proofs.ByPage.{row_of_page}
 use Rattle.ksm_book.proofs.Folded.{ascending_ahead, by_row, pages_go, still_on}
 use Rattle.ksm_book.proofs.PagesAhead.{after_later, Before, has_filter, place_of, place_splits}
-use Rattle.ksm_book.proofs.Reached.{Agree, agree, comes_to}
+use Rattle.ksm_book.proofs.Reached.{Agree, agrees, comes_to}
 use Rattle.ksm_book.proofs.Scanned.{restless_mergeable}
 
 -- the visit of a page, with what it does beside
@@ -153,7 +153,7 @@ module _ {visit : Visit} (is : IsVisit visit) {last : Option GuestPage} {old mid
   -- where visits of the pages left up to the last do nothing, all pages ahead up to it were visited
   pub walk_ends : ((q : GuestPage) → after_cursor reached q ≡ true → up_to last q ≡ true → Rests visit mid.state q)
       → Agree old (walked_to visit reached) (λ s. fold visit s (ahead_up_to last s.0))
-  walk_ends rest = agree old mid (walked_to visit reached) w.comes (λ deed at. sym (more visit reached (up_to last) pages (old.state, deed) _ refl rises
+  walk_ends rest = agrees old (λ from deed there. let at = (w.comes from _ there).0 in sym (more visit reached (up_to last) pages (old.state, deed) _ refl rises
       (λ k d lt out. w.within (get_or pages k d)
       (filter_passes (after_cursor old.state.cursor) (mergeable_pages old.state.rows) k d lt) (grind arith))
       (λ q after inside. subst (λ (b : BookState). Rests visit b q) at (rest q after inside))))
@@ -168,12 +168,12 @@ module _ {visit : Visit} (is : IsVisit visit) {last : Option GuestPage} {old mid
 
     -- the pages ahead before it were visited
     pub before_it : Agree old (walked_to visit reached) (λ s. fold visit s (ahead_before page s.0))
-    before_it = agree old mid (walked_to visit reached) w.comes (λ deed at. sym (before visit reached (old.state, deed) pages rises page behind
+    before_it = agrees old (λ from deed there. let at = (w.comes from _ there).0 in sym (before visit reached (old.state, deed) pages rises page behind
         (λ q after low. subst (λ (b : BookState). Rests visit b q) at (between q after low))))
 
     -- with its visit the pages ahead up to it were visited
     step : Agree old (walked_to visit (Some page)) (λ s. visit (walked_to visit reached s) page)
-    step = agree old mid (walked_to visit reached) w.comes (λ deed at. next visit reached (old.state, deed) pages rises page behind
+    step = agrees old (λ from deed there. let at = (w.comes from _ there).0 in next visit reached (old.state, deed) pages rises page behind
         (λ q after low. subst (λ (b : BookState). Rests visit b q) at (between q after low))
         (λ off. subst (λ (b : BookState). Rests visit b page) at (is.calm mid.state page (grind (arith, is_ahead)))))
 

@@ -1,9 +1,8 @@
 -- Passes that visit only the pages that are due: what waits, and would wait again, is left as it is (own).
 use Rattle.std.specs.Prelude.{◌≡◌, Bool, true, false, not, ◌&&◌, All, List, ◌∷◌, fold, Option, Some, None, is_none, if◌then◌else◌}
 use Rattle.ksm_base.specs.declared.page.GuestPage.{GuestPage}
-use Rattle.ksm_base.specs.declared.row.PageState.TheVariants.{Waiting}
 use Rattle.ksm_base.specs.declared.row.Row.{Row}
-use Rattle.ksm_base.specs.Rows.{change_row, change_rows, comes_before, row_at, settled, waiting_state}
+use Rattle.ksm_base.specs.Rows.{change_rows, comes_before, row_at, settled, waiting_state}
 use Rattle.ksm_base.specs.State.{BookState}
 use Rattle.ksm_base.specs.Visit.{after_cursor, best_dup, is_for_zero, partner, waits_for}
 use Rattle.ksm_rmap.specs.Items.{has_item}
@@ -38,23 +37,22 @@ abbrev pub comes_later : GuestPage → Option Row → Bool
 comes_later page None = false
 comes_later page (Some w) = comes_before page w.page
 
--- a row is to wait, and one further on waits for it, which the pass has not come to
+-- a row that a visit may change is to wait, and one further on waits for it, which the pass has not come to
 abbrev pub takes_over : BookState → Row → Bool
 takes_over b row =
-    is_none (best_dup b.knobs b.rows b.dups row) && row.unchanged && not (is_for_zero b.knobs row)
-    && comes_later row.page (partner b.knobs b.rows row)
+    is_restless row && is_none (best_dup b.knobs b.rows b.dups row) && row.unchanged
+    && not (is_for_zero b.knobs row) && comes_later row.page (partner b.knobs b.rows row)
 
--- it waits in the stead of that one
-abbrev pub taken_over : BookState → Row → BookState
-taken_over b row = record b {
-  rows = change_row row.page (λ r. record r { state = Waiting }) (change_rows (waits_for b.knobs row) settled b.rows);
-}
+-- the book in which no row waits any more for this one
+abbrev pub freed : BookState → Row → BookState
+freed b row = record b { rows = change_rows (waits_for b.knobs row) settled b.rows }
 
--- the book, and what was done beside, after the visit of a row where rows further on still wait
+-- the book, and what was done beside, after the visit of a row where rows further on still wait: none
+-- waits any more for a row that takes over
 abbrev pub due_row_visited : {X : Type 0} → (BookState → X → Row → X) → BookState × X → Option Row → BookState × X
 due_row_visited step s None = s
 due_row_visited step s (Some row) =
-    if is_restless row && takes_over s.0 row then (taken_over s.0 row, s.1) else visited step s (Some row)
+    visited step (if takes_over s.0 row then (freed s.0 row, s.1) else s) (Some row)
 
 -- the same for the row of a page
 abbrev pub due_visited : {X : Type 0} → (BookState → X → Row → X) → BookState × X → GuestPage → BookState × X

@@ -1,15 +1,15 @@
 -- What a pass over the pages that are due comes to (own).
-use Rattle.std.specs.Prelude.{◌≡◌, true, false, MatchOption, Option}
+use Rattle.std.specs.Prelude.{◌≡◌, true, List, Option, Some}
 use Rattle.ksm_base.specs.declared.page.GuestPage.{GuestPage}
 use Rattle.ksm_base.specs.State.{BookState}
 use Rattle.ksm_book.specs.Commands.{Deed, Performs}
 use Rattle.ksm_base.specs.declared.row.Row.{Row}
 use Rattle.ksm_base.specs.Visit.{partner, pass_begun}
-use Rattle.ksm_pages.specs.Paged.{is_restless}
+use Rattle.ksm_base.specs.Rows.{row_at}
 use Rattle.ksm_book.specs.Due.{hidden_from, takes_over}
 use Rattle.ksm_book.specs.Folded.{pages_visited}
 use Rattle.ksm_book.specs.Scanned.{Reached, Stops, ahead_before, ahead_up_to, doing}
-use Rattle.ksm_book.specs.Whole.{BookValue, mapped, view_of}
+use Rattle.ksm_book.specs.Whole.{BookValue, BookView, mapped, view_of}
 
 -- from the one to the other it came to this book, but for which rows from a page on wait, and this was done to the frames
 abbrev pub ReachedBefore : GuestPage → BookValue → BookValue → BookState × Deed → Type 0
@@ -32,8 +32,16 @@ StopsInPart old new last page = Stops old new last page (part_before page)
 abbrev pub StaysBefore : GuestPage → BookValue → BookValue → Type 0
 StaysBefore page old new = (from : BookValue) (s : BookState × Deed) → Reached from old s → ReachedBefore page from new s
 
--- a row that a visit may change is to wait in the stead of that of a page
-abbrev pub TakesOverFrom : BookState → GuestPage → Row → Type 0
-TakesOverFrom b page r =
-    (is_restless r ≡ true) × (takes_over b r ≡ true)
-    × MatchOption (partner b.knobs b.rows r) (true ≡ false) (λ w. page ≡ w.page)
+-- the row of a page is to wait in the stead of that of another page
+pub record TakesOver (b : BookState) (page other : GuestPage) : Type 0 where
+  pub row : Row
+  pub found : row_at page b.rows ≡ Some row
+  pub takes : takes_over b row ≡ true
+  -- the row that waits for it
+  pub waiter : Row
+  pub waits : partner b.knobs b.rows row ≡ Some waiter
+  pub is : other ≡ waiter.page
+
+-- the book with other rows
+abbrev pub with_rows : BookView → List Row → BookView
+with_rows v rows = record v { state = record v.state { rows = rows } }

@@ -5,7 +5,7 @@
 //! that, or that it is no longer known which pages are due. Then the next pass visits all pages. A page that leaves a
 //! dup with room for one more page opens none: what waits could join that dup already.
 
-ghost use Rattle.std.specs.Prelude.{◌≡◌, true, false, [], ◌||◌, ◌&&◌, not, OnOk, option_map};
+ghost use Rattle.std.specs.Prelude.{◌≡◌, true, false, [], ◌||◌, ◌&&◌, not, IfErr, OnErr, OnOk, option_map};
 ghost use Rattle.ksm_base.specs.declared.page.GuestPage.{GuestPage};
 ghost use Rattle.ksm_base.specs.Rows.{same_page};
 ghost use Rattle.ksm_book.specs.Due.{FindsFirst};
@@ -123,19 +123,20 @@ impl Due {
         self.known
     }
 
-    /// The page of a spot is due, and stands in order. Refused for memory alone.
+    /// The page of a spot is due, and stands in order. Refused for memory alone, it changes nothing.
     pub fn insert(&mut self, spot: Spot) -> Result<(), Fault>
         ensures rest { self.new ≡ record self.old { pages = self.new.pages } }
         ensures added { OnOk result ((page : GuestPage)
             → has_item page self.new.pages ≡ (same_page spot.page page || has_item page self.old.pages)) }
+        ensures kept { OnErr result (self.new ≡ self.old) }
+        ensures memory { IfErr result (λ fault. fault ≡ Fault.Memory) }
     {
-        match self.order.find(spot.page) {
-            Some(_) => Ok(()),
-            None => {
-                let key = u32::try_from(spot.key).unwrap_or(u32::MAX);
-                self.order.insert(spot.page, key)
-            }
+        if self.order.find(spot.page).is_some() {
+            return Ok(());
         }
+        let key = u32::try_from(spot.key).unwrap_or(u32::MAX);
+        self.order.insert(spot.page, key)?;
+        Ok(())
     }
 
     /// A page is due no longer, while a pass goes on.

@@ -5,15 +5,15 @@
 //! them. So a page with which one of these would make a dup waits in its stead, and that one is due. Where memory stops
 //! the pass, the rows that it has not come to wait no more.
 
-ghost use Rattle.std.specs.Prelude.{◌≡◌, true, false, None, IfErr, IfOk, MatchOption, OnErr, OnOk};
-ghost use Rattle.ksm_base.specs.Rows.{change_row, row_at, settled};
+ghost use Rattle.std.specs.Prelude.{◌≡◌, true, None, IfErr, IfOk, OnErr, OnOk};
+ghost use Rattle.ksm_base.specs.Rows.{change_row, settled};
 ghost use Rattle.ksm_rmap.specs.Items.{has_item};
 ghost use Rattle.ksm_pages.specs.Paged.{IsAlone};
 ghost use Rattle.ksm_book.specs.Due.{AreDue, due_visited, hidden_from};
-ghost use Rattle.ksm_book.specs.DuePass.{StaysBefore, StopsInPart, TakesOverFrom};
-ghost use Rattle.ksm_book.specs.DuePass.{part_visited};
+ghost use Rattle.ksm_book.specs.DuePass.{StaysBefore, StopsInPart, TakesOver, part_visited, with_rows};
 ghost use Rattle.ksm_book.specs.Folded.{restless_at};
 ghost use Rattle.ksm_book.specs.Scanned.{Comes, HasVisited, doing};
+ghost use Rattle.ksm_book.specs.Whole.{view_of};
 
 use crate::due::Due;
 use crate::state::State;
@@ -29,7 +29,6 @@ impl State {
         requires ready { due.old.ready ≡ true }
         requires due { AreDue self.old.state due.old.pages }
         requires start { self.old.state.cursor ≡ None }
-        ensures own { self.new.keeper.table ≡ self.old.keeper.table }
         ensures visited { IfOk result (λ quiet. HasVisited self.old self.new (part_visited None) quiet) }
         ensures due { due.new.known ≡ true → AreDue self.new.state due.new.pages }
         ensures stopped { IfErr result (λ page. StopsInPart self.old self.new None page) }
@@ -57,7 +56,6 @@ impl State {
         requires ready { due.old.ready ≡ true }
         requires is_due { has_item spot.page due.old.pages ≡ true }
         requires due { AreDue self.old.state due.old.pages }
-        ensures own { self.new.keeper.table ≡ self.old.keeper.table }
         ensures ready { due.new.ready ≡ true }
         ensures comes { OnOk result (Comes self.old self.new (λ s. due_visited doing s spot.page)) }
         ensures due { OnOk result (AreDue self.new.state due.new.pages) }
@@ -66,22 +64,19 @@ impl State {
     {
         self.lies_lawfully();
         match self.pages.visit(spot)? {
-            Find::Gone | Find::Waits => due.remove(spot.page),
-            Find::Changed => {}
-            Find::Dup(best) => {
-                self.join(table, spot, best)?;
-                due.remove(spot.page);
-            }
-            Find::Zero => {
-                self.become_zero(table, spot);
-                due.remove(spot.page);
-            }
+            Find::Gone | Find::Waits => {}
+            Find::Changed => return Ok(()),
+            Find::Dup(best) => self.join(table, spot, best)?,
+            Find::Zero => self.become_zero(table, spot),
             Find::Partner(other) if other.comes_before(spot.page) => {
                 self.pair(table, other, spot)?;
-                due.remove(spot.page);
             }
-            Find::Partner(other) => self.take_over(table, due, spot, other)?,
+            Find::Partner(other) => {
+                self.take_over(table, due, spot, other)?;
+                return Ok(());
+            }
         }
+        due.remove(spot.page);
         Ok(())
     }
 
@@ -98,9 +93,7 @@ impl State {
         requires ready { due.old.ready ≡ true }
         requires is_due { has_item spot.page due.old.pages ≡ true }
         requires due { AreDue self.old.state due.old.pages }
-        requires takes { MatchOption (row_at spot.page self.old.state.rows) (true ≡ false)
-            (TakesOverFrom self.old.state other) }
-        ensures own { self.new.keeper.table ≡ self.old.keeper.table }
+        requires takes { TakesOver self.old.state spot.page other }
         ensures ready { due.new.ready ≡ true }
         ensures comes { OnOk result (Comes self.old self.new (λ s. due_visited doing s spot.page)) }
         ensures due { OnOk result (AreDue self.new.state due.new.pages) }
@@ -119,17 +112,14 @@ impl State {
     // A page with a frame of its own waits no more.
     fn stop_waiting(&mut self, spot: Spot)
         requires { IsAlone spot.page self.old.state.rows }
-        ensures own { self.new.keeper.table ≡ self.old.keeper.table }
-        ensures comes { Comes self.old self.new
-            (λ s. (record s.0 { rows = change_row spot.page settled s.0.rows }, s.1)) }
+        ensures { view_of self.new ≡ with_rows (view_of self.old) (change_row spot.page settled self.old.state.rows) }
     {
         self.pages.stop_waiting(spot);
     }
 
     // No row from a page on waits any more.
     fn hide_from(&mut self, page: GuestPage)
-        ensures own { self.new.keeper.table ≡ self.old.keeper.table }
-        ensures comes { Comes self.old self.new (λ s. (hidden_from page s.0, s.1)) }
+        ensures { view_of self.new ≡ record (view_of self.old) { state = hidden_from page self.old.state } }
     {
         self.lies_lawfully();
         let mut last = None;

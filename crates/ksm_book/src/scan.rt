@@ -6,13 +6,13 @@
 
 ghost use Rattle.std.specs.Prelude.{◌≡◌, ◌&&◌, ◌≤◌, [], true, None, Some, IfOk, IfErr, length, option_map};
 ghost use Rattle.ksm_base.specs.Visit.{pass_begun, pass_ended_at_last};
-ghost use Rattle.ksm_pages.specs.Ahead.{EndsAt, last_of, mergeable_pages};
+ghost use Rattle.ksm_pages.specs.Ahead.{EndsAt, mergeable_pages};
 ghost use Rattle.ksm_book.specs.Carried.{IsCarried};
 ghost use Rattle.ksm_book.specs.Due.{AreDue};
 ghost use Rattle.ksm_book.specs.DuePass.{StopsInPart, part_visited};
 ghost use Rattle.ksm_book.specs.Folded.{pages_ahead, pages_visited};
 ghost use Rattle.ksm_book.specs.Scanned.{Comes, FindsUpTo, GoesOn, HasVisited, StopsBefore, StopsShort};
-ghost use Rattle.ksm_book.specs.Scanned.{ahead_before, ahead_up_to, doing, is_nowhere, is_quiet, last_visited};
+ghost use Rattle.ksm_book.specs.Scanned.{ahead_up_to, doing, is_nowhere, is_quiet, last_visited};
 ghost use Rattle.ksm_book.specs.Scanned.{passes_ended};
 ghost use Rattle.ksm_book.specs.Whole.{view_of};
 
@@ -72,16 +72,14 @@ impl Made {
 
 impl State {
     fn set_cursor(&mut self, cursor: Option<GuestPage>)
-        ensures own { self.new.keeper.table ≡ self.old.keeper.table }
-        ensures comes { Comes self.old self.new (λ s. (record s.0 { cursor = cursor }, s.1)) }
+        ensures { Comes self.old self.new (λ s. (record s.0 { cursor = cursor }, s.1)) }
     {
         self.cursor = cursor;
     }
 
     // So many passes have ended.
     fn end_passes(&mut self, count: u64)
-        ensures own { self.new.keeper.table ≡ self.old.keeper.table }
-        ensures comes { Comes self.old self.new (λ s. (passes_ended count s.0, s.1)) }
+        ensures { Comes self.old self.new (λ s. (passes_ended count s.0, s.1)) }
     {
         self.passes = self.passes.saturating_add(count);
         self.cursor = None;
@@ -131,7 +129,6 @@ impl State {
         last: Option<GuestPage>,
     ) -> Result<bool, GuestPage>
         requires own { self.old.keeper.table ≡ table.now }
-        ensures own { self.new.keeper.table ≡ self.old.keeper.table }
         ensures visited { IfOk result (λ quiet. HasVisited self.old self.new
             (λ s. pages_visited doing s (ahead_up_to last s.0)) quiet) }
         ensures due { IfOk result (λ quiet. quiet ≡ true → self.old.state.cursor ≡ None → last ≡ None
@@ -158,7 +155,6 @@ impl State {
     // Ends the pass if it has gone through all pages. Says where so many visits end.
     fn close_pass(&mut self, most: u64) -> Ahead
         requires { 1 ≤ most }
-        ensures own { self.new.keeper.table ≡ self.old.keeper.table }
         ensures comes { Comes self.old self.new (λ s. (pass_ended_at_last s.0, s.1)) }
         ensures ahead { EndsAt (pages_ahead self.new.state) most result }
     {
@@ -174,8 +170,7 @@ impl State {
 
     // As a pass begins, no row waits any more.
     fn begin_pass(&mut self)
-        ensures own { self.new.keeper.table ≡ self.old.keeper.table }
-        ensures comes { Comes self.old self.new (λ s. (pass_begun s.0, s.1)) }
+        ensures { Comes self.old self.new (λ s. (pass_begun s.0, s.1)) }
     {
         if self.cursor().is_none() {
             self.pages.settle_all();
@@ -200,7 +195,6 @@ impl State {
     ) -> Result<bool, GuestPage>
         requires own { self.old.keeper.table ≡ table.now }
         requires due { due.old.known ≡ true → AreDue self.old.state due.old.pages }
-        ensures own { self.new.keeper.table ≡ self.old.keeper.table }
         ensures visited { IfOk result (λ quiet. HasVisited self.old self.new (part_visited last) quiet) }
         ensures due { due.new.known ≡ true → AreDue self.new.state due.new.pages }
         ensures stopped { IfErr result (λ page. StopsInPart self.old self.new last page) }
@@ -211,15 +205,11 @@ impl State {
         }
         due.forget();
         self.begin_pass();
-        match self.visit_up_to(table, last) {
-            Ok(quiet) => {
-                if whole && quiet {
-                    due.begin(self.counters().unshared as usize / 8);
-                }
-                Ok(quiet)
-            }
-            Err(page) => Err(page),
+        let quiet = self.visit_up_to(table, last)?;
+        if whole && quiet {
+            due.begin(self.counters().unshared as usize / 8);
         }
+        Ok(quiet)
     }
 
     // Makes at least one visit, and `most` at most, all of one pass. Where that is a whole pass that changed nothing
@@ -230,7 +220,6 @@ impl State {
         requires most { 1 ≤ most }
         requires some { 1 ≤ length (mergeable_pages self.old.state.rows) }
         requires due { due.old.known ≡ true → AreDue self.old.state due.old.pages }
-        ensures own { self.new.keeper.table ≡ self.old.keeper.table }
         ensures due { due.new.known ≡ true → AreDue self.new.state due.new.pages }
         ensures made { IfOk result (λ made. GoesOn self.old self.new most made) }
         ensures stopped { IfErr result (λ made. StopsShort self.old self.new most made) }
@@ -245,30 +234,17 @@ impl State {
                     Ok(most)
                 }
                 Ahead::End(made) => {
-                    self.end_passes(1);
-                    if whole && quiet {
-                        let left = most - made;
-                        self.end_passes(left / made);
-                        Ok(most - left % made)
-                    } else {
-                        Ok(made)
-                    }
+                    let times = if whole && quiet { most / made } else { 1 };
+                    self.end_passes(times);
+                    Ok(times * made)
                 }
             },
-            Err(page) => Err(self.stop_at(page)),
+            Err(page) => {
+                let (made, last) = self.pages.between(self.cursor, page);
+                self.set_cursor(last);
+                Err(made)
+            }
         }
-    }
-
-    // The visits stop before a page, for memory. Says how many were made.
-    fn stop_at(&mut self, page: GuestPage) -> u64
-        ensures own { self.new.keeper.table ≡ self.old.keeper.table }
-        ensures many { result ≡ length (ahead_before page self.old.state) }
-        ensures comes { Comes self.old self.new
-            (λ s. (record s.0 { cursor = last_of s.0.cursor (ahead_before page s.0) }, s.1)) }
-    {
-        let (made, last) = self.pages.between(self.cursor, page);
-        self.set_cursor(last);
-        made
     }
 
     /// Makes visits. Where memory is refused, no more is done than what the reply tells.

@@ -5,7 +5,7 @@ use Rattle.ksm_book.proofs.state.State.close_pass.Goals as goal
 pub returns-then-under_way-clause-comes : goal.returns-then-under_way-clause-comes
 returns-then-under_way-clause-comes c = λ from s before.
     let over : pass_ended s.0 ≡ pass_ended_at_last s.0 = grind (arith, nowhere_is) in
-    rw (← over) (c.end_passes.ensures.comes from s before)
+    rw (← over) (c.end_passes.ensures from s before)
 
 pub returns-clause-comes : goal.returns-clause-comes
 returns-clause-comes c = λ from s before.

@@ -1,11 +1,11 @@
-use Rattle.ksm_book.proofs.Names.{arith, BookValue, find, is_next, None, option_map, Row, row_at, rules, Some, subst, ◌≡◌}
+use Rattle.ksm_book.proofs.Names.{arith, BookValue, find, is_next, None, option_map, page, Row, row_at, rules, Some, subst, ◌≡◌}
 use Rattle.ksm_book.proofs.Hiding.{hides_none, hiding_end, hiding_more, hiding_over, next_after}
 use Rattle.ksm_book.proofs.Walked.{less_room}
 use Rattle.ksm_book.proofs.state.State.hide_from.Goals as goal
 use Rattle.ksm_book.proofs.state.State.hide_from.Goals.{else-not-held, then-not-held+then-not-comes_before}
 
 pub pages-init : goal.pages-init
-pages-init c = hides_none _ _
+pages-init c = hides_none c.args.page c.args.self.now
 
 pub pages-smaller : goal.pages-smaller
 pages-smaller c = less_room _ _ (search rules, search rules) (next_after _ _ _ c.in-Some.ensures.1)
@@ -25,10 +25,10 @@ pages-preserved c =
     elim c.if-not-held.branch [
       | then-not-held+then-not-comes_before w ↦
           rw w.self-is
-          (hiding_more c.pages.invariant rise _ told _ (grind arith) w.stop_waiting.ensures.comes w.stop_waiting.ensures.own)
+          (hiding_more c.pages.invariant rise _ told _ (grind arith) w.stop_waiting.ensures)
       | else-not-held w ↦
           grind arith
     ]
 
-pub returns-clause-comes : goal.returns-clause-comes
-returns-clause-comes c = hiding_end c.pages.invariant (rw (← c.self-in-pages.view_is) c.in_default.ensures)
+pub returns : goal.returns
+returns c = hiding_end c.pages.invariant (rw (← c.self-in-pages.view_is) c.in_default.ensures)

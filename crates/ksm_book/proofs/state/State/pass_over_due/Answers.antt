@@ -1,6 +1,6 @@
 use Rattle.ksm_book.proofs.Names.{AreDue, subst}
 use Rattle.ksm_book.proofs.DuePasses.{part_stops, rests_behind, rests_between, visits_due, whole_comes, whole_still}
-use Rattle.ksm_book.proofs.Reached.{comes_as}
+use Rattle.ksm_book.proofs.Reached.{comes_as, comes_own}
 use Rattle.ksm_book.proofs.Walked.{begins_walk, less_room, walk_ends, walks_on}
 use Rattle.std.proofs.Common.{refl, rules, sym, ◌∙◌}
 use Rattle.ksm_book.proofs.state.State.pass_over_due.Goals as goal
@@ -10,11 +10,13 @@ loop-spot-init c = (
   begins_walk _ c.args.self.now _ (sym c.requires.start) _ c.lies_lawfully.ensures.sound,
   c.requires.due,
   c.requires.ready,
-  refl,
 )
 
 pub loop-spot-smaller : goal.loop-spot-smaller
 loop-spot-smaller c = less_room _ _ (search rules, search rules) c.in-Some.ensures.1
+
+pub visit_due-requires-clause-own : goal.visit_due-requires-clause-own
+visit_due-requires-clause-own c = comes_own c.args.self.now c.loop-spot.self _ c.loop-spot.invariant.0.comes ∙ c.requires.own
 
 pub loop-spot-preserved : goal.loop-spot-preserved
 loop-spot-preserved c =
@@ -24,13 +26,12 @@ loop-spot-preserved c =
           c.in-Ok.ensures.comes,
       c.in-Ok.ensures.due,
       c.visit_due.ensures.ready,
-      c.visit_due.ensures.own ∙ c.loop-spot.invariant.3,
     )
 
 pub returns-in-Err-clause-stopped : goal.returns-in-Err-clause-stopped
 returns-in-Err-clause-stopped c =
     part_stops c.visit_due.new.self c.hide_from.new.self _ c.loop-spot.invariant.0 c.loop-spot.invariant.1 _ c.in-Some.ensures c.requires.start
-    c.in-Err.ensures.refused c.in-Err.ensures.refused_row c.hide_from.ensures.comes
+    c.in-Err.ensures.refused c.in-Err.ensures.refused_row c.hide_from.ensures
 
 pub returns-clause-visited : goal.returns-clause-visited
 returns-clause-visited c =

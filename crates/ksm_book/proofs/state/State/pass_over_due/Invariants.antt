@@ -5,7 +5,6 @@ use Rattle.ksm_book.proofs.state.State.pass_over_due.Given as goal
 abbrev pub invariant-loop-spot : goal.invariant-loop-spot
 invariant-loop-spot l =
     IsWalking (due_visited doing) None l.fn.self l.self l.last × AreDue l.self.state l.due.pages × (l.due.ready ≡ true)
-    × (l.self.keeper.table ≡ l.fn.self.keeper.table)
 
 abbrev pub decreases-loop-spot : goal.decreases-loop-spot
 decreases-loop-spot l = room_behind l.last

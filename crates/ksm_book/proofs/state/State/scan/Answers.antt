@@ -2,7 +2,7 @@ use Rattle.ksm_book.proofs.Names.{AreDue, arith, BookValue, Comes, doing, false,
 use Rattle.ksm_base.specs.declared.fault.Fault.TheVariants.{Memory}
 use Rattle.ksm_book.specs.contracts.state.State.{the_view}
 use Rattle.ksm_book.proofs.Folded.{beside_on, visits_mergeable}
-use Rattle.ksm_book.proofs.Reached.{comes_to}
+use Rattle.ksm_book.proofs.Reached.{comes_own, comes_to}
 use Rattle.ksm_book.proofs.ScanCarried.{any_some, scanned, some_pages}
 use Rattle.ksm_book.proofs.state.State.scan.Goals as goal
 use Rattle.ksm_book.proofs.state.State.scan.Goals.{After-list_restless, After-mergeable}
@@ -14,7 +14,7 @@ pub returns-then-mergeable-eq0-clause-carried : goal.returns-then-mergeable-eq0-
 returns-then-mergeable-eq0-clause-carried c =
     let v = c.args.self.now in
     let none : list_any (λ r. r.mergeable) v.state.rows ≡ false = grind (arith, c.self.view_is, list_any_none, none_counted) in
-    scanned v v _ (running ((goal.at.returns-then-mergeable-eq0-clause-carried c).After-mergeable)) refl 0 None
+    scanned v v _ 0 None (running ((goal.at.returns-then-mergeable-eq0-clause-carried c).After-mergeable))
     (grind arith) (λ from s before. before)
 
 -- there are pages to visit
@@ -24,8 +24,11 @@ some c = any_some c.args.self.now.state.rows (grind (arith, c.self.view_is, some
 pub loop-done-init : goal.loop-done-init
 loop-done-init c =
     let same : the_view (record c.self.inside { pages = c.list_restless.new.self }) ≡ c.args.self.now = rw c.list_restless.ensures c.self.view_is in
-    subst (λ (v : BookValue). (0 ≤ c.args.count) × Comes c.args.self.now v (λ s. s) × (v.keeper.table ≡ c.args.self.now.keeper.table)
-    × (c.args.due.now.known ≡ true → AreDue v.state c.args.due.now.pages)) (sym same) (omega arith, λ from s before. before, refl, c.requires.due)
+    subst (λ (v : BookValue). (0 ≤ c.args.count) × Comes c.args.self.now v (λ s. s)
+    × (c.args.due.now.known ≡ true → AreDue v.state c.args.due.now.pages)) (sym same) (omega arith, λ from s before. before, c.requires.due)
+
+pub go_on-requires-clause-own : goal.go_on-requires-clause-own
+go_on-requires-clause-own c = comes_own c.args.self.now c.loop-done.self _ c.loop-done.invariant.1 ∙ c.requires.own
 
 pub go_on-requires-clause-some : goal.go_on-requires-clause-some
 go_on-requires-clause-some c = grind (arith, comes_to, visits_mergeable, c.self.view_is, some_pages)
@@ -35,7 +38,6 @@ loop-done-preserved c = (
   omega (arith, c.in-Ok.ensures.made.fit, c.loop-done.invariant.0),
   λ from s before. rw (beside_on doing c.loop-done.done c.in-Ok.visits (c.loop-done.done + c.in-Ok.visits) s refl)
       (c.in-Ok.ensures.made.comes from _ (c.loop-done.invariant.1 from s before)),
-  c.go_on.ensures.own ∙ c.loop-done.invariant.2,
   c.go_on.ensures.due,
 )
 
@@ -43,13 +45,13 @@ pub returns-in-Err-clause-carried : goal.returns-in-Err-clause-carried
 returns-in-Err-clause-carried c =
     let n = c.loop-done.done in
     let k = c.in-Err.made in
-    scanned c.args.self.now c.go_on.new.self _ (running ((goal.at.returns-in-Err-clause-carried c).After-mergeable))
-    (c.go_on.ensures.own ∙ c.loop-done.invariant.2) (n + k) (Some Memory)
+    scanned c.args.self.now c.go_on.new.self _ (n + k) (Some Memory)
+    (running ((goal.at.returns-in-Err-clause-carried c).After-mergeable))
     (some ((goal.at.returns-in-Err-clause-carried c).After-list_restless), omega (arith, c.in-Err.ensures.stopped.fewer))
     (λ from s before. rw (beside_on doing n k (n + k) s refl) (c.in-Err.ensures.stopped.comes from _ (c.loop-done.invariant.1 from s before)))
 
 pub returns-clause-carried : goal.returns-clause-carried
 returns-clause-carried c =
     let all : c.loop-done.done ≡ c.args.count = omega (arith, c.loop-done.invariant.0) in
-    scanned c.args.self.now c.loop-done.self _ (running ((goal.at.returns-clause-carried c).After-mergeable)) c.loop-done.invariant.2 _ None
+    scanned c.args.self.now c.loop-done.self _ _ None (running ((goal.at.returns-clause-carried c).After-mergeable))
     (rw (some ((goal.at.returns-clause-carried c).After-list_restless)) refl) (rw (← all) c.loop-done.invariant.1)

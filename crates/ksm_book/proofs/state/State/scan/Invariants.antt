@@ -4,7 +4,7 @@ use Rattle.ksm_book.proofs.state.State.scan.Given as goal
 abbrev pub invariant-loop-done : goal.invariant-loop-done
 invariant-loop-done l =
     (l.done ≤ l.count) × Comes l.fn.self l.self (visits_beside doing l.done)
-    × (l.self.keeper.table ≡ l.fn.self.keeper.table) × (l.due.known ≡ true → AreDue l.self.state l.due.pages)
+    × (l.due.known ≡ true → AreDue l.self.state l.due.pages)
 
 abbrev pub decreases-loop-done : goal.decreases-loop-done
 decreases-loop-done l = l.count - l.done

@@ -18,5 +18,5 @@ invariant_of-self c = (
   rw (goes c) (laid_mapped c.self.invariant.1 _ (grind arith) (grind arith)),
 )
 
-pub returns-clause-comes : goal.returns-clause-comes
-returns-clause-comes c = λ from s before. grind (arith, before, goes c, c.self.view_is)
+pub returns : goal.returns
+returns c = grind (arith, goes c, c.self.view_is)

@@ -1,41 +1,42 @@
-use Rattle.ksm_book.proofs.Names.{ap, arith, BookValue, Comes, IsSound, row_at, sym, ◌∙◌}
+use Rattle.ksm_book.proofs.Names.{added, ap, BookValue, BookView, change_row, IsSound, row_at, settled, sym, view_of, visit, with_rows, ◌∙◌, ◌≡◌}
 use Rattle.std.proofs.lemmas.Option.{none-some}
 use Rattle.ksm_tree.proofs.Numbers.{on_err}
-use Rattle.ksm_book.proofs.TakingOver.{once_freed, other_alone, taken_comes, taken_leaves, taken_refused, Takes, waits_at}
+use Rattle.ksm_book.proofs.TakingOver.{other_alone, taken_comes, taken_leaves, taken_refused, waits_at}
 use Rattle.ksm_book.proofs.state.State.take_over.Goals as goal
 use Rattle.ksm_book.proofs.state.State.take_over.Goals.{After-held, After-stop_waiting}
 
--- the page is to wait in the stead of the other one
-takes : (c : After-held) → Takes c.args.self.now.state c.args.spot.page c.args.other
-takes c =
-    let sound : IsSound c.args.self.now.state = rw (← c.self.view_is) c.self.invariant.0 in
-    let told = c.requires.takes in
-    grind arith
+sound : (c : After-held) → IsSound c.args.self.now.state
+sound c = rw (← c.self.view_is) c.self.invariant.0
 
--- that one waits no more
-freed : (c : After-stop_waiting) → Comes c.args.self.now c.stop_waiting.new.self (once_freed c.args.other)
-freed c = rw (← c.in-Some.ensures.spot) c.stop_waiting.ensures.comes
+-- the other page waits no more
+freeing : (c : After-stop_waiting)
+    → view_of c.stop_waiting.new.self ≡ with_rows (view_of c.args.self.now) (change_row c.args.other settled c.args.self.now.state.rows)
+freeing c = rw (← c.in-Some.ensures.spot) c.stop_waiting.ensures
 
 pub unreachable-requires : goal.unreachable-requires
 unreachable-requires c =
     none-some _ (sym c.in_default.ensures ∙ ap (λ (v : BookValue). row_at c.args.other v.state.rows) c.self.view_is
-    ∙ waits_at (takes (goal.at.unreachable-requires c).After-held))
+    ∙ waits_at (sound (goal.at.unreachable-requires c).After-held) c.requires.takes)
 
 pub stop_waiting-requires : goal.stop_waiting-requires
-stop_waiting-requires c = rw c.in-Some.ensures.spot (other_alone (takes (goal.at.stop_waiting-requires c).After-held))
+stop_waiting-requires c =
+    rw c.in-Some.ensures.spot (other_alone (sound (goal.at.stop_waiting-requires c).After-held) c.requires.takes)
+
+pub visit-requires : goal.visit-requires
+visit-requires c = record { own = ap (λ (v : BookView). v.keeper.table) c.stop_waiting.ensures ∙ c.requires.own }
 
 pub returns-in_err-visit-clause-refused : goal.returns-in_err-visit-clause-refused
 returns-in_err-visit-clause-refused c = on_err _
-    (taken_refused c.args.self.now c.stop_waiting.new.self c.visit.new.self (takes (goal.at.returns-in_err-visit-clause-refused c).After-held)
-    (freed (goal.at.returns-in_err-visit-clause-refused c).After-stop_waiting) (c.in_err-visit.ensures.refused))
+    (taken_refused c.args.self.now c.stop_waiting.new.self c.visit.new.self (sound (goal.at.returns-in_err-visit-clause-refused c).After-held)
+    c.requires.takes (freeing (goal.at.returns-in_err-visit-clause-refused c).After-stop_waiting) c.in_err-visit.ensures.refused)
 
 pub returns-clause-comes : goal.returns-clause-comes
 returns-clause-comes c =
-    taken_comes c.args.self.now c.stop_waiting.new.self c.visit.new.self (takes (goal.at.returns-clause-comes c).After-held)
-    (freed (goal.at.returns-clause-comes c).After-stop_waiting) c.in_ok-visit.ensures.comes
+    taken_comes c.args.self.now c.stop_waiting.new.self c.visit.new.self (sound (goal.at.returns-clause-comes c).After-held)
+    c.requires.takes (freeing (goal.at.returns-clause-comes c).After-stop_waiting) c.in_ok-visit.ensures.comes
 
 pub returns-clause-due : goal.returns-clause-due
 returns-clause-due c =
-    taken_leaves c.args.self.now c.stop_waiting.new.self c.visit.new.self (takes (goal.at.returns-clause-due c).After-held)
-    (freed (goal.at.returns-clause-due c).After-stop_waiting) _ _ _
+    taken_leaves c.args.self.now c.stop_waiting.new.self c.visit.new.self (sound (goal.at.returns-clause-due c).After-held)
+    c.requires.takes (freeing (goal.at.returns-clause-due c).After-stop_waiting) _ _ _
     (rw (← c.in-Some.ensures.spot) c.in_ok-insert.ensures.added) c.remove.ensures.gone c.in_ok-visit.ensures.comes c.requires.due

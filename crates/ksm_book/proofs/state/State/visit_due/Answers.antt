@@ -1,15 +1,17 @@
-use Rattle.ksm_book.proofs.Names.{ap, AreDue, arith, BookState, BookValue, Comes, Deed, doing, due_visited, Find, FindsAt, GuestPage, inl, inr, IsDueNoMore, IsLaid, IsSound, List, Reached, refl}
-use Rattle.ksm_book.proofs.Names.{seen, state_of, StaysBefore, subst, sym, true, true≢false, view_of, VisitsPage, ◌∙◌, ◌≡◌}
+use Rattle.ksm_book.proofs.Names.{ap, arith, BookState, BookValue, Comes, comes_before, Deed, did, doing, due_visited, false, Find, FindsAt, inl, inr, IsDueNoMore, IsLaid, IsSound, page}
+use Rattle.ksm_book.proofs.Names.{Reached, refl, seen, state_of, StaysBefore, subst, sym, true, true≢false, view_of, visit, visited, VisitsPage, ◌∙◌, ◌∷◌, ◌≡◌, ◌⊎◌}
 use Rattle.ksm_pages.specs.declared.pages.Find.TheVariants as finds
 use Rattle.ksm_tree.proofs.Numbers.{on_err}
 use Rattle.ksm_book.specs.contracts.state.State.{the_view}
-use Rattle.ksm_book.proofs.DueFound.{changed_keeps, is_still, less_due, partner_takes, shared_due, shares, Without}
+use Rattle.ksm_book.proofs.DueFound.{changed_keeps, is_still, partner_takes, shared_due, shares}
 use Rattle.ksm_book.proofs.Singles.{book}
 use Rattle.ksm_book.proofs.DueFound.{gone_due, waits_due}
 use Rattle.ksm_book.proofs.PageVisits.{changed_leads, finds_it, waits_leads}
 use Rattle.ksm_book.proofs.RowVisits.{Meets}
 use Rattle.ksm_book.proofs.state.State.visit_due.Goals as goal
-use Rattle.ksm_book.proofs.state.State.visit_due.Goals.{In_ok-visit}
+use Rattle.ksm_book.proofs.DueKept.{more_due}
+use Rattle.ksm_book.proofs.Folded.{then_idle}
+use Rattle.ksm_book.proofs.state.State.visit_due.Goals.{After-remove, In_ok-visit, in-Dup+in_ok-join-in-Dup, in-Gone, in-Partner+in_ok-pair-in-Partner, in-Zero}
 
 -- what was found of the page is so of its row
 met_by : (c : In_ok-visit) (f : Find) → (f ≡ finds.Gone → ⊥) → c.in_ok-visit.field-0 ≡ f
@@ -33,13 +35,29 @@ before_it c is from s before =
     let alike : view_of (the_view (record c.self.inside { pages = c.visit.new.self })) ≡ view_of c.args.self.now = grind (arith, same c is, c.self.view_is) in
     grind arith
 
--- where the page shares a frame from now on, its visit was made as one of a page that is due, which it is no longer
+-- a page that has gone, or goes on waiting, was visited as one that is due, which it is no longer
+rests : (c : In_ok-visit) → (c.in_ok-visit.field-0 ≡ finds.Gone) ⊎ (c.in_ok-visit.field-0 ≡ finds.Waits)
+    → Comes c.args.self.now (the_view (record c.self.inside { pages = c.visit.new.self })) (λ s. due_visited doing s c.args.spot.page)
+    × IsDueNoMore c.args.spot.page c.args.self.now.state
+    (state_of (seen c.visit.new.self) c.self.inside.cursor c.self.inside.passes)
+rests c (inl gone) =
+    let s = c.self.inside in (
+      λ from b before. grind (arith, before_it c (ap is_still gone) from b before, c.self.view_is, gone, c.in_ok-visit.ensures.found),
+      subst (λ (v : BookValue). IsDueNoMore c.args.spot.page v.state (state_of (seen c.visit.new.self) s.cursor s.passes)) c.self.view_is
+          (gone_due (seen s.pages) (seen c.visit.new.self) s.cursor s.passes _ c.self.invariant.0.rows_rise
+          (grind (arith, gone, c.in_ok-visit.ensures.found))),
+    )
+rests c (inr waits) =
+    let at = met_by c _ (λ e. cc) waits in (
+      λ from b before. grind (arith, before, at.is, at.found, at.so, then_idle),
+      waits_due at,
+    )
+
+-- so was one that shares a frame from now on
 shared : (c : In_ok-visit) → shares c.args.spot.page c.in_ok-visit.field-0 ≡ true → (w : BookValue)
     → VisitsPage (book (seen c.visit.new.self) c.self.inside.keeper c.self.inside.cursor c.self.inside.passes)
     (view_of w) c.args.spot.page
-    → Comes c.args.self.now w (λ s. due_visited doing s c.args.spot.page)
-    × ((old new : List GuestPage) → Without c.args.spot.page old new
-    → AreDue c.args.self.now.state old → AreDue w.state new)
+    → Comes c.args.self.now w (λ s. due_visited doing s c.args.spot.page) × IsDueNoMore c.args.spot.page c.args.self.now.state w.state
 shared c is w did =
     let found = c.in_ok-visit.field-0 in
     let some = λ (gone : found ≡ finds.Gone). true≢false (sym is ∙ ap (shares c.args.spot.page) gone) in
@@ -85,58 +103,37 @@ returns-in_err-take_over-in-Partner-2-clause-refused c =
     c.in_err-take_over-in-Partner-2.ensures.refused from s (before_it at (ap is_still c.in-Partner.is) from s before) in
     on_err _ stays
 
-pub returns-in-Gone-clause-due : goal.returns-in-Gone-clause-due
-returns-in-Gone-clause-due c =
-    let s = c.self.inside in
-    let at = (goal.at.returns-in-Gone-clause-due c).In_ok-visit in
-    less_due _ c.args.self.now.state (state_of (seen c.visit.new.self) s.cursor s.passes) _ _ c.remove.ensures.gone
-    (elim c.in-Gone.is [
-      | inl gone ↦
-          subst (λ (v : BookValue). IsDueNoMore c.args.spot.page v.state (state_of (seen c.visit.new.self) s.cursor s.passes)) c.self.view_is
-          (gone_due (seen s.pages) (seen c.visit.new.self) s.cursor s.passes _ c.self.invariant.0.rows_rise
-          (grind (arith, gone, at.in_ok-visit.ensures.found)))
-      | inr waits ↦ waits_due (met_by at _ (λ e. cc) waits)
-    ]) c.requires.due
+pub returns-in-Partner-2-clause-comes : goal.returns-in-Partner-2-clause-comes
+returns-in-Partner-2-clause-comes c = λ from s before. c.in_ok-take_over-in-Partner-2.ensures.comes from s
+    (before_it (goal.at.returns-in-Partner-2-clause-comes c).In_ok-visit (ap is_still c.in-Partner.is) from s before)
 
 pub returns-in-Changed-clause-due : goal.returns-in-Changed-clause-due
 returns-in-Changed-clause-due c =
     changed_keeps (met_by ((goal.at.returns-in-Changed-clause-due c).In_ok-visit) _ (λ e. cc) c.in-Changed.is)
     _ c.requires.is_due c.requires.due
 
-pub returns-in_ok-join-in-Dup-clause-comes : goal.returns-in_ok-join-in-Dup-clause-comes
-returns-in_ok-join-in-Dup-clause-comes c =
-    (shared (goal.at.returns-in_ok-join-in-Dup-clause-comes c).In_ok-visit
-    (ap (shares c.args.spot.page) c.in-Dup.is) c.join.new.self c.in_ok-join-in-Dup.ensures.visited).0
+-- the page was visited as one that is due, which it is no longer
+left : (c : After-remove) → Comes c.args.self.now c.match-branch-2.self (λ s. due_visited doing s c.args.spot.page)
+    × IsDueNoMore c.args.spot.page c.args.self.now.state c.match-branch-2.self.state
+left c =
+    let at = (goal.at.returns-clause-comes c).In_ok-visit in
+    let page = c.args.spot.page in
+    elim c.match-branch-2.branch [
+      | in-Gone w ↦ rw w.self-is (rests at w.in-Gone.is)
+      | in-Dup+in_ok-join-in-Dup w ↦
+          rw w.self-is (shared at (ap (shares page) w.in-Dup.is) w.join.new.self w.in_ok-join-in-Dup.ensures.visited)
+      | in-Zero w ↦
+          rw w.self-is (shared at (ap (shares page) w.in-Zero.is) w.become_zero.new.self w.become_zero.ensures.visited)
+      | in-Partner+in_ok-pair-in-Partner w ↦
+          rw w.self-is
+          (shared at (ap (shares page) w.in-Partner.is ∙ sym w.comes_before.ensures ∙ w.if-comes_before.true)
+          w.pair.new.self w.in_ok-pair-in-Partner.ensures.visited)
+    ]
 
-pub returns-in_ok-join-in-Dup-clause-due : goal.returns-in_ok-join-in-Dup-clause-due
-returns-in_ok-join-in-Dup-clause-due c =
-    (shared (goal.at.returns-in_ok-join-in-Dup-clause-due c).In_ok-visit
-    (ap (shares c.args.spot.page) c.in-Dup.is) c.join.new.self c.in_ok-join-in-Dup.ensures.visited).1 _ _
-    c.remove-in-Dup.ensures.gone c.requires.due
+pub returns-clause-comes : goal.returns-clause-comes
+returns-clause-comes c = (left c).0
 
-pub returns-in-Zero-clause-comes : goal.returns-in-Zero-clause-comes
-returns-in-Zero-clause-comes c =
-    (shared (goal.at.returns-in-Zero-clause-comes c).In_ok-visit
-    (ap (shares c.args.spot.page) c.in-Zero.is) c.become_zero.new.self c.become_zero.ensures.visited).0
-
-pub returns-in-Zero-clause-due : goal.returns-in-Zero-clause-due
-returns-in-Zero-clause-due c =
-    (shared (goal.at.returns-in-Zero-clause-due c).In_ok-visit
-    (ap (shares c.args.spot.page) c.in-Zero.is) c.become_zero.new.self c.become_zero.ensures.visited).1 _ _
-    c.remove-in-Zero.ensures.gone c.requires.due
-
-pub returns-in_ok-pair-in-Partner-clause-comes : goal.returns-in_ok-pair-in-Partner-clause-comes
-returns-in_ok-pair-in-Partner-clause-comes c =
-    (shared (goal.at.returns-in_ok-pair-in-Partner-clause-comes c).In_ok-visit
-    (ap (shares c.args.spot.page) c.in-Partner.is ∙ sym c.comes_before.ensures ∙ c.if-comes_before.true) c.pair.new.self
-    c.in_ok-pair-in-Partner.ensures.visited).0
-
-pub returns-in_ok-pair-in-Partner-clause-due : goal.returns-in_ok-pair-in-Partner-clause-due
-returns-in_ok-pair-in-Partner-clause-due c =
-    (shared (goal.at.returns-in_ok-pair-in-Partner-clause-due c).In_ok-visit
-    (ap (shares c.args.spot.page) c.in-Partner.is ∙ sym c.comes_before.ensures ∙ c.if-comes_before.true) c.pair.new.self
-    c.in_ok-pair-in-Partner.ensures.visited).1 _ _ c.remove-in-Partner.ensures.gone c.requires.due
-
-pub returns-in_ok-take_over-in-Partner-2-clause-comes : goal.returns-in_ok-take_over-in-Partner-2-clause-comes
-returns-in_ok-take_over-in-Partner-2-clause-comes c = λ from s before. c.in_ok-take_over-in-Partner-2.ensures.comes from s
-    (before_it (goal.at.returns-in_ok-take_over-in-Partner-2-clause-comes c).In_ok-visit (ap is_still c.in-Partner.is) from s before)
+pub returns-clause-due : goal.returns-clause-due
+returns-clause-due c = (left c).1 c.remove.new.self.pages
+    (more_due c.args.self.now.state c.args.due.now.pages (c.args.spot.page ∷ c.remove.new.self.pages)
+    (λ p is. grind (arith, c.remove.ensures.gone p)) c.requires.due)

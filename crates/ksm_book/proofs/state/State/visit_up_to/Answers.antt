@@ -1,8 +1,8 @@
-use Rattle.ksm_book.proofs.Names.{and_parts, arith, BookValue, GuestPage, IsDueNoMore, IsStill, None, Option, refl, subst, sym, true, ◌∙◌, ◌≡◌}
+use Rattle.ksm_book.proofs.Names.{and_parts, arith, BookValue, GuestPage, IsDueNoMore, IsStill, None, Option, page, subst, sym, true, visit, visited, ◌∙◌, ◌≡◌}
 use Rattle.std.proofs.Common.{rules}
 use Rattle.ksm_book.specs.Scanned.{FindsUpTo, is_quiet}
 use Rattle.ksm_book.proofs.PagesAhead.{has_filter}
-use Rattle.ksm_book.proofs.Reached.{comes_as, comes_to}
+use Rattle.ksm_book.proofs.Reached.{comes_as, comes_own, comes_to}
 use Rattle.ksm_book.proofs.Walked.{before_it, begins_still, begins_walk, due_begins, due_walks, is_ahead, less_room, rests_before, rests_up_to, still_walks, visits_page, walk_ends, walks_on}
 use Rattle.ksm_book.proofs.state.State.visit_up_to.Goals as goal
 
@@ -11,10 +11,15 @@ loop-spot-init c =
     let v = c.args.self.now in
     let at = c.cursor-reached.ensures in
     let sound = c.lies_lawfully.ensures.sound in
-    (begins_walk _ v _ at _ sound, λ _. begins_still _ v _ at, λ _ none. rw (at ∙ none) (due_begins v.state sound.rows_rise), refl)
+    (begins_walk _ v _ at _ sound, λ _. begins_still _ v _ at, λ _ none. rw (at ∙ none) (due_begins v.state sound.rows_rise))
 
 pub loop-spot-smaller : goal.loop-spot-smaller
 loop-spot-smaller c = less_room _ _ (search rules, search rules) c.in-Some.ensures.next.1.0
+
+pub visit-requires : goal.visit-requires
+visit-requires c = record {
+  own = rw c.in-Some.ensures.kept (comes_own c.args.self.now c.loop-spot.self _ c.loop-spot.invariant.0.comes ∙ c.requires.own);
+}
 
 pub loop-spot-preserved : goal.loop-spot-preserved
 loop-spot-preserved c =
@@ -29,7 +34,6 @@ loop-spot-preserved c =
           (rw kept at (c.in-Ok.ensures.quiet (both quiet).1)),
       λ quiet none. due_walks c.loop-spot.self.state _ _ _ c.visit.new.self.state next.1
           (subst (λ (v : BookValue). IsDueNoMore page v.state c.visit.new.self.state) kept (c.in-Ok.ensures.due (both quiet).1)) (c.loop-spot.invariant.2 (both quiet).0 none),
-      grind (arith, kept, c.visit.ensures.own, c.loop-spot.invariant.3),
     )
 
 pub returns-in-Err-clause-stopped : goal.returns-in-Err-clause-stopped

@@ -9,7 +9,6 @@ invariant-loop-spot l =
     × (l.made.quiet ≡ true → StaysStill l.fn.self (walked_to (page_visited doing) l.reached))
     × (l.made.quiet ≡ true → l.fn.self.state.cursor ≡ None
     → AreDue l.self.state (filter (after_cursor l.reached) (mergeable_pages l.fn.self.state.rows)))
-    × (l.self.keeper.table ≡ l.fn.self.keeper.table)
 
 abbrev pub decreases-loop-spot : goal.decreases-loop-spot
 decreases-loop-spot l = room_behind l.reached
