@@ -1,5 +1,5 @@
 -- Rows that change at one page: what becomes of what holds of each row, and of how many lie on a frame.
-use Rattle.ksm_book.proofs.Names.{All, All-map, arith, Bool, change_row, count_alike, count_mapped, count_with_row, count_without_page, counts_one, eq-eqb, false, filter_passes, find_all}
+use Rattle.ksm_book.proofs.Names.{All, All-map, arith, change_row, count_alike, count_mapped, count_with_row, count_without_page, counts_one, eq-eqb, false, filter_passes, find_all}
 use Rattle.ksm_book.proofs.Names.{find_changed, find_none, find_passes, Frames, GuestPage, if◌then◌else◌, in_hand, InPageOrder, is_frame, lies_on, List, map, map_mapped, None, not, not-true}
 use Rattle.ksm_book.proofs.Names.{one_of_each_page, Option, Row, row_at, same_page, same_page_eq, same_page_refl, Some, true, uses, with_row, without_page, ℕ, ◌+◌, ◌≡◌, ◌≤◌}
 
@@ -42,12 +42,6 @@ pub uses_mapped : (f : ℕ) (frame : Frames) (c : Row → Row) (rows : List Row)
 uses_mapped f frame c rows keeps = grind (arith, count_mapped)
 
 module _ (f : ℕ) (page : GuestPage) (o : Option ℕ) (frame : Frames) where
-  abbrev old_test : Row → Bool
-  old_test r = is_frame f (frame r.page)
-
-  abbrev new_test : Row → Bool
-  new_test r = is_frame f (lies_on page o frame r.page)
-
   -- where no row is of the page, as many lie on the frame as did
   apart_uses : (rows : List Row) → All (λ r. same_page r.page page ≡ false) rows → uses f (lies_on page o frame) rows ≡ uses f frame rows
   apart_uses rows apart = grind (arith, count_alike)
@@ -56,14 +50,14 @@ module _ (f : ℕ) (page : GuestPage) (o : Option ℕ) (frame : Frames) where
   pub uses_gone : (rows : List Row) (row : Row) → InPageOrder rows → row_at page rows ≡ Some row → uses f (lies_on page o frame) (without_page page rows) + in_hand f (frame page) ≡ uses f frame rows
   uses_gone rows row rise found =
       let rest = apart_uses (without_page page rows) (λ i d lt. not-true _ (filter_passes (λ r. not (same_page r.page page)) rows i d lt)) in
-      grind (arith, found_page page rows row found, count_without_page old_test page rows row rise found)
+      grind (arith, found_page page rows row found, count_without_page (λ r. is_frame f (frame r.page)) page rows row rise found)
 
   -- where a page comes to lie on another frame, one row less lies on the old frame and one more on the new one
   pub uses_changed : (c : Row → Row) (rows : List Row) (row : Row) → InPageOrder rows → row_at page rows ≡ Some row → ((r : Row) → (c r).page ≡ r.page)
       → uses f (lies_on page o frame) (change_row page c rows) + in_hand f (frame page) ≡ uses f frame rows + in_hand f o
   uses_changed c rows row rise found keeps =
       let same = uses_mapped f (lies_on page o frame) (λ r. if same_page r.page page then c r else r) rows (λ r. grind (arith, keeps r)) in
-      let on_new = count_without_page new_test page rows row rise found in
+      let on_new = count_without_page (λ r. is_frame f (lies_on page o frame r.page)) page rows row rise found in
       grind (arith, found_page page rows row found, uses_gone rows row rise found, same_page_refl)
 
 -- where a row comes at a page that had none, one row more lies on the frame if it comes there, else as many

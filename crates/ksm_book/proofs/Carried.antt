@@ -10,7 +10,7 @@ use Rattle.std.specs.Prelude.{option_and_then}
 use Rattle.ksm_book.specs.Commands.{IsIdle}
 use Rattle.ksm_book.proofs.Names.{AllocatesOn, Answer, arith, BookState, BookView, Bool, CarriedOut, DupRow, Err, false, Frames, HasShown, if◌then◌else◌, IsCarried, List, listed, Mapped, mapped}
 use Rattle.ksm_book.proofs.Names.{MatchBool, MatchOption, nodes_got, None, Ok, Option, Performs, pruning, refl, Resettles, rewriting, Row, scanning, shared_state, Some, suc, true, Withdraw, zero, ℕ}
-use Rattle.ksm_book.proofs.Names.{[], ◌≡◌}
+use Rattle.ksm_book.proofs.Names.{[]}
 use Rattle.ksm_book.proofs.Made.{made_none}
 use Rattle.ksm_book.proofs.Singles.{place_is}
 use Rattle.ksm_book.proofs.Shown.{each_does, GivesNone, lost, moved, none_left, provides_does, quiet_both, quiet_does, quiet_leaving, quiet_map, quiet_puts, resettles_does, unmerges_does}
@@ -79,10 +79,8 @@ shown_so v w command (Ok (Unmerged k (Some (NoFrame node)))) is h = grind (arith
 shown_so v w _ (Err (NoFrame node)) is h = none_left h.searched
 shown_so v w _ _ is h = tt
 
--- a command that was carried out leaves the keeper its table
-pub carried_own : {v w : BookView} {command : Command} {answer : Answer} → IsCarried v w command answer → w.keeper.table ≡ v.keeper.table
-carried_own {v} {w} {command} {answer} h = (frames_given v w command answer h.steps).1.table
-
--- a command that was carried out gave the frames that it needed, and its log shows why it is answered so
+-- a command that was carried out leaves the keeper its table, gave the frames that it needed, and its log shows why it is answered so
 pub carried_out : {v w : BookView} {command : Command} {answer : Answer} → IsCarried v w command answer → CarriedOut v w command answer
-carried_out {v} {w} {answer = answer} h = grind (arith, carried_own, frames_given, shown_so)
+carried_out {v} {w} {command} {answer} h =
+    let given = frames_given v w command answer h.steps in
+    record { done = h; own = given.1.table; frames = given; shown = shown_so v w command answer h.answer h.steps }

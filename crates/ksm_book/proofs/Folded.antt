@@ -1,14 +1,15 @@
 -- The visits of a pass are a fold over its pages, only restless pages count, and a quiet pass is repeated by those behind it.
 use Rattle.ksm_book.proofs.Names.{after_cursor, AllPairs-filter, and_right, ap, append-nil, AreAscending, arith, begun, BookState, cases_Bool, comes_before, Deed, doing, drop, drop_more, each_at_page, false, filter}
-use Rattle.ksm_book.proofs.Names.{filter_all, find_all, find_passes, Frames, get_or_from_slice_get, GuestPage, idle, inl, InPageOrder, inr, is_none, is_restless, IsBeside, IsStill, last_of, List, map}
+use Rattle.ksm_book.proofs.Names.{filter_all, find_all, find_passes, get_or_from_slice_get, GuestPage, idle, inl, InPageOrder, inr, is_none, is_restless, IsBeside, IsStill, last_of, List, map}
 use Rattle.ksm_book.proofs.Names.{map_mapped, mergeable_pages, next_row, next_visited, None, not-true, Option, option_map, page_visited, pages_ahead, pages_visited, pairs_mapped, pass_ended_at_last}
-use Rattle.ksm_book.proofs.Names.{refl, restless_at, restless_row, Row, row_at, row_visited, rowwise_visits, scanning, settled, slice_get, slice_get-get_or, slice_get_within, Some, subst, suc, sym, take, take-append-drop}
+use Rattle.ksm_book.proofs.Names.{refl, restless_at, restless_row, Row, row_at, row_visited, rowwise_visits, settled, slice_get, slice_get-get_or, slice_get_within, Some, subst, suc, sym, take, take-append-drop}
 use Rattle.ksm_book.proofs.Names.{then_doing, true, visit, visit_begun, visit_of, visits, visits_beside, zero, ℕ, [], ⊤, ◌++◌, ◌+◌, ◌∙◌, ◌∷◌, ◌≡◌}
 use Rattle.ksm_book.proofs.Going.{begun_goes, elsewhere, Goes, goes_on, goes_same, mergeable_kept, visited_goes}
 use Rattle.ksm_book.proofs.PagesAhead.{Before, behind_first}
 use Rattle.ksm_pages.proofs.Options.{mapped_some, none_mapped}
 use Rattle.ksm_pages.proofs.Ranked.{last_of_take}
 use Rattle.std.proofs.Math.Seq.{take-suc}
+use Rattle.std.proofs.lemmas.List.Sums.{fold-append}
 use Rattle.ksm_book.proofs.ByPage.{found_page}
 
 -- ---------------------------------------------------------------- the page that is visited next
@@ -31,11 +32,6 @@ none_next c is = none_mapped (λ (r : Row). r.page) _ (next_first c.cursor c.row
 -- a pass with a page ahead does not end
 pub pass_goes_on : (c : BookState) (page : GuestPage) (more : List GuestPage) → pages_ahead c ≡ page ∷ more → pass_ended_at_last c ≡ c
 pass_goes_on c page more is = rw (and_right _ _ (ap is_none (some_next c is).1))
-
--- where a pass is under way with a page ahead, the next visit begins with nothing done
-begun_goes_on : (c : BookState) (last page : GuestPage) (more : List GuestPage) → c.cursor ≡ Some last → pages_ahead c ≡ page ∷ more
-    → visit_begun (pass_ended_at_last c) ≡ c
-begun_goes_on c last page more at is = grind (arith, at, is, pass_goes_on c page more is)
 
 ascending_mergeable : (rows : List Row) → InPageOrder rows → AreAscending (mergeable_pages rows)
 ascending_mergeable rows rise =
@@ -115,12 +111,6 @@ module _ {X : Type 0} (step : BookState → X → Row → X) where
       let first = page_goes s page rise in grind
       (arith, goes_on, first, pages_go pages (page_visited step s page) (first.order rise))
 
-  -- visits of some pages and of one page more are the visits of those pages and then the visit of that one
-  pub visited_more : (pages : List GuestPage) (s : BookState × X) (page : GuestPage)
-      → pages_visited step s (pages ++ page ∷ []) ≡ page_visited step (pages_visited step s pages) page
-  visited_more [] s page = refl
-  visited_more (p ∷ pages) s page = visited_more pages (page_visited step s p) page
-
   module _ (beside : IsBeside step) where
     -- the visit of the next row is that of its page
     next_is_page : (s : BookState × X) (row : Row) → InPageOrder s.0.rows → next_row s.0.cursor s.0.rows ≡ Some row
@@ -197,7 +187,7 @@ module _ {X : Type 0} (step : BookState → X → Row → X) where
             visit,
             more,
             page_alike t.0.cursor t.0.passes (after (take n ahead)) page,
-            visited_more (take n ahead) (begun s) page,
+            fold-append (page_visited step) (begun s) (take n ahead) (page ∷ []),
             last_of_take ahead n (visit_begun s.0).cursor at,
             pages_stay (take n ahead) (begun s),
             pages_stay (take (suc n) ahead) (begun s),
@@ -213,7 +203,7 @@ module _ {X : Type 0} (step : BookState → X → Row → X) where
           let made = one_more n _ there (begun_folded n _ there) in
           let cut = ahead_then (suc n) ∙ drop_more ahead (suc n) page lt in
           let last = last_of_take ahead n (visit_begun s.0).cursor there in
-          grind (arith, made, begun_goes_on (stood (suc n)).0 _ _ _ last cut)
+          grind (arith, made, last, pass_goes_on (stood (suc n)).0 _ _ cut)
 
       -- as many visits as lead up to a page ahead are those of the pages up to it; the pass ends if it is the last
       pub visits_folded : (n : ℕ) (page : GuestPage) → slice_get ahead n ≡ Some page
@@ -229,8 +219,3 @@ then_idle deed = grind (arith, append-nil deed.steps)
 -- what visits do to the frames is nothing at a shared row, and the same wherever the cursor stands
 pub doing_beside : IsBeside doing
 doing_beside = record { shared = λ b deed row is. grind (arith, then_idle); alike = λ b deed row cursor passes. grind arith }
-
--- what n visits do to the frames is the deed that n visits come to, each with its deed beside it
-pub scanning_is : (n : ℕ) (b : BookState) (frame : Frames) → scanning n b frame ≡ (visits_beside doing n (b, idle frame)).1
-scanning_is zero b frame = refl
-scanning_is (suc n) b frame = grind (arith, scanning_is n b frame, beside_state, then_idle)

@@ -55,9 +55,9 @@ pub use Rattle.ksm_base.specs.declared.row.PageState.{PageState}
 pub use Rattle.ksm_base.specs.declared.row.PageState.TheVariants.{Merged, Waiting, Zero}
 pub use Rattle.ksm_base.specs.declared.row.Row.{Row}
 pub use Rattle.ksm_base.specs.declared.shape.Shape.{Shape}
-pub use Rattle.ksm_book.specs.Carried.{CarriedOut, IsCarried, UnmergesTo}
-pub use Rattle.ksm_book.specs.Commands.{Deed, dup_frame, emptying, Finds, FindsHeld, FindsNone, frame_found, frame_number, handling, idle, instead, joining, leaving, Mapped, mounting, Moves, pairing}
-pub use Rattle.ksm_book.specs.Commands.{Performs, Provides, pruning, Resettles, ResettlesEach, rewriting, row_visiting, scanning, staying, then_doing, visiting_of, withdrawing}
+pub use Rattle.ksm_book.specs.Carried.{CarriedOut, IsCarried, scanning, UnmergesTo}
+pub use Rattle.ksm_book.specs.Commands.{Deed, dup_frame, emptying, Finds, FindsHeld, FindsNone, frame_number, handling, idle, instead, joining, leaving, Mapped, mounting, Moves, pairing}
+pub use Rattle.ksm_book.specs.Commands.{Performs, Provides, pruning, Resettles, ResettlesEach, rewriting, row_visiting, staying, then_doing, withdrawing}
 pub use Rattle.ksm_book.specs.Due.{AreDue, comes_later, due_row_visited, due_visited, due_visits, DueView, freed, hidden_from, IsDueNoMore, takes_over, waits_on}
 pub use Rattle.ksm_book.specs.DuePass.{part_before, part_visited, ReachedBefore, StaysBefore, StopsInPart, TakesOver, with_rows}
 pub use Rattle.ksm_book.specs.Folded.{begun, IsBeside, IsStill, next_visited, page_visited, pages_ahead, pages_visited, restless_at, restless_row, visited, visits_beside}

@@ -1,11 +1,12 @@
 -- The visit of a page: what was found of its row, and what becomes of the book where the row alone changes.
-use Rattle.ksm_book.proofs.Names.{All, ap, arith, BookState, BookValue, BookView, change_row, Comes, Deed, doing, false, Find, FindsAt, Frames, GuestPage, HasStayed, idle, InPageOrder, is_restless}
-use Rattle.ksm_book.proofs.Names.{IsLaid, IsSound, IsStill, KeeperView, List, map, map_mapped, None, Option, page_visited, PagesView, partner, refl, Row, row_at, row_visited, row_visiting, same_page}
-use Rattle.ksm_book.proofs.Names.{settled, shared_state, Some, state_of, sym, true, view_of, VisitsPage, Waiting, ℕ, ◌∙◌, ◌≡◌}
+use Rattle.ksm_book.proofs.Names.{All, arith, BookState, BookValue, BookView, change_row, Comes, doing, false, Find, FindsAt, Frames, GuestPage, HasStayed, idle, is_restless}
+use Rattle.ksm_book.proofs.Names.{IsLaid, IsSound, KeeperView, List, map, map_mapped, None, Option, page_visited, PagesView, partner, refl, Row, row_visited, row_visiting, same_page}
+use Rattle.ksm_book.proofs.Names.{settled, shared_state, state_of, sym, true, view_of, VisitsPage, Waiting, ℕ, ◌≡◌}
 use Rattle.ksm_pages.specs.declared.pages.Find.TheVariants as finds
 use Rattle.ksm_pages.specs.Paged.{Finds, visited as row_changed}
 use Rattle.ksm_base.specs.declared.row.PageState.TheVariants.{Private}
-use Rattle.ksm_book.proofs.ByPage.{found_page, row_of_page}
+use Rattle.ksm_book.specs.Scanned.{StaysStill}
+use Rattle.ksm_book.proofs.ByPage.{row_of_page}
 use Rattle.ksm_book.proofs.Folded.{then_idle}
 use Rattle.ksm_book.proofs.Laying.{laid_changed, LodgesAs}
 use Rattle.ksm_book.proofs.Made.{made_none, made_then}
@@ -42,16 +43,6 @@ module _ (b : BookState) (row : Row) (stays : HasStayed b false row) (alone : pa
       × (row_visiting b frame row ≡ idle frame)
   waits_is frame = grind arith
 
-  -- the visit of a row that has stayed and has no partner changes nothing but which rows wait
-  pub waits_still : (deed : Deed) (page : GuestPage) → InPageOrder b.rows → row_at page b.rows ≡ Some row → IsStill (b, deed)
-      (page_visited doing (b, deed) page)
-  waits_still deed page rise found =
-      let of_page = found_page _ _ row found in
-      let one = row_of_page row.page b.rows row rise (ap (λ q. row_at q b.rows) of_page ∙ found) in
-      let settles =
-      waiting_settles row.page b.rows (λ i d lt same. rw (one i d lt same) (restless_own row stays.restless)) in
-      grind (arith, stays.restless, then_idle, waits_is deed.frame)
-
 -- ---------------------------------------------------------------- the row alone changes
 
 module _ {p q : PagesView} {k : KeeperView} {cursor : Option GuestPage} {passes : ℕ} {v : BookView} {page : GuestPage} where
@@ -75,11 +66,26 @@ module _ {p q : PagesView} {k : KeeperView} {cursor : Option GuestPage} {passes 
     waits_leads = row_leads at at.so.0 _ (λ r. refl) (grind arith)
         (waits_is _ _ stays at.so.4 p.frame).0 (waits_is _ _ stays at.so.4 _).1 at.so.5
 
-    -- the visit of a page that is to wait changes nothing but which rows wait
-    pub waits_quiet : (deed : Deed) → IsStill (v.state, deed) (page_visited doing (v.state, deed) page)
-    waits_quiet deed = grind (arith, waits_still)
-
   -- where a visit found the page's bytes changed, and marked its row, the book is what the visit leads to
   pub changed_leads : Meets (λ _ r. FindsAt p q r finds.Changed) p k cursor passes v page → Leads v q k cursor passes page
   changed_leads at = row_leads at at.so.0 (λ r. record r { unchanged = true; state = Private }) (λ r. refl)
       (grind arith) (grind arith) (grind arith) at.so.3
+
+-- whatever a visit found, the book is sound then, and its rows and dups lie lawfully
+module _ {p q : PagesView} {k : KeeperView} {cursor : Option GuestPage} {passes : ℕ} (page : GuestPage)
+    (lawful : IsSound (state_of p cursor passes) × IsLaid p k) where
+  pub found_lawful : (found : Find) → Finds p q page found → IsSound (state_of q cursor passes) × IsLaid q k
+  found_lawful finds.Waits told = (waits_leads (finds_it finds.Waits (λ e. cc) lawful refl q page refl told)).lawful
+  found_lawful finds.Changed told = (changed_leads (finds_it finds.Changed (λ e. cc) lawful refl q page refl told)).lawful
+  found_lawful finds.Gone told = let same : q ≡ p = grind arith in rw same lawful
+  found_lawful (finds.Dup best) told = let same : q ≡ p = grind arith in rw same lawful
+  found_lawful finds.Zero told = let same : q ≡ p = grind arith in rw same lawful
+  found_lawful (finds.Partner other) told = let same : q ≡ p = grind arith in rw same lawful
+
+-- the visit of a page that is to wait changes nothing but which rows wait
+pub waits_quiet : {p q : PagesView} {k : KeeperView} {cursor : Option GuestPage} {passes : ℕ} (now : BookValue) {page : GuestPage}
+    → Meets (λ _ r. FindsAt p q r finds.Waits) p k cursor passes (view_of now) page → StaysStill now (λ s. page_visited doing s page)
+waits_quiet {p} {cursor = cursor} {passes} now at from s before =
+    let settles = waiting_settles at.row.page p.rows
+    (λ i d lt same. rw (row_of_page _ _ _ at.sound.rows_rise (there_is at) i d lt same) (restless_own at.row at.so.0)) in
+    grind (arith, before.0, settles, then_idle, waits_is (state_of p cursor passes) at.row (stays at) at.so.4 s.1.frame)

@@ -1,40 +1,21 @@
 -- A visited page makes a dup with the page that waits for it: what the keeper may do, and what becomes of the book.
-use Rattle.ksm_book.proofs.Names.{Add, All, All-contains_itself, arith, BookState, BookView, Bool, change_row, change_rows, Contains, Contains-append_right, count_none, did, dup_of_row, DupRow}
-use Rattle.ksm_book.proofs.Names.{each_at_page, eq-eqb, false, find_all, find_changed_other, find_passes, frames_of, GuestPage, if◌then◌else◌, InPageOrder, IsFree, IsLaid, IsSound, IsVacant}
-use Rattle.ksm_book.proofs.Names.{item_count, joined_count, KeeperView, leaving, lies_on, List, list_any, MakesSteps, MatchOption, May, MayLeave, MayPair, MeetsPage, Merged, merged_into}
-use Rattle.ksm_book.proofs.Names.{MOST_REFERENCES, new_place, new_place_free, next_is_new, Option, ordered_change, PageState, PagesView, partner, place_count, Publish, refl, Row, row_at, same_page}
-use Rattle.ksm_book.proofs.Names.{shared_state, Some, state_of, Sub, subst, sym, true, waits_tells, WaitsFor, with_dup, Withdraw, withdrawing, ℕ, [], ◌+◌, ◌-◌, ◌<◌, ◌==◌, ◌||◌, ◌∙◌, ◌∷◌, ◌≡◌, ◌≤◌}
-use Rattle.ksm_pages.specs.Paged.{paired as are_paired}
+use Rattle.ksm_book.proofs.Names.{Add, All, All-contains_itself, arith, BookState, BookView, Bool, change_row, Contains, Contains-append_right, count_none, did, dup_of_row, DupRow}
+use Rattle.ksm_book.proofs.Names.{each_at_page, eq-eqb, false, find_all, find_changed_other, find_passes, frames_of, GuestPage, IfSome, if◌then◌else◌, InPageOrder, IsFree, IsLaid, IsVacant}
+use Rattle.ksm_book.proofs.Names.{joined_count, KeeperView, leaving, lies_on, list_any, MakesSteps, May, MayLeave, MayPair, MeetsPage, Merged, merged_into}
+use Rattle.ksm_book.proofs.Names.{new_place, new_place_free, next_is_new, Option, ordered_change, PagesView, partner, place_count, Publish, refl, Row, row_at}
+use Rattle.ksm_book.proofs.Names.{shared_state, Some, state_of, Sub, subst, sym, waits_tells, WaitsFor, with_dup, Withdraw, withdrawing, ℕ, [], ◌+◌, ◌-◌, ◌<◌, ◌==◌, ◌∙◌, ◌∷◌, ◌≡◌}
+use Rattle.ksm_pages.specs.Paged.{HasRow, paired as are_paired}
+use Rattle.ksm_pages.proofs.Paired.{both_changed}
 use Rattle.ksm_book.proofs.Made.{made_one, made_then}
 use Rattle.ksm_book.proofs.Sharing.{laid_found, laid_joined, may_found, may_join, may_part, spent_most, vacant_loose}
 use Rattle.ksm_book.proofs.ByPage.{at_changed}
-use Rattle.ksm_book.proofs.RowVisits.{filled_by, Leads, leads, Meets, meets, page_is, restless_own, there_is}
+use Rattle.ksm_book.proofs.RowVisits.{filled_by, Leads, leads, Meets, page_is, restless_own, there_is}
 use Rattle.ksm_book.proofs.Promised.{finds_place}
-use Rattle.ksm_book.proofs.Singles.{book}
-
--- rows of two pages get a state
-abbrev in_state : PageState → Row → Row
-in_state s r = record r { state = s }
-
-two_changes : (p q : GuestPage) (s : PageState) (rows : List Row) → change_row q (in_state s) (change_row p (in_state s) rows) ≡ change_rows
-    (λ r. same_page r.page p || same_page r.page q) (in_state s) rows
-two_changes p q s [] = refl
-two_changes p q s (r ∷ rs) = grind (arith, two_changes p q s rs)
 
 -- a visited page meets another one as its partner, and is to make a dup with it at the place for a new dup
-module _ (page : GuestPage) {other : GuestPage} {p : PagesView} {k : KeeperView} {cursor : Option GuestPage} {passes : ℕ} {v : BookView} {one : GuestPage}
-    {place : ℕ} (lawful : IsSound (state_of p cursor passes) × IsLaid p k) (seen : book p k cursor passes ≡ v)
-    (meeting : MatchOption (row_at page v.state.rows) (true ≡ false) (MeetsPage v.state other)) (is : one ≡ other)
+module _ {other : GuestPage} {p : PagesView} {k : KeeperView} {cursor : Option GuestPage} {passes : ℕ} {v : BookView} {page one : GuestPage} {place : ℕ}
+    (at : Meets (λ b. MeetsPage b other) p k cursor passes v page) (is : one ≡ other)
     (chosen : place ≡ new_place (place_count p.shape) p.rows p.dups) where
-  abbrev at : Meets (λ b. MeetsPage b other) p k cursor passes v page
-  at = meets (λ b. MeetsPage b other) lawful seen meeting
-
-  abbrev s : IsSound (state_of p cursor passes)
-  s = lawful.0
-
-  abbrev h : IsLaid p k
-  h = lawful.1
-
   abbrev row : Row
   row = at.row
 
@@ -59,17 +40,14 @@ module _ (page : GuestPage) {other : GuestPage} {p : PagesView} {k : KeeperView}
 
   -- the waiting row is found at its page
   pub waits_at : row_at w.page p.rows ≡ Some w
-  waits_at = find_all _ (λ r. row_at r.page p.rows ≡ Some r) _ w met.1 (each_at_page _ s.rows_rise)
+  waits_at = find_all _ (λ r. row_at r.page p.rows ≡ Some r) _ w met.1 (each_at_page _ at.sound.rows_rise)
 
   alone : shared_state w.state ≡ false
   alone = grind (arith, tells.state)
 
-  apart : same_page w.page page ≡ false
-  apart = grind (arith, at_page, tells.other)
-
   -- the place for a new dup is one of the places
   pub room : new_place (place_count p.shape) p.rows p.dups < place_count p.shape
-  room = finds_place b _ s _ h.placed row
+  room = finds_place b _ at.sound _ at.laid.placed row
       (find_all _ (Contains p.rows) p.rows row at.found (All-contains_itself p.rows))
       (restless_own row at.so.0.restless)
 
@@ -77,23 +55,23 @@ module _ (page : GuestPage) {other : GuestPage} {p : PagesView} {k : KeeperView}
   inside = rw chosen room
 
   vacant : IsVacant place p.rows p.dups
-  vacant n d lt same = grind (arith, subst (IsFree b) (sym chosen) (new_place_free b s))
+  vacant n d lt same = grind (arith, subst (IsFree b) (sym chosen) (new_place_free b at.sound))
 
   fresh : All (λ r. merged_into p.next r.state ≡ false) p.rows
-  fresh = next_is_new b s
+  fresh = next_is_new b at.sound
 
   -- what the place of the new dup names may be withdrawn
   pub may_withdraw : May k (Withdraw place)
-  may_withdraw = (rw h.same inside, vacant_loose _ h.placed vacant)
+  may_withdraw = (rw at.laid.same inside, vacant_loose _ at.laid.placed vacant)
 
   -- and at the page that was told
   pub waits_one : row_at one p.rows ≡ Some w
   waits_one = grind (arith, waits_at)
 
   -- the two pages may become the items of a new dup at the place
-  pub pair_may : MatchOption (row_at one p.rows) (true ≡ false) (λ r. MatchOption (row_at page p.rows) (true ≡ false) (MayPair p place r))
+  pub pair_may : HasRow one p.rows (λ r. HasRow page p.rows (MayPair p place r))
   pair_may =
-      grind (arith, waits_one, at.found, waits_at, there_is at, alone, tells.other, inside, vacant, spent_most h, fresh, restless_own)
+      grind (arith, waits_one, at.found, waits_at, there_is at, alone, tells.other, inside, vacant, spent_most at.laid, fresh, restless_own)
 
   module _ {f : ℕ} (stands : p.frame one ≡ Some f) {k1 : KeeperView} {taken : Bool}
       (taken_is : taken ≡ list_any (λ d. d.place == place) p.dups)
@@ -106,10 +84,10 @@ module _ (page : GuestPage) {other : GuestPage} {p : PagesView} {k : KeeperView}
 
     -- once its place is cleared, the new dup may be published there on the frame of the page that waits
     pub may_publish : May k1 (Publish place f)
-    may_publish = may_found h s.rows_rise _ w f waits_at lies alone dup refl inside vacant k1 clears
+    may_publish = may_found at.laid at.sound.rows_rise _ w f waits_at lies alone dup refl inside vacant k1 clears
 
     abbrev change : Row → Row
-    change = in_state (Merged p.next)
+    change r = record r { state = Merged p.next }
 
     abbrev first : PagesView
     first = record p { rows = change_row w.page change p.rows; dups = with_dup dup p.dups; next = p.next + 1 }
@@ -117,55 +95,48 @@ module _ (page : GuestPage) {other : GuestPage} {p : PagesView} {k : KeeperView}
     module _ {k2 : KeeperView} (shown : k2 ≡ did k1 (Publish place f) 0) where
       first_laid : IsLaid first k2
       first_laid =
-          laid_found h s.rows_rise _ w f waits_at lies alone dup refl inside vacant change k1 k2 (λ r. refl) refl refl
+          laid_found at.laid at.sound.rows_rise _ w f waits_at lies alone dup refl inside vacant change k1 k2 (λ r. refl) refl refl
           clears shown (sym tells.bytes)
-          (λ none. grind (arith, none, tells.tree)) s.numbers fresh
+          (λ none. grind (arith, none, tells.tree)) at.sound.numbers fresh
 
       first_rise : InPageOrder first.rows
       first_rise = grind (arith, ordered_change)
 
       row_still : row_at page first.rows ≡ Some row
-      row_still = find_changed_other (λ (r : Row). r.page) w.page change (λ r. refl) page p.rows apart ∙ at.found
+      row_still =
+          find_changed_other (λ (r : Row). r.page) w.page change (λ r. refl) page p.rows (grind (arith, at_page, tells.other)) ∙ at.found
 
       item_at : row_at w.page first.rows ≡ Some (change w)
       item_at = grind (arith, at_changed, waits_at)
 
-      one_item : item_count first.rows dup ≤ MOST_REFERENCES - 1
-      one_item =
-          let joined = joined_count _ w dup s.rows_rise waits_at (grind (arith, tells.state)) in
-          grind (arith, count_none (λ r. merged_into p.next r.state) p.rows fresh)
-
       -- once the place names the frame of the page that waits, a reference may come to that frame
       pub may_add_to : May k2 (Add f)
-      may_add_to = may_join first_laid first_rise _ row _ row_still item_at f lies refl dup
-          (grind (arith, Contains-append_right))
-          (eq-eqb p.next p.next refl) one_item
+      may_add_to =
+          let joined = joined_count _ w dup at.sound.rows_rise waits_at (grind (arith, tells.state)) in
+          may_join first_laid first_rise _ row _ row_still item_at f lies refl dup (grind (arith, Contains-append_right))
+          (eq-eqb p.next p.next refl) (grind (arith, count_none (λ r. merged_into p.next r.state) p.rows fresh))
 
-      module _ {lone : ℕ} (left : p.frame page ≡ Some lone) where
-        -- once a reference came to the frame of the page that waits, the visited page's own frame may be left
-        pub may_sub_from : {k3 : KeeperView} → MakesSteps k2 k3 (Add f ∷ []) → MayLeave k3 lone
-        may_sub_from {k3} comes =
-            let parts = may_part first_laid first_rise page row (change w) row_still item_at f lies refl change
-            (λ r. refl) refl (sym tells.bytes) k3 comes in
-            grind arith
+      -- once a reference came to the frame of the page that waits, the visited page's own frame, if it has one, may be left
+      pub may_sub_from : (k3 : KeeperView) → MakesSteps k2 k3 (Add f ∷ []) → IfSome (p.frame page) (MayLeave k3)
+      may_sub_from = may_part first_laid first_rise page row (change w) row_still item_at f lies refl change (λ r. refl) refl (sym tells.bytes)
 
-        module _ {k3 l : KeeperView} (comes : MakesSteps k2 k3 (Add f ∷ [])) (leaves : MakesSteps k3 l (Sub lone ∷ [])) (q : PagesView)
-            (told : MatchOption (row_at one p.rows) (true ≡ false) (λ r. MatchOption (row_at page p.rows) (true ≡ false)
-            (λ x. q ≡ are_paired place r x p))) where
-          goes : q ≡ are_paired place w row p
-          goes = grind (arith, at.found, waits_one)
+      module _ {lone : ℕ} (left : p.frame page ≡ Some lone) {k3 l : KeeperView} (comes : MakesSteps k2 k3 (Add f ∷ []))
+          (leaves : MakesSteps k3 l (Sub lone ∷ [])) (q : PagesView)
+          (told : HasRow one p.rows (λ r. HasRow page p.rows (λ x. q ≡ are_paired place r x p))) where
+        goes : q ≡ are_paired place w row p
+        goes = grind (arith, at.found, waits_one)
 
-          steps : MakesSteps k2 l (Add f ∷ leaving (p.frame page))
-          steps = rw left (made_then comes leaves)
+        steps : MakesSteps k2 l (Add f ∷ leaving (p.frame page))
+        steps = rw left (made_then comes leaves)
 
-          q_is : q ≡ record first { rows = change_row page change first.rows; frame = lies_on page (Some f) p.frame }
-          q_is = grind (arith, goes, at_page, two_changes)
+        q_is : q ≡ record first { rows = change_row page change first.rows; frame = lies_on page (Some f) p.frame }
+        q_is = grind (arith, goes, at_page, both_changed w.page row.page change (λ r. refl) tells.other p.rows)
 
-          -- once the two pages are the items of a new dup, on one frame, the book is what the visit leads to
-          pub pair_leads : Leads v q l cursor passes page
-          pair_leads =
-              let made = made_then clears (made_then (made_one k1 k2 (Publish place f) 0 shown) steps) in
-              leads at q l at.so.0.restless
-              (rw q_is
-              (laid_joined first_laid first_rise _ row _ row_still item_at f lies refl change (λ r. refl) refl (sym tells.bytes)
-              l steps)) (rw goes (grind (arith, met.1))) (grind (arith, at_page, at.found, at.so, met.1, alone, q_is))
+        -- once the two pages are the items of a new dup, on one frame, the book is what the visit leads to
+        pub pair_leads : Leads v q l cursor passes page
+        pair_leads =
+            let made = made_then clears (made_then (made_one k1 k2 (Publish place f) 0 shown) steps) in
+            leads at q l at.so.0.restless
+            (rw q_is
+            (laid_joined first_laid first_rise _ row _ row_still item_at f lies refl change (λ r. refl) refl (sym tells.bytes)
+            l steps)) (rw goes (grind (arith, met.1))) (grind (arith, at_page, at.found, at.so, met.1, alone, q_is))

@@ -5,6 +5,7 @@ use Rattle.ksm_book.proofs.Names.{IsForZero, IsJoined, IsLaid, IsSound, item_cou
 use Rattle.ksm_book.proofs.Names.{merged_into, merged_state, MOST_REFERENCES, None, Option, PagesView, paired, pairing, partner, Performs, Placed, refl, Row, row_at, row_visited}
 use Rattle.ksm_book.proofs.Names.{row_visiting, shared_state, Some, sound_row_visited, state_of, Sub, subst, sym, true, VisitsPage, Zero, ℕ, [], ◌-◌, ◌∷◌, ◌≡◌, ◌≤◌}
 use Rattle.frame_table.specs.Kept.{Did}
+use Rattle.ksm_pages.specs.Paged.{HasRow, ItemsLieOn}
 use Rattle.ksm_book.proofs.ByPage.{found_page, row_of_page}
 use Rattle.ksm_book.proofs.Keeping.{left_placed, left_spends, may_leave}
 use Rattle.ksm_book.proofs.Laying.{laid_rows}
@@ -60,7 +61,7 @@ pub record Meets (P : BookState → Row → Type 0) (p : PagesView) (k : KeeperV
 -- where something is so of a page's row in a sound book that lies lawfully, as callers see it, the row is met with it
 pub meets : (P : BookState → Row → Type 0) {p : PagesView} {k : KeeperView} {cursor : Option GuestPage} {passes : ℕ} {now : BookView}
     {page : GuestPage} → IsSound (state_of p cursor passes) × IsLaid p k → book p k cursor passes ≡ now
-    → MatchOption (row_at page now.state.rows) (true ≡ false) (P now.state) → Meets P p k cursor passes now page
+    → HasRow page now.state.rows (P now.state) → Meets P p k cursor passes now page
 meets P lawful same told = grind arith
 
 -- the visit of a page in the book seen as v leads to this book
@@ -95,102 +96,99 @@ module _ {P : BookState → Row → Type 0} {p : PagesView} {k : KeeperView} {cu
 -- ---------------------------------------------------------------- a page joins a dup
 
 module _ (best : Best) {p : PagesView} {k : KeeperView} {cursor : Option GuestPage} {passes : ℕ} {v : BookView} {page : GuestPage}
-    (at : Meets (λ b. MayJoin b best) p k cursor passes v page) where
+    (at : Meets (λ b. MayJoin b best) p k cursor passes v page) (g : ℕ)
+    (lies : All (λ d. d.place ≡ best.place → ItemsLieOn d.number g p) p.dups) where
   abbrev row : Row
   row = at.row
 
-  module _ (g : ℕ) (lies : All (λ d. d.place ≡ best.place → All (λ r. merged_into d.number r.state ≡ true → p.frame r.page ≡ Some g) p.rows)
-      p.dups) where
-    told : (d : DupRow) × (best_dup p.knobs p.rows p.dups row ≡ Some d) × ((best.number ≡ d.number) × (best.place ≡ d.place))
-    told = filled_by _ at.so.1
+  told : (d : DupRow) × (best_dup p.knobs p.rows p.dups row ≡ Some d) × ((best.number ≡ d.number) × (best.place ≡ d.place))
+  told = filled_by _ at.so.1
 
-    abbrev dup : DupRow
-    dup = told.0
+  abbrev dup : DupRow
+  dup = told.0
 
-    -- what holds of all dups holds of this one, and what holds of all rows of its first item
-    among : (P : DupRow → Type 0) → All P p.dups → P dup
-    among P all = find_all _ P _ dup told.1 all
+  -- what holds of all dups holds of this one, and what holds of all rows of its first item
+  among : (P : DupRow → Type 0) → All P p.dups → P dup
+  among P all = find_all _ P _ dup told.1 all
 
-    live : Lives k.ledger p.dups p.shape p.rows p.frame dup
-    live = among (λ d. (item_count p.rows d ≡ 0 → ⊥) → Lives k.ledger p.dups p.shape p.rows p.frame d) (lives at.laid.placed)
-        (λ none. grind (arith, find_passes (is_best p.knobs p.rows p.dups row) p.dups dup told.1))
+  live : Lives k.ledger p.dups p.shape p.rows p.frame dup
+  live = among (λ d. (item_count p.rows d ≡ 0 → ⊥) → Lives k.ledger p.dups p.shape p.rows p.frame d) (lives at.laid.placed)
+      (λ none. grind (arith, find_passes (is_best p.knobs p.rows p.dups row) p.dups dup told.1))
 
-    abbrev item : Row
-    item = live.item
+  abbrev item : Row
+  item = live.item
 
-    of_item : (P : Row → Type 0) → All P p.rows → P item
-    of_item P all = find_all _ P _ _ live.first all
+  of_item : (P : Row → Type 0) → All P p.rows → P item
+  of_item P all = find_all _ P _ _ live.first all
 
-    item_merged : merged_state item.state ≡ true
-    item_merged = grind arith
+  item_merged : merged_state item.state ≡ true
+  item_merged = grind arith
 
-    found_item : row_at item.page p.rows ≡ Some item
-    found_item = of_item (λ r. row_at r.page p.rows ≡ Some r) (each_at_page _ at.sound.rows_rise)
+  found_item : row_at item.page p.rows ≡ Some item
+  found_item = of_item (λ r. row_at r.page p.rows ≡ Some r) (each_at_page _ at.sound.rows_rise)
 
-    there : p.frame item.page ≡ Some g
-    there = of_item (λ r. merged_into dup.number r.state ≡ true → p.frame r.page ≡ Some g) (among (λ d. d.place ≡ best.place → All
-        (λ r. merged_into d.number r.state ≡ true → p.frame r.page ≡ Some g) p.rows) lies (sym told.2.1)) live.merged
+  there : p.frame item.page ≡ Some g
+  there = of_item (λ r. merged_into dup.number r.state ≡ true → p.frame r.page ≡ Some g)
+      (among (λ d. d.place ≡ best.place → ItemsLieOn d.number g p) lies (sym told.2.1)) live.merged
 
-    joins : IsJoined (state_of p cursor passes) row dup
-    joins = best_dup_has_room _ row dup at.sound told.1
+  joins : IsJoined (state_of p cursor passes) row dup
+  joins = best_dup_has_room _ row dup at.sound told.1
 
-    same_bytes : row.bytes ≡ item.bytes
-    same_bytes =
-        let item_is = of_item (λ r. (number : ℕ) → r.state ≡ Merged number → (d : DupRow) × IsDupOf p.knobs p.dups r
-        number d) at.sound.items in
-        grind (arith, joins, live.merged, state_of_item dup.number item.state live.merged)
+  same_bytes : row.bytes ≡ item.bytes
+  same_bytes =
+      let item_is = of_item (λ r. (number : ℕ) → r.state ≡ Merged number → (d : DupRow) × IsDupOf p.knobs p.dups r
+      number d) at.sound.items in
+      grind (arith, joins, live.merged, state_of_item dup.number item.state live.merged)
 
-    few : item_count p.rows dup ≤ MOST_REFERENCES - 1
-    few = omega (arith, joins.room)
+  few : item_count p.rows dup ≤ MOST_REFERENCES - 1
+  few = omega (arith, joins.room)
 
-    stands : Contains p.dups dup
-    stands = among (Contains p.dups) (All-contains_itself _)
+  stands : Contains p.dups dup
+  stands = among (Contains p.dups) (All-contains_itself _)
 
-    -- the dup that a page is to join has room for one item more
-    pub has_room : HasRoom p.rows p.dups best.number
-    has_room = (dup, stands, sym told.2.0, few)
+  -- the dup that a page is to join has room for one item more
+  pub has_room : HasRoom p.rows p.dups best.number
+  has_room = (dup, stands, sym told.2.0, few)
 
-    -- a reference may come to the frame of the dup that a page is to join
-    pub may_add : May k (Add g)
-    may_add =
-        join_may at.laid at.sound.rows_rise _ row _ at.found found_item g there item_merged dup stands live.merged few
+  -- a reference may come to the frame of the dup that a page is to join
+  pub may_add : May k (Add g)
+  may_add =
+      join_may at.laid at.sound.rows_rise _ row _ at.found found_item g there item_merged dup stands live.merged few
 
-    abbrev change : Row → Row
-    change r = record r { state = Merged best.number }
+  abbrev change : Row → Row
+  change r = record r { state = Merged best.number }
 
-    state_is : Merged best.number ≡ item.state
-    state_is = grind arith
+  state_is : Merged best.number ≡ item.state
+  state_is = grind arith
 
-    module _ (lone : ℕ) (left : p.frame page ≡ Some lone) where
-      -- once a reference came to the dup's frame, the joining page's own frame may be left
-      pub may_sub : {w : KeeperView} → MakesSteps k w (Add g ∷ []) → MayLeave w lone
-      may_sub {w} comes =
-          let parts = may_part at.laid at.sound.rows_rise page row item at.found found_item g there item_merged change
-          (λ r. refl) state_is same_bytes w comes in
-          grind arith
+  -- once a reference came to the dup's frame, the joining page's own frame, if it has one, may be left
+  pub may_sub : (w : KeeperView) → MakesSteps k w (Add g ∷ []) → IfSome (p.frame page) (MayLeave w)
+  may_sub = may_part at.laid at.sound.rows_rise page row item at.found found_item g there item_merged change
+      (λ r. refl) state_is same_bytes
 
-      module _ {w l : KeeperView} (comes : MakesSteps k w (Add g ∷ [])) (leaves : MakesSteps w l (Sub lone ∷ [])) (q : PagesView)
-          (goes : q ≡ record p { rows = change_row page change p.rows; frame = q.frame })
-          (frame : All (λ r. merged_into best.number r.state ≡ true → q.frame ≡ lies_on page (p.frame r.page) p.frame) p.rows) where
-        frame_is : q.frame ≡ lies_on page (Some g) p.frame
-        frame_is = grind (arith, there, of_item)
+  module _ (lone : ℕ) (left : p.frame page ≡ Some lone) {w l : KeeperView} (comes : MakesSteps k w (Add g ∷ []))
+      (leaves : MakesSteps w l (Sub lone ∷ [])) (q : PagesView)
+      (goes : q ≡ record p { rows = change_row page change p.rows; frame = q.frame })
+      (frame : All (λ r. merged_into best.number r.state ≡ true → q.frame ≡ lies_on page (p.frame r.page) p.frame) p.rows) where
+    frame_is : q.frame ≡ lies_on page (Some g) p.frame
+    frame_is = grind (arith, there, of_item)
 
-        q_is : q ≡ record p { rows = change_row page change p.rows; frame = lies_on page (Some g) p.frame }
-        q_is = grind (arith, frame_is)
+    q_is : q ≡ record p { rows = change_row page change p.rows; frame = lies_on page (Some g) p.frame }
+    q_is = grind (arith, frame_is)
 
-        steps : MakesSteps k l (Add g ∷ leaving (p.frame page))
-        steps = rw left (made_then comes leaves)
+    steps : MakesSteps k l (Add g ∷ leaving (p.frame page))
+    steps = rw left (made_then comes leaves)
 
-        -- once the page is an item of the dup and lies on the dup's frame, the book is what the visit leads to
-        pub joined_leads : Leads v q l cursor passes page
-        joined_leads =
-            let does = visited_by (state_of p cursor passes) p.frame row (Some dup) at.so.0 told.1 in
-            leads at q l at.so.0
-            (rw q_is
-            (laid_joined at.laid at.sound.rows_rise _ row _ at.found found_item g there
-            item_merged _ (λ r. refl) state_is same_bytes l steps))
-            (grind (arith, q_is, page_is at, told.2.0))
-            (grind (arith, page_is at, live.first, there, steps, frame_is))
+    -- once the page is an item of the dup and lies on the dup's frame, the book is what the visit leads to
+    pub joined_leads : Leads v q l cursor passes page
+    joined_leads =
+        let does = visited_by (state_of p cursor passes) p.frame row (Some dup) at.so.0 told.1 in
+        leads at q l at.so.0
+        (rw q_is
+        (laid_joined at.laid at.sound.rows_rise _ row _ at.found found_item g there
+        item_merged _ (λ r. refl) state_is same_bytes l steps))
+        (grind (arith, q_is, page_is at, told.2.0))
+        (grind (arith, page_is at, live.first, there, steps, frame_is))
 
 -- ---------------------------------------------------------------- a page becomes Zero
 

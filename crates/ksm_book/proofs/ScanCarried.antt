@@ -1,7 +1,6 @@
 -- A scan carried out: what its visits come to is what the command promises.
 use Rattle.ksm_book.proofs.Names.{arith, BookValue, Comes, doing, Fault, filter, IsCarried, IsScanned, length, length-filter, length-map, List, list_any, mergeable_count, mergeable_pages}
 use Rattle.ksm_book.proofs.Names.{Ok, Option, page, Row, Scan, scan_stopped, Scanned, true, view_of, visits_beside, [], ℕ, ◌∙◌, ◌∷◌, ◌≡◌, ◌≤◌}
-use Rattle.ksm_book.proofs.Folded.{scanning_is}
 use Rattle.ksm_book.proofs.Folded.{beside_state}
 use Rattle.ksm_book.proofs.Reached.{begins, first}
 
@@ -22,4 +21,4 @@ pub scanned : (v w : BookValue) (count made : ℕ) (stop : Option Fault) → v.s
     → Comes v w (λ s. (scan_stopped stop (visits_beside doing made s).0, (visits_beside doing made s).1))
     → IsCarried (view_of v) (view_of w) (Scan count) (Ok (Scanned made stop))
 scanned v w count made stop running is comes =
-    grind (arith, beside_state, comes v (first v) (begins v), scanning_is made v.state (view_of v).frame)
+    grind (arith, beside_state, comes v (first v) (begins v))

@@ -14,9 +14,11 @@ use Rattle.ksm_base.specs.Rows.{row_at, shared_state}
 use Rattle.ksm_base.specs.Journal.{Entry}
 use Rattle.ksm_base.specs.State.{BookState}
 use Rattle.frame_table.specs.Named.{KeeperView}
-use Rattle.ksm_book.specs.Commands.{Mapped, IsIdle, TurnsAway, Admits, Resettles, ResettlesEach, Moves, FindsHeld, Performs, rewriting, emptying, pruning, scanning}
+use Rattle.ksm_book.specs.Commands.{Mapped, IsIdle, TurnsAway, Admits, Resettles, ResettlesEach, Moves, FindsHeld, Performs, Deed, idle, rewriting, emptying, pruning}
+use Rattle.ksm_book.specs.Folded.{visits_beside}
+use Rattle.ksm_book.specs.Scanned.{doing}
 use Rattle.ksm_book.specs.Steps.{AllocatesOn}
-use Rattle.ksm_pages.specs.Paged.{Lodging, frame_of}
+use Rattle.ksm_pages.specs.Paged.{Frames, Lodging, frame_of}
 use Rattle.ksm_book.specs.Whole.{BookView, mapped, nodes_got, HasShown}
 
 -- a page with a frame of its own is stored to in place, a merged or Zero one gets a new frame first
@@ -29,6 +31,10 @@ StoresTo v w bytes row =
 -- a page that moves to another node gets a new frame there
 abbrev pub MovesTo : Mapped → Mapped → ℕ → Row → Type 0
 MovesTo v w node row = MatchBool (row.home == node) (IsIdle v w) (Resettles v w row.page node row.bytes)
+
+-- what n visits do to the frames, one after another
+abbrev pub scanning : ℕ → BookState → Frames → Deed
+scanning n b frame = (visits_beside doing n (b, idle frame)).1
 
 -- these rows are resettled, one after another; where there was a stop, no frame was found for the next
 abbrev pub UnmergesTo : List Row → Option Fault → Mapped → Mapped → Type 0
@@ -77,14 +83,10 @@ pub record IsCarried (v w : BookView) (command : Command) (given : Answer) : Typ
 
 -- the same, and what follows from its steps: the table kept, the frames given, and what the log shows of the answer
 pub record CarriedOut (v w : BookView) (command : Command) (given : Answer) : Type 0 where
+  -- the command was carried out
+  pub done : IsCarried v w command given
   -- the keeper is of the same table
   pub own : w.keeper.table ≡ v.keeper.table
-  -- the answer is one that the state allows, or says that memory was refused
-  pub answer : IsAnswerOrMemory v.state command given
-  -- the state after it
-  pub state : w.state ≡ after v.state command given
-  -- the steps that it made, and no others, and the frame of each page after them
-  pub steps : TakesSteps v w command given
   -- the frames that it gave: the lowest free one of each node on which it needed one and got it
   pub frames : AllocatesOn v.keeper w.keeper (nodes_got v.state given command)
   -- what the log shows of no frame, in use, and a dup that moved

@@ -1,14 +1,14 @@
 -- Commands as steps of the keeper: what each part of a command does to the frames, in order, and on which frame each
 -- page lies after it (own).
 -- Carried.antt says which of them each command and answer make.
-use Rattle.std.specs.Prelude.{◌≡◌, ℕ, zero, suc, ◌-◌, ◌==◌, List, [], ◌∷◌, ◌++◌, map, filter, find, replicate, Option, Some, None, if◌then◌else◌}
+use Rattle.std.specs.Prelude.{◌≡◌, ℕ, ◌-◌, ◌==◌, List, [], ◌∷◌, ◌++◌, map, filter, find, replicate, Option, Some, None, option_and_then, if◌then◌else◌}
 use Rattle.std.specs.List.{list_any}
 use Rattle.ksm_base.specs.declared.page.GuestPage.{GuestPage}
 use Rattle.ksm_base.specs.declared.row.Row.{Row}
 use Rattle.ksm_base.specs.declared.row.DupRow.{DupRow}
 use Rattle.ksm_base.specs.Rows.{shared_state, merged_into, item_count, is_stale}
 use Rattle.ksm_base.specs.State.{BookState, place_count}
-use Rattle.ksm_base.specs.Visit.{best_dup, is_for_zero, partner, new_place, next_row, visit_begun, visits}
+use Rattle.ksm_base.specs.Visit.{best_dup, is_for_zero, partner, new_place}
 use Rattle.frame_core.specs.declared.event.KeeperStep.{KeeperStep}
 use Rattle.frame_core.specs.declared.event.KeeperStep.TheVariants.{Reap, Raise, Open, Add, Sub, Publish, Withdraw, Freeze}
 use Rattle.frame_core.specs.declared.frame.Kind.TheVariants.{Stable, Dying}
@@ -40,23 +40,15 @@ pub record Mapped : Type 0 where
   pub frame : Frames
   pub keeper : KeeperView
 
--- the number of a frame that is there
+-- the number of the frame of a page that has one
 abbrev pub frame_number : Option ℕ → ℕ
 frame_number None = 0
 frame_number (Some frame) = frame
 
--- the number of the frame of a page that has one
-abbrev pub frame_on : Frames → GuestPage → ℕ
-frame_on frame page = frame_number (frame page)
-
--- the frame of a row that was found
-abbrev pub frame_found : Frames → Option Row → ℕ
-frame_found frame None = 0
-frame_found frame (Some row) = frame_on frame row.page
-
 -- the frame of the dup with this number: its first item lies on it, and so do all
 abbrev pub dup_frame : Frames → List Row → ℕ → ℕ
-dup_frame frame rows number = frame_found frame (find (λ r. merged_into number r.state) rows)
+dup_frame frame rows number =
+    frame_number (option_and_then (λ r. frame r.page) (find (λ r. merged_into number r.state) rows))
 
 -- frame g in the stead of f
 abbrev pub instead : ℕ → ℕ → Frames → Frames
@@ -147,7 +139,7 @@ idle frame = record { steps = []; frame = frame }
 
 -- bytes are stored to a page's own frame, word by word
 abbrev pub rewriting : Frames → GuestPage → List ℕ → Deed
-rewriting frame page bytes = record { steps = steps_of (puts (frame_on frame page) 0 bytes); frame = frame }
+rewriting frame page bytes = record { steps = steps_of (puts (frame_number (frame page)) 0 bytes); frame = frame }
 
 -- a page leaves its frame, if it has one, and has none after it: it goes, or becomes Zero
 abbrev pub emptying : Frames → GuestPage → Deed
@@ -169,7 +161,7 @@ withdrawing dups place = if list_any (λ d. d.place == place) dups then Withdraw
 abbrev pub founding : List DupRow → Frames → ℕ → GuestPage → GuestPage → Deed
 founding dups frame place waiting page = record {
   steps = withdrawing dups place
-      ++ (Publish place (frame_on frame waiting) ∷ Add (frame_on frame waiting) ∷ leaving (frame page));
+      ++ (Publish place (frame_number (frame waiting)) ∷ Add (frame_number (frame waiting)) ∷ leaving (frame page));
   frame = lies_on page (frame waiting) frame;
 }
 
@@ -198,20 +190,6 @@ abbrev pub row_visiting : BookState → Frames → Row → Deed
 row_visiting b frame row =
     if shared_state row.state then idle frame else handling (best_dup b.knobs b.rows b.dups row) b frame row
 
--- what the visit of the next row does, if there is one
-abbrev pub visiting_of : BookState → Frames → Option Row → Deed
-visiting_of b frame (Some row) = row_visiting b frame row
-visiting_of b frame None = idle frame
-
--- what one visit does
-abbrev pub visiting : BookState → Frames → Deed
-visiting b frame = let begun = visit_begun b in visiting_of begun frame (next_row begun.cursor begun.rows)
-
 -- one deed after another
 abbrev pub then_doing : Deed → Deed → Deed
 then_doing first second = record { steps = first.steps ++ second.steps; frame = second.frame }
-
--- what n visits do, one after another
-abbrev pub scanning : ℕ → BookState → Frames → Deed
-scanning zero b frame = idle frame
-scanning (suc n) b frame = let before = scanning n b frame in then_doing before (visiting (visits n b) before.frame)

@@ -47,9 +47,9 @@ apart = lies_on (page 0) (Some 0) (lies_on (page 1) (Some 1) (lies_on (page 2) (
 abbrev pub merged : BookState
 merged = scanned 6 three
 
--- all on the frame of the first
+-- the other two come to the frame of the first
 abbrev pub together : Frames
-together = lies_on (page 0) (Some 0) (lies_on (page 1) (Some 0) (lies_on (page 2) (Some 0) nowhere))
+together = lies_on (page 2) (Some 0) (lies_on (page 1) (Some 0) apart)
 
 -- the three merged, and then stored to or dropped, so that their dup is stale
 abbrev pub stale : BookState

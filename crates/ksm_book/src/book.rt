@@ -29,6 +29,7 @@ use ksm_base::{
     each_page_has_what_was_stored_last,
 };
 use ksm_journal::Journal;
+use ksm_pages::Spot;
 use std::alloc::Global;
 use std::marker::Model;
 
@@ -95,7 +96,7 @@ impl Book {
     /// Does a command: a step of the book, and an entry of the journal. `Err` is a refusal, and changes no page, dup or
     /// knob. `Fault::Memory` may come in place of any answer; then no step was made on a frame, and there is no entry.
     /// The answer tells which steps were made on the frames, and on which frame each page lies then.
-    #[tactic(auto, using(crate::proofs::Carried::carried_own))]
+    #[tactic(auto, using(crate::proofs::Carried::carried_out))]
     pub fn apply(&mut self, table: &FrameTable, command: &Command) -> Result<Reply, Fault>
         requires own { self.old.keeper.table ≡ table.now }
         ensures answer { IsAnswerOrMemory self.old.state command.now result }
@@ -157,14 +158,14 @@ impl Book {
     pub fn registered(&self, page: GuestPage) -> bool
         ensures { result ≡ is_known self.now.state page }
     {
-        self.state.registered(page)
+        self.state.pages.has(page)
     }
 
     /// The place of the dup into which a page is merged; none where it is not merged.
     pub fn ticket(&self, page: GuestPage) -> Option<u32>
         ensures { result ≡ ticket_of page self.now.state }
     {
-        self.state.ticket(page)
+        self.state.pages.ticket(page)
     }
 
     /// The pages merged into the dup at a place, ascending; none where no dup with items stands there. Refused for
@@ -174,7 +175,10 @@ impl Book {
         ensures fault { IfErr result (λ fault. fault ≡ Fault.Memory) }
         ensures refused { IfErr result (λ _. IsSome (mappers_of place self.now.state)) }
     {
-        self.state.mappers(alloc, place)
+        let Some(items) = self.state.pages.items_at(place) else {
+            return Ok(None);
+        };
+        Ok(Some(Vec::from_slice(alloc, items)?))
     }
 
     /// The counters: what is counted from the pages and dups as they are. Totals are kept, so nothing is walked.
@@ -188,7 +192,7 @@ impl Book {
     pub fn knobs(&self) -> Knobs
         ensures { result ≡ self.now.state.knobs }
     {
-        self.state.knobs()
+        self.state.pages.knobs()
     }
 
     /// Gives the keeper back, as it is.
@@ -228,9 +232,16 @@ fn carry_out(
     }
     match command {
         Command::Register { page, node, bytes } => {
-            state.register_due(table, due, *page, *node, bytes)
+            let page = *page;
+            due.add(Spot { page, key: 0 });
+            state.register(table, page, *node, bytes)
         }
-        Command::Drop { page } => state.drop_due(table, due, *page),
+        Command::Drop { page } => {
+            let page = *page;
+            state.lies_lawfully();
+            state.note_leaving(due, Spot { page, key: 0 });
+            state.drop_page(table, page)
+        }
         Command::Store { page, bytes } => state.store(table, due, *page, bytes),
         Command::Scan { visits } => state.scan(table, due, *visits),
         Command::Prune => state.prune(table),

@@ -99,6 +99,9 @@ impl Due {
         ensures { self.new.known ≡ true → (self.old.known ≡ true) × ((page : GuestPage)
             → has_item page self.new.pages ≡ (same_page spot.page page || has_item page self.old.pages)) }
     {
+        if !self.known {
+            return;
+        }
         let len = self.order.len().saturating_add(self.added.len());
         if len >= self.room || self.added.push(spot).is_err() {
             self.known = false;

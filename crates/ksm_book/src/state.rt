@@ -1,17 +1,15 @@
 //! The state of the book, and the commands on single pages, with `prune` and `mergeable`. Each tests its refusals in
 //! the order of the definitions, and then changes the pages and their frames.
 
-ghost use Rattle.std.specs.Prelude.{◌≡◌, ◌≤◌, ◌||◌, ℕ, List, [], true, None, Some, IfOk, IfErr, IsSome, option_map};
+ghost use Rattle.std.specs.Prelude.{◌≡◌, ◌≤◌, ◌||◌, ℕ, List, true, None, Some, IfOk, IfErr};
 ghost use Rattle.ksm_base.specs.Values.{IsShape};
 ghost use Rattle.ksm_base.specs.State.{opening};
-ghost use Rattle.ksm_base.specs.Apply.{fresh_row, stored};
-ghost use Rattle.ksm_base.specs.Rows.{change_row, row_at, with_row, without_page};
+ghost use Rattle.ksm_base.specs.Apply.{stored};
+ghost use Rattle.ksm_base.specs.Rows.{change_row, row_at};
 ghost use Rattle.ksm_base.specs.Counting.{counters_of};
-ghost use Rattle.ksm_base.specs.Reading.{bytes_of, mappers_of, ticket_of};
+ghost use Rattle.ksm_base.specs.Reading.{bytes_of};
 ghost use Rattle.ksm_base.specs.declared.fault.Fault.TheVariants.{Memory};
-ghost use Rattle.ksm_base.specs.Refusals.{is_known};
 ghost use Rattle.ksm_base.specs.Sound.{IsSound};
-ghost use Rattle.ksm_base.specs.declared.row.Row.{Row};
 ghost use Rattle.frame_core.specs.Ledger.{first_ledger};
 ghost use Rattle.ksm_book.specs.Carried.{IsCarried};
 ghost use Rattle.ksm_book.specs.Due.{AreDue};
@@ -28,7 +26,7 @@ use crate::frame_keeper::FrameKeeper;
 use crate::frames::{is_used_up, known_frame, load, release_if, take_frame, write};
 use crate::settling::{drop_stale, resettle};
 use frame_table::{FrameTable, Keeper};
-use ksm_base::{Command, Counters, Fault, GuestPage, Knobs, PageBytes, Reply, Shape};
+use ksm_base::{Command, Counters, Fault, GuestPage, PageBytes, Reply, Shape};
 use ksm_pages::{Pages, Spot};
 use std::alloc::Global;
 use std::marker::Model;
@@ -155,38 +153,6 @@ impl State {
         Ok(Reply::Done)
     }
 
-    /// Registers a page, which is due then.
-    pub fn register_due(
-        &mut self,
-        table: &FrameTable,
-        due: &mut Due,
-        page: GuestPage,
-        node: u32,
-        bytes: &PageBytes,
-    ) -> Result<Reply, Fault>
-        requires own { self.old.keeper.table ≡ table.now }
-        requires due { due.old.known ≡ true → AreDue self.old.state due.old.pages }
-        ensures carried { IsCarried (view_of self.old) (view_of self.new) (Command.Register page node bytes.now) result }
-        ensures due { due.new.known ≡ true → AreDue self.new.state due.new.pages }
-    {
-        self.note_coming(due, page);
-        self.register(table, page, node, bytes)
-    }
-
-    // A page is about to be registered. It is due from now on.
-    fn note_coming(&self, due: &mut Due, page: GuestPage)
-        requires due { due.old.known ≡ true → AreDue self.now.state due.old.pages }
-        ensures kept { due.new.known ≡ true → AreDue self.now.state due.new.pages }
-        ensures come { due.new.known ≡ true → row_at page self.now.state.rows ≡ None → (node : ℕ) (bytes : List ℕ)
-            → AreDue (record self.now.state {
-              rows = with_row (fresh_row page node bytes) self.now.state.rows;
-            }) due.new.pages }
-    {
-        if due.is_known() {
-            due.add(Spot { page, key: 0 });
-        }
-    }
-
     /// Stores bytes to a page: in place where it has a frame of its own, else in a copy on its home. A page that waited
     /// is due then, and so is one that was merged or Zero, with what may join its dup then.
     pub fn store(
@@ -206,16 +172,14 @@ impl State {
         };
         if held.shared {
             self.note_break(due, held.spot);
-            if let Err(fault) = resettle(
+            resettle(
                 &mut self.pages,
                 &mut self.keeper,
                 table,
                 held.spot,
                 held.home,
                 bytes,
-            ) {
-                return Err(fault);
-            }
+            )?;
             self.pages.store(held.spot, bytes);
             return Ok(Reply::Done);
         }
@@ -252,9 +216,6 @@ impl State {
           rows = change_row spot.page (stored bytes) self.now.state.rows;
         }) due.new.pages }
     {
-        if !due.is_known() {
-            return;
-        }
         self.lies_lawfully();
         self.note_leaving(due, spot);
         due.add(spot);
@@ -262,12 +223,15 @@ impl State {
 
     // A page is about to leave its dup, if it is merged. What waits with its bytes, one page at most, may join that dup
     // then, where it was full, and is due from now on.
-    fn note_leaving(&self, due: &mut Due, spot: Spot)
+    pub(crate) fn note_leaving(&self, due: &mut Due, spot: Spot)
         ensures { due.new.known ≡ true → (due.old.known ≡ true) × ((page : GuestPage)
             → let state = self.now.state in has_item page due.new.pages
             ≡ (names page (page_beside state.knobs state.rows (row_at spot.page state.rows))
             || has_item page due.old.pages)) }
     {
+        if !due.is_known() {
+            return;
+        }
         match self.pages.waiting_beside(spot) {
             Some(waiting) => due.add(waiting),
             None => {}
@@ -287,76 +251,11 @@ impl State {
         Ok(Reply::Done)
     }
 
-    /// Drops a page. What may join its dup then is due.
-    pub fn drop_due(
-        &mut self,
-        table: &FrameTable,
-        due: &mut Due,
-        page: GuestPage,
-    ) -> Result<Reply, Fault>
-        requires own { self.old.keeper.table ≡ table.now }
-        requires due { due.old.known ≡ true → AreDue self.old.state due.old.pages }
-        ensures carried { IsCarried (view_of self.old) (view_of self.new) (Command.Drop page) result }
-        ensures due { due.new.known ≡ true → AreDue self.new.state due.new.pages }
-    {
-        self.note_going(due, page);
-        self.drop_page(table, page)
-    }
-
-    // A page is about to be dropped. What may join its dup then is due from now on.
-    fn note_going(&self, due: &mut Due, page: GuestPage)
-        requires due { due.old.known ≡ true → AreDue self.now.state due.old.pages }
-        ensures kept { due.new.known ≡ true → AreDue self.now.state due.new.pages }
-        ensures gone { due.new.known ≡ true → (row : Row) → row_at page self.now.state.rows ≡ Some row
-            → AreDue (record self.now.state { rows = without_page page self.now.state.rows }) due.new.pages }
-    {
-        if !due.is_known() {
-            return;
-        }
-        self.lies_lawfully();
-        if let Some(held) = self.pages.held(page) {
-            self.note_leaving(due, held.spot);
-        }
-    }
-
     /// The counters.
     pub fn counters(&self) -> Counters
         ensures { result ≡ counters_of self.now.state }
     {
         self.pages.counters(self.passes)
-    }
-
-    /// Whether there is a row of the page.
-    pub fn registered(&self, page: GuestPage) -> bool
-        ensures { result ≡ is_known self.now.state page }
-    {
-        self.pages.has(page)
-    }
-
-    /// The place of the dup into which a page is merged.
-    pub fn ticket(&self, page: GuestPage) -> Option<u32>
-        ensures { result ≡ ticket_of page self.now.state }
-    {
-        self.pages.ticket(page)
-    }
-
-    /// The pages merged into the dup at a place.
-    pub fn mappers(&self, alloc: Global, place: u32) -> Result<Option<Vec<GuestPage>>, Fault>
-        ensures mappers { IfOk result (λ pages. option_map (λ v. v.items) pages ≡ mappers_of place self.now.state) }
-        ensures fault { IfErr result (λ fault. fault ≡ Memory) }
-        ensures refused { IfErr result (λ _. IsSome (mappers_of place self.now.state)) }
-    {
-        let Some(items) = self.pages.items_at(place) else {
-            return Ok(None);
-        };
-        Ok(Some(Vec::from_slice(alloc, items)?))
-    }
-
-    /// The knobs.
-    pub fn knobs(&self) -> Knobs
-        ensures { result ≡ self.now.state.knobs }
-    {
-        self.pages.knobs()
     }
 
     /// All stale dups go.

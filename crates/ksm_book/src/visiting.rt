@@ -1,12 +1,12 @@
 //! The visit of a page: it joins a dup, becomes Zero, makes a dup with the page that waits for it, waits, or changes.
 
-ghost use Rattle.std.specs.Prelude.{◌≡◌, true, false, OnOk, OnErr, IfOk, MatchOption};
-ghost use Rattle.ksm_base.specs.Rows.{row_at};
+ghost use Rattle.std.specs.Prelude.{◌≡◌, true, OnOk, OnErr, IfOk};
 ghost use Rattle.ksm_book.specs.Due.{IsDueNoMore};
 ghost use Rattle.ksm_book.specs.Folded.{page_visited, restless_at};
 ghost use Rattle.ksm_book.specs.Scanned.{Comes, IsForZero, MayJoin, MeetsPage, StaysStill, VisitsPage, doing};
 ghost use Rattle.ksm_book.specs.Scanned.{is_quiet};
 ghost use Rattle.ksm_book.specs.Whole.{view_of};
+ghost use Rattle.ksm_pages.specs.Paged.{HasRow};
 
 use crate::frames::{clear, release_if};
 use crate::state::State;
@@ -88,8 +88,7 @@ impl State {
     // A page joins the best dup that it may join.
     pub(crate) fn join(&mut self, table: &FrameTable, spot: Spot, best: Best) -> Result<(), Fault>
         requires own { self.old.keeper.table ≡ table.now }
-        requires row { MatchOption (row_at spot.page self.old.state.rows) (true ≡ false)
-            (MayJoin self.old.state best) }
+        requires row { HasRow spot.page self.old.state.rows (MayJoin self.old.state best) }
         ensures own { self.new.keeper.table ≡ self.old.keeper.table }
         ensures visited { OnOk result (VisitsPage (view_of self.old) (view_of self.new) spot.page) }
         ensures refused { OnErr result (self.new ≡ self.old) }
@@ -104,7 +103,7 @@ impl State {
     // A page of zeroes becomes Zero.
     pub(crate) fn become_zero(&mut self, table: &FrameTable, spot: Spot)
         requires own { self.old.keeper.table ≡ table.now }
-        requires row { MatchOption (row_at spot.page self.old.state.rows) (true ≡ false) (IsForZero self.old.state) }
+        requires row { HasRow spot.page self.old.state.rows (IsForZero self.old.state) }
         ensures own { self.new.keeper.table ≡ self.old.keeper.table }
         ensures visited { VisitsPage (view_of self.old) (view_of self.new) spot.page }
     {
@@ -120,8 +119,7 @@ impl State {
         spot: Spot,
     ) -> Result<(), Fault>
         requires own { self.old.keeper.table ≡ table.now }
-        requires row { MatchOption (row_at spot.page self.old.state.rows) (true ≡ false)
-            (MeetsPage self.old.state other) }
+        requires row { HasRow spot.page self.old.state.rows (MeetsPage self.old.state other) }
         ensures own { self.new.keeper.table ≡ self.old.keeper.table }
         ensures visited { OnOk result (VisitsPage (view_of self.old) (view_of self.new) spot.page) }
         ensures refused { OnErr result (self.new ≡ self.old) }

@@ -10,7 +10,8 @@ ghost use Rattle.ksm_base.specs.declared.reply.Reply.TheVariants.{Done, Scanned,
 ghost use Rattle.ksm_book.specs.Whole.{nodes_got};
 ghost use Rattle.ksm_book.specs.Worked.{alone, apart, full, merged, page, stale, three, together};
 ghost use Rattle.ksm_pages.specs.Paged.{lies_on, nowhere};
-ghost use Rattle.ksm_book.specs.Commands.{emptying, pruning, scanning};
+ghost use Rattle.ksm_book.specs.Carried.{scanning};
+ghost use Rattle.ksm_book.specs.Commands.{emptying, pruning};
 
 /// A visit that makes a dup has its place name the waiting page's frame, which the visited page gets, and its own loses
 /// a reference. One that joins adds a reference there before it leaves its own frame. No visit before them makes a

@@ -11,9 +11,9 @@ add-requires-clause-may c =
     may_add _ (meets _ c.self.invariant (ap view_of c.self.view_is) c.requires.row) _ c.dup_frame-frame.ensures
 
 pub sub-requires-clause-may : goal.sub-requires-clause-may
-sub-requires-clause-may c =
-    may_sub _ (meets _ c.self.invariant (ap view_of c.self.view_is) c.requires.row)
-    _ c.dup_frame-frame.ensures _ c.in_ok-lone.ensures.left (made_by c.add.ensures)
+sub-requires-clause-may c = rw c.in_ok-lone.ensures.left at
+    (may_sub _ (meets _ c.self.invariant (ap view_of c.self.view_is) c.requires.row)
+    _ c.dup_frame-frame.ensures _ (made_by c.add.ensures))
 
 joined : (c : goal.After-sub) → Leads (view_of c.args.self.now) (seen c.join.new.self) c.sub.new.self c.self.inside.cursor
     c.self.inside.passes c.args.spot.page

@@ -36,13 +36,13 @@ resettle-requires-clause-node c = rw c.in-Some.ensures.home
     (find_all _ (λ r. r.home < c.self.inside.pages.shape.nodes) _ _ c.in-Some.ensures.found c.self.invariant.0.homes)
 
 pub store-requires : goal.store-requires
-store-requires c = rw (found_resettled c.in_default-resettle.ensures.resettled (row_held c.in-Some.ensures)) refl
+store-requires c = rw (found_resettled c.in_ok-resettle.ensures.resettled (row_held c.in-Some.ensures)) refl
 
 copied : (c : goal.After-store) → Carries (seen c.self.inside.pages) c.self.inside.keeper (seen c.store.new.self)
     c.resettle.new.keeper c.self.inside.cursor c.self.inside.passes (Store c.in-Some.held.spot.page c.args.bytes.now) (Ok Done)
 copied c =
     store_copied {row = c.in-Some.ensures.row} c.self.invariant.1 c.self.invariant.0.rows_rise (row_held c.in-Some.ensures)
-    (rw c.in-Some.ensures.home at c.in_default-resettle.ensures.resettled) c.store.ensures (sym c.in-Some.ensures.shared ∙ c.if-held.true)
+    (rw c.in-Some.ensures.home at c.in_ok-resettle.ensures.resettled) c.store.ensures (sym c.in-Some.ensures.shared ∙ c.if-held.true)
 
 pub returns-then-held-clause-carried : goal.returns-then-held-clause-carried
 returns-then-held-clause-carried c = carried_so c.self.view_is (rw c.in-Some.ensures.spot) (copied c).0

@@ -1,10 +1,10 @@
-use Rattle.ksm_book.proofs.Names.{ap, arith, BookValue, FindsAt, IsDueNoMore, refl, seen, state_of, subst, true, view_of, ◌≡◌}
+use Rattle.ksm_book.proofs.Names.{ap, BookValue, FindsAt, IsDueNoMore, refl, seen, state_of, subst, true, view_of, ◌≡◌}
 use Rattle.std.specs.Prelude.{IfOk}
 use Rattle.ksm_book.specs.Scanned.{is_quiet}
 use Rattle.ksm_pages.specs.declared.pages.Find.TheVariants as finds
 use Rattle.ksm_book.specs.contracts.state.State.{the_view}
 use Rattle.ksm_book.proofs.DueFound.{gone_due, waits_due}
-use Rattle.ksm_book.proofs.PageVisits.{finds_it, waits_leads, waits_quiet}
+use Rattle.ksm_book.proofs.PageVisits.{finds_it, found_lawful, waits_quiet}
 use Rattle.ksm_book.proofs.RowVisits.{Meets}
 use Rattle.ksm_book.proofs.state.State.visit.Goals as goal
 use Rattle.ksm_book.proofs.state.State.visit.Goals.{After-visit_any, In-Waits}
@@ -15,11 +15,10 @@ met : (c : In-Waits) → Meets (λ _ r. FindsAt (seen c.self.inside.pages) (seen
 met c = finds_it _ (λ e. cc) c.self.invariant (ap view_of c.self.view_is) _ _ refl (c.glance.ensures.waits c.in-Waits.is)
 
 pub invariant_of-self-in-Waits : goal.invariant_of-self-in-Waits
-invariant_of-self-in-Waits c = (waits_leads (met (goal.at.invariant_of-self-in-Waits c).In-Waits)).lawful
+invariant_of-self-in-Waits c = found_lawful _ c.self.invariant _ (c.glance.ensures.waits c.in-Waits.is)
 
 pub returns-in-Waits-clause-quiet : goal.returns-in-Waits-clause-quiet
-returns-in-Waits-clause-quiet c =
-    λ _ from s before. grind (arith, waits_quiet (met (goal.at.returns-in-Waits-clause-quiet c).In-Waits) s.1, before.0)
+returns-in-Waits-clause-quiet c = λ _. waits_quiet _ (met (goal.at.returns-in-Waits-clause-quiet c).In-Waits)
 
 -- where a glance tells nothing, the book is as it was
 as_before : (c : After-visit_any) → the_view (record c.self.inside { pages = c.glance.new.self }) ≡ c.args.self.now

@@ -1,8 +1,8 @@
-use Rattle.ksm_book.proofs.Names.{ap, arith, BookValue, Find, FindsAt, IsDueNoMore, seen, state_of, subst, view_of, ◌≡◌}
+use Rattle.ksm_book.proofs.Names.{ap, BookValue, Find, FindsAt, IsDueNoMore, seen, state_of, subst, view_of, ◌≡◌}
 use Rattle.ksm_pages.specs.declared.pages.Find.TheVariants as finds
 use Rattle.ksm_pages.specs.Paged.{Finds}
 use Rattle.ksm_book.proofs.DueFound.{gone_due, waits_due}
-use Rattle.ksm_book.proofs.PageVisits.{changed_leads, finds_it, shared_comes, waits_leads, waits_quiet}
+use Rattle.ksm_book.proofs.PageVisits.{finds_it, found_lawful, shared_comes, waits_quiet}
 use Rattle.ksm_book.proofs.RowVisits.{Meets}
 use Rattle.ksm_book.proofs.state.State.visit_any.Goals as goal
 use Rattle.ksm_book.proofs.state.State.visit_any.Goals.{In_ok-found}
@@ -14,24 +14,20 @@ met_by : (c : In_ok-found) (f : Find) → (f ≡ finds.Gone → ⊥) → c.in_ok
 met_by c f some is = finds_it f some c.self.invariant (ap view_of c.self.view_is) _ _ is c.in_ok-found.ensures.found
 
 pub invariant_of-self-in-Waits : goal.invariant_of-self-in-Waits
-invariant_of-self-in-Waits c = (waits_leads (met_by ((goal.at.invariant_of-self-in-Waits c).In_ok-found) _ (λ e. cc) c.in-Waits.is)).lawful
+invariant_of-self-in-Waits c = found_lawful _ c.self.invariant _ c.in_ok-found.ensures.found
 
 pub invariant_of-self-in-Changed : goal.invariant_of-self-in-Changed
-invariant_of-self-in-Changed c = (changed_leads (met_by ((goal.at.invariant_of-self-in-Changed c).In_ok-found) _ (λ e. cc) c.in-Changed.is)).lawful
+invariant_of-self-in-Changed c = found_lawful _ c.self.invariant _ c.in_ok-found.ensures.found
 
 pub invariant_of-self-in-Dup : goal.invariant_of-self-in-Dup
-invariant_of-self-in-Dup c =
-    grind (arith, met_by ((goal.at.invariant_of-self-in-Dup c).In_ok-found) _ (λ e. cc) c.in-Dup.is)
+invariant_of-self-in-Dup c = found_lawful _ c.self.invariant _ c.in_ok-found.ensures.found
 
 pub invariant_of-self-in-Partner : goal.invariant_of-self-in-Partner
-invariant_of-self-in-Partner c =
-    grind (arith, met_by ((goal.at.invariant_of-self-in-Partner c).In_ok-found) _ (λ e. cc) c.in-Partner.is)
+invariant_of-self-in-Partner c = found_lawful _ c.self.invariant _ c.in_ok-found.ensures.found
 
 pub returns-in-Waits-clause-quiet : goal.returns-in-Waits-clause-quiet
-returns-in-Waits-clause-quiet c = λ _ from s before.
-    let quiet =
-    waits_quiet (met_by ((goal.at.returns-in-Waits-clause-quiet c).In_ok-found) _ (λ e. cc) c.in-Waits.is) s.1 in
-    grind (arith, before.0)
+returns-in-Waits-clause-quiet c = λ _.
+    waits_quiet _ (met_by ((goal.at.returns-in-Waits-clause-quiet c).In_ok-found) _ (λ e. cc) c.in-Waits.is)
 
 pub returns-in_ok-join-in-Dup-clause-comes : goal.returns-in_ok-join-in-Dup-clause-comes
 returns-in_ok-join-in-Dup-clause-comes c =
