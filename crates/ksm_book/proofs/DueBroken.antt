@@ -6,7 +6,7 @@ use Rattle.ksm_book.proofs.Names.{IsSound, item_count, List, MatchOption, merged
 use Rattle.ksm_book.proofs.Names.{same_page_sym, shared_state, Some, stored, sym, tree_of, true, waiting_state, waits_for, waits_on, with_row, without_page, ℕ, ◌&&◌, ◌==◌, ◌||◌, ◌≡◌}
 use Rattle.ksm_book.proofs.DueKept.{count_kept, more_due, on_still, WaitsElse, own_due}
 use Rattle.ksm_pages.specs.Paged.{IsKnown, page_beside}
-use Rattle.ksm_tree.specs.Waits.{names}
+use Rattle.ksm_book.specs.Due.{names}
 use Rattle.ksm_book.proofs.ByPage.{found_page, row_of_page}
 use Rattle.ksm_book.proofs.DueAlike.{one_waits}
 use Rattle.ksm_book.proofs.RowVisits.{filled_by}

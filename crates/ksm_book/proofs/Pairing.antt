@@ -3,7 +3,7 @@ use Rattle.ksm_book.proofs.Names.{Add, All, All-contains_itself, arith, BookStat
 use Rattle.ksm_book.proofs.Names.{each_at_page, eq-eqb, false, find_all, find_changed_other, find_passes, frames_of, GuestPage, IfSome, if◌then◌else◌, InPageOrder, IsFree, IsLaid, IsVacant}
 use Rattle.ksm_book.proofs.Names.{joined_count, KeeperView, leaving, lies_on, list_any, MakesSteps, May, MayLeave, MayPair, MeetsPage, Merged, merged_into}
 use Rattle.ksm_book.proofs.Names.{new_place, new_place_free, next_is_new, Option, ordered_change, PagesView, partner, place_count, Publish, refl, Row, row_at}
-use Rattle.ksm_book.proofs.Names.{shared_state, Some, state_of, Sub, subst, sym, waits_tells, WaitsFor, with_dup, Withdraw, withdrawing, ℕ, [], ◌+◌, ◌-◌, ◌<◌, ◌==◌, ◌∙◌, ◌∷◌, ◌≡◌}
+use Rattle.ksm_book.proofs.Names.{shared_state, Some, state_of, Sub, subst, sym, true, waits_for, waits_tells, WaitsFor, with_dup, Withdraw, withdrawing, ℕ, [], ◌+◌, ◌-◌, ◌<◌, ◌==◌, ◌∙◌, ◌∷◌, ◌≡◌}
 use Rattle.ksm_pages.specs.Paged.{HasRow, paired as are_paired}
 use Rattle.ksm_pages.proofs.Paired.{both_changed}
 use Rattle.ksm_book.proofs.Made.{made_one, made_then}
@@ -35,8 +35,12 @@ module _ {other : GuestPage} {p : PagesView} {k : KeeperView} {cursor : Option G
   at_page : row.page ≡ page
   at_page = page_is at
 
+  -- it waits for the visited page
+  pub waits : waits_for p.knobs row w ≡ true
+  waits = find_passes (waits_for p.knobs row) p.rows w met.1
+
   tells : WaitsFor p.knobs row w
-  tells = grind (arith, waits_tells, find_passes, met)
+  tells = grind (arith, waits_tells, waits)
 
   -- the waiting row is found at its page
   pub waits_at : row_at w.page p.rows ≡ Some w
@@ -71,7 +75,7 @@ module _ {other : GuestPage} {p : PagesView} {k : KeeperView} {cursor : Option G
   -- the two pages may become the items of a new dup at the place
   pub pair_may : HasRow one p.rows (λ r. HasRow page p.rows (MayPair p place r))
   pair_may =
-      grind (arith, waits_one, at.found, waits_at, there_is at, alone, tells.other, inside, vacant, spent_most at.laid, fresh, restless_own)
+      grind (arith, waits_one, at.found, waits_at, there_is at, alone, waits, inside, vacant, spent_most at.laid, fresh, restless_own)
 
   module _ {f : ℕ} (stands : p.frame one ≡ Some f) {k1 : KeeperView} {taken : Bool}
       (taken_is : taken ≡ list_any (λ d. d.place == place) p.dups)

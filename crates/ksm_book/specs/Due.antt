@@ -2,7 +2,7 @@
 use Rattle.std.specs.Prelude.{◌≡◌, Bool, true, false, not, ◌&&◌, All, List, ◌∷◌, fold, Option, Some, None, is_none, if◌then◌else◌}
 use Rattle.ksm_base.specs.declared.page.GuestPage.{GuestPage}
 use Rattle.ksm_base.specs.declared.row.Row.{Row}
-use Rattle.ksm_base.specs.Rows.{change_rows, comes_before, row_at, settled, waiting_state}
+use Rattle.ksm_base.specs.Rows.{change_rows, comes_before, row_at, same_page, settled, waiting_state}
 use Rattle.ksm_base.specs.State.{BookState}
 use Rattle.ksm_base.specs.Visit.{after_cursor, best_dup, is_for_zero, partner, waits_for}
 use Rattle.ksm_rmap.specs.Items.{has_item}
@@ -69,3 +69,8 @@ IsDueNoMore page old new = (pages : List GuestPage) → AreDue old (page ∷ pag
 -- the book as it is where no row from a page on waits
 abbrev pub hidden_from : GuestPage → BookState → BookState
 hidden_from page b = record b { rows = change_rows (λ r. not (comes_before r.page page)) settled b.rows }
+
+-- whether a page is the one that waits
+abbrev pub names : GuestPage → Option GuestPage → Bool
+names page None = false
+names page (Some waiting) = same_page waiting page

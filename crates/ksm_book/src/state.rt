@@ -17,7 +17,7 @@ ghost use Rattle.ksm_book.specs.Whole.{view_of};
 ghost use Rattle.ksm_book.specs.Keeping.{spent};
 ghost use Rattle.ksm_book.specs.Laid.{LoadsIf};
 ghost use Rattle.ksm_rmap.specs.Items.{has_item};
-ghost use Rattle.ksm_tree.specs.Waits.{names};
+ghost use Rattle.ksm_book.specs.Due.{names};
 ghost use Rattle.ksm_pages.specs.Paged.{IsAlone, IsKnown, nowhere, page_beside};
 ghost use Rattle.ksm_book.specs.Promised.{FindsPlace, LieOn, NumbersAreSmall};
 

@@ -16,7 +16,7 @@ use Rattle.ksm_pages.proofs.Leaving.{AreLawful, row_seen, view_of}
 -- the place of the dup of a page is what the state of its entry says
 pub ticket_told : (s : Inside) {p : PagesValue} → view_of s ≡ p → {page known : GuestPage} → known ≡ page → (e : Entry)
     → held_at known s.rows.held ≡ Some (held_of s.rows.pass e) → {kind : Kind} → e.kind ≡ kind
-    → place_of (state_of kind e.number s.rows.pass) (dup_rows s.dups.dups) ≡ option_and_then (λ r. place_of r.state p.dups) (row_at page p.rows)
+    → place_of (state_of s.rows.pass (record e { kind = kind })) (dup_rows s.dups.dups) ≡ option_and_then (λ r. place_of r.state p.dups) (row_at page p.rows)
 ticket_told s {p} seen_as {page} at e found is = grind (arith, row_seen)
 
 -- ---------------------------------------------------------------- the first page after a cursor

@@ -1,9 +1,9 @@
 -- The pages once the stale dup at a place went.
-use Rattle.ksm_pages.proofs.Names.{All, All-head, All-tail, all_rows, ap, AreTied, arith, Bool, Dup, dup_at, dup_numbered, DupRow, elsewhere, eq-eqb, eqb-true, false, filter, filter_all, find}
-use Rattle.ksm_pages.proofs.Names.{find_all, find_none, find_nothing, find_passes, frame_of, frame_seen, get_or, GuestPage, Held, is_live, is_some, is_stale, IsVacant, item_count, length, List}
-use Rattle.ksm_pages.proofs.Names.{list_any, lodging, lodgings_of, Merged, merged_into, nat_lt, nat_tests, None, none_counted, not, Option, option_map, PageState, refl, Row, row_at, rows_of, Some}
-use Rattle.ksm_pages.proofs.Names.{stands_at, sym, tied_counted, true, ℕ, [], ◌&&◌, ◌==◌, ◌∙◌, ◌∷◌, ◌≡◌}
-use Rattle.ksm_tree.specs.Dups.{rows_of as dup_rows}
+use Rattle.ksm_pages.proofs.Names.{All, All-filter, All-head, All-tail, all_rows, ap, AreAlone, AreTied, arith, Bool, Dup, dup_at, dup_numbered, DupRow, elsewhere, eq-eqb, eqb-true, false, filter, filter_all, find}
+use Rattle.ksm_pages.proofs.Names.{find_all, find_none, find_nothing, find_passes, frame_of, frame_seen, get_or, GuestPage, Held, in_group, is_live, is_some, is_stale, IsVacant, item_count, Knobs, length, List}
+use Rattle.ksm_pages.proofs.Names.{list_any, lodging, lodgings_of, Merged, merged_into, nat_lt, nat_tests, None, none_counted, not, Option, option_map, PageState, refl, Row, row_at, rows_of, rows_without, Some}
+use Rattle.ksm_pages.proofs.Names.{stands_at, sym, tied_counted, tree_of, true, ℕ, [], ◌&&◌, ◌==◌, ◌∙◌, ◌∷◌, ◌≡◌}
+use Rattle.ksm_tree.specs.Dups.{rows_of as dup_rows, without_place}
 use Rattle.ksm_pages.proofs.Changing.{row_found}
 use Rattle.ksm_pages.proofs.Found.{find_kept}
 use Rattle.ksm_pages.proofs.Lodgings.{frame_by, seat}
@@ -76,3 +76,11 @@ pub lodged_dropped : {place : ℕ} (frames : List ℕ) (dups : List DupRow) (hel
     → frame_of (lodgings_of (lodging (filter (elsewhere place) dups) frames) held) ≡ frame_of (lodgings_of (lodging dups frames) held)
 lodged_dropped frames dups held vacant =
     lodged_alike _ (λ page r n there merged. grind (arith, find_kept, not_vacant))
+
+-- rows that are said to be alone are so, without the dup at a place
+pub lone_dropped : (knobs : Knobs) (held : List Held) (place : ℕ) (dups : List Dup) → AreAlone knobs held (dup_rows dups)
+    → AreAlone knobs held (dup_rows (without_place place dups))
+lone_dropped knobs held place dups are k d lt is =
+    let h = get_or held k d in
+    rw (rows_without place dups)
+    (All-filter (elsewhere place) (λ (r : DupRow). in_group (tree_of knobs h.row) h.row.bytes r ≡ false) _ (are k d lt is))

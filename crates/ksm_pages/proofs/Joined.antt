@@ -1,12 +1,13 @@
 -- The pages once a page with a frame of its own joined a dup.
 use Rattle.ksm_tree.specs.Dups.{has_number, items_of as items_numbered, rows_of as dup_rows}
-use Rattle.ksm_pages.proofs.Names.{All, ap, arith, change_held, change_items, change_row, count_by, Dup, dup_of, DupRow, DupsState, each_at_page, Entry, false, find_none, frame_of, GuestPage, HasRoom}
-use Rattle.ksm_pages.proofs.Names.{Held, held_at, held_of, InPageOrder, Inside, is_some, IsStopped, length, let_out, lies_on, List, lodgings_of, mapped, Merged, merged_into, merged_state}
-use Rattle.ksm_pages.proofs.Names.{MOST_REFERENCES, nat_tests, None, number_found, Option, option_map, PageState, PagesValue, refl, Row, row_found, rows_items, rows_of, RowsView, seen, shared_state}
+use Rattle.ksm_pages.proofs.Names.{All, ap, arith, change_held, change_items, change_row, count_by, Dup, dup_of, DupRow, DupsState, each_at_page, Entry, false, find_none, frame_of, frame_seen, GuestPage, HasRoom}
+use Rattle.ksm_pages.proofs.Names.{Held, held_at, held_of, InPageOrder, Inside, is_some, length, let_out, lies_on, List, lodgings_of, Merged, merged_into, merged_state}
+use Rattle.ksm_pages.proofs.Names.{MOST_REFERENCES, nat_tests, None, number_found, Option, option_map, PageState, PagesValue, refl, Row, row_found, rows_items, rows_of, RowsView, seen, shared_state, shares}
 use Rattle.ksm_pages.proofs.Names.{Some, subst, sym, tied_count, tied_joined, true, with_item, ℕ, ◌<◌, ◌==◌, ◌∙◌, ◌≡◌}
 use Rattle.ksm_pages.proofs.Changing.{row_found as found_rows}
-use Rattle.ksm_pages.proofs.Leaving.{AreLawful, Comes, of_dup, of_page, row_there, stops, turned_so, view_of}
+use Rattle.ksm_pages.proofs.Leaving.{AreLawful, Comes, held_as, of_dup, of_page, row_there, turned_so, view_of}
 use Rattle.ksm_pages.proofs.Lodgings.{frame_by, seat}
+use Rattle.ksm_pages.proofs.Lone.{shared_lone}
 
 -- a page with a frame of its own is not merged
 pub own_not_merged : (s : PageState) → shared_state s ≡ false → merged_state s ≡ false
@@ -54,6 +55,10 @@ pub item_lies : (of : ℕ → Option ℕ) (held : List Held) → InPageOrder (ro
 item_lies of held rise number k d lt merged =
     frame_by of held _ ∙ item_seat of _ merged _ (sym (found_rows _ held) ∙ each_at_page _ rise k d lt)
 
+-- a page whose row is not shared lies on the frame of its own, if it has one
+pub seen_own : (of : ℕ → Option ℕ) (state : PageState) (own : Option ℕ) → shared_state state ≡ false → frame_seen of state own ≡ own
+seen_own of state own alone = grind arith
+
 -- a page with a frame of its own lies on that frame
 pub own_seat : (of : ℕ → Option ℕ) (pass : ℕ) (e : Entry) → shared_state (held_of pass e).row.state ≡ false
     → seat of (Some (held_of pass e)) ≡ Some e.at
@@ -61,10 +66,8 @@ own_seat of pass e alone = grind arith
 
 module _ (s : Inside) (are : AreLawful s) (page : GuestPage) {h : Held} (found : held_at page s.rows.held ≡ Some h)
     (alone : shared_state h.row.state ≡ false) (number : ℕ)
-    {joined later : DupsState} (into : joined ≡ record s.dups { dups = change_items number (with_item page) s.dups.dups })
-    (out : later ≡ record joined { dups = let_out h.row.state h.row.page joined.dups; waiting = later.waiting })
-    (stopped : IsStopped s.knobs h.row joined.waiting later.waiting) {rows : RowsView}
-    (turned : rows ≡ record s.rows { held = change_held page (mapped (Merged number) None) s.rows.held })
+    {later : DupsState} (into : later ≡ record s.dups { dups = change_items number (with_item page) s.dups.dups })
+    {rows : RowsView} (turned : rows ≡ record s.rows { held = change_held page (shares (Merged number)) s.rows.held })
     {p : PagesValue} (seen_as : view_of s ≡ p) where
   -- once a page with a frame of its own joined a dup, the pages are lawful, and the page lies where the dup's items do
   pub joins : Comes s rows later (record (seen p) {
@@ -72,15 +75,10 @@ module _ (s : Inside) (are : AreLawful s) (page : GuestPage) {h : Held} (found :
     frame = lies_on page (of_dup s number) (frame_of p.lodgings);
   })
   joins =
-      let at = of_page s are _ found in
-      let rest : later ≡ record s.dups
-      { dups = change_items number (with_item page) s.dups.dups; waiting = later.waiting } = grind arith in
-      let waits = subst (λ w. IsStopped s.knobs h.row w later.waiting) (λ i. (into i).waiting) stopped in
-      turned_so s are page found seen_as rows (mapped (Merged number) None) (λ r. record r { state = Merged number })
-      (λ x. refl) (λ r. refl)
-      (λ i. (turned i).held) rest (rows_items _ _ _) _ refl
-      (tied_joined _ _ _ are.order (row_there s are _ found) _ _ _ (own_not_merged _ alone) at refl are.tied)
-      (stops s are page found _ at refl _ waits) refl
+      turned_so s are page found seen_as rows (shares (Merged number)) (λ r. record r { state = Merged number })
+      (λ x. refl) (λ r. refl) (held_as turned) into (rows_items _ _ _) _ refl
+      (tied_joined _ _ _ are.order (row_there s are _ found) _ _ _ (own_not_merged _ alone) (of_page s are _ found) refl are.tied)
+      (λ _. shared_lone s.knobs (dup_rows s.dups.dups) (Merged number) h) refl
 
   -- but for the row and the frame of the page, all is seen as it was, and the page lies where each item does
   pub told_joined : let now = seen (view_of (record s { rows = rows; dups = later })) in

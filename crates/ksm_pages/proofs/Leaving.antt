@@ -1,10 +1,11 @@
 -- The pages once the row of one page changed, or went: they are lawful still, and what is seen of them is changed so.
-use Rattle.ksm_pages.proofs.Names.{ap, AreKept, AreTied, AreWaiting, arith, change_held, change_row, Dup, DupsState, false, find_passes, frame_of, Frames, GuestPage, Held, held_at, InPageOrder}
-use Rattle.ksm_pages.proofs.Names.{Inside, is_some, IsAlone, IsKnown, IsStopped, lies_on, List, lodging, lodgings_of, MatchOption, None, Option, option_map, ordered_change, PagesValue, PagesView, Row}
-use Rattle.ksm_pages.proofs.Names.{row_at, row_stopped, rows_of, RowsView, same_page_eq, seen, shared_state, Some, subst, sym, true, waiting_state, WaitingPage, ℕ, ◌∙◌, ◌≡◌}
+use Rattle.ksm_pages.proofs.Names.{ap, AreAlone, AreKept, AreTied, arith, change_held, change_row, Dup, DupsState, false, find_passes, frame_of, Frames, GuestPage, Held, held_at, InPageOrder}
+use Rattle.ksm_pages.proofs.Names.{Inside, is_some, IsAlone, IsKnown, lies_on, List, lodging, lodgings_of, MatchOption, None, Option, option_map, ordered_change, PagesValue, PagesView, Row}
+use Rattle.ksm_pages.proofs.Names.{row_at, rows_of, RowsView, same_page_eq, seen, shared_state, Some, subst, sym, true, ℕ, ◌∙◌, ◌≡◌}
 use Rattle.ksm_tree.specs.Dups.{rows_of as dup_rows}
 use Rattle.ksm_pages.proofs.Changing.{row_told, rows_changed}
 use Rattle.ksm_pages.proofs.Lodgings.{changed_to, frame_by, lodged_changed, seat}
+use Rattle.ksm_pages.proofs.Lone.{IsLone, lone_changed}
 
 -- where the items of each dup lie
 abbrev pub of_dup : Inside → ℕ → Option ℕ
@@ -23,29 +24,50 @@ view_of s = record {
 
 -- the pages inside are lawful
 abbrev pub AreLawful : Inside → Type 0
-AreLawful s = AreKept s.shape s.knobs (rows_of s.rows.held) s.dups s.frames.items
+AreLawful s = AreKept s.shape s.knobs s.rows s.dups s.frames.items
+
+-- the rows became these, and the unstable trees are of the nodes, or of all, as they were
+pub record Become (old new : RowsView) (these : List Held) : Type 0 where
+  pub held : new.held ≡ these
+  pub by_node : new.by_node ≡ old.by_node
+
+-- a call that changed rows, and at most the number of the pass with them, made them become these
+pub held_as : {old new : RowsView} {held : List Held} {pass : ℕ} → new ≡ record old { held = held; pass = pass } → Become old new held
+held_as same = record { held = λ i. (same i).held; by_node = λ i. (same i).by_node }
 
 -- the pages with other rows and dups are lawful, and are seen as the new view says
 pub record Comes (s : Inside) (rows : RowsView) (later : DupsState) (new : PagesView) : Type 0 where
-  pub lawful : AreKept s.shape s.knobs (rows_of rows.held) later s.frames.items
+  pub lawful : AreKept s.shape s.knobs rows later s.frames.items
   pub told_as : seen (view_of (record s { rows = rows; dups = later })) ≡ new
 
 -- other rows come, and dups that have other items at most: the pages are lawful if the new rows are in order and tied to the new
--- dups, and the right pages wait
-pub comes : (s : Inside) → AreLawful s → (rows : RowsView) {now : List Row} → rows_of rows.held ≡ now
-    → {ds : List Dup} {later : DupsState}
-    → later ≡ record s.dups { dups = ds; waiting = later.waiting } → dup_rows ds ≡ dup_rows s.dups.dups
-    → InPageOrder now → AreTied now ds
-    → AreWaiting s.knobs now later.waiting → {lay : Frames} → frame_of (lodgings_of (of_dup s) rows.held) ≡ lay
+-- dups, and those that are said to be alone are so
+pub comes : (s : Inside) → AreLawful s → (rows : RowsView) {held : List Held} → Become s.rows rows held → {now : List Row}
+    → rows_of held ≡ now → {ds : List Dup} {later : DupsState}
+    → later ≡ record s.dups { dups = ds } → dup_rows ds ≡ dup_rows s.dups.dups
+    → InPageOrder now → AreTied now ds → AreAlone s.knobs held (dup_rows s.dups.dups)
+    → {lay : Frames} → frame_of (lodgings_of (of_dup s) held) ≡ lay
     → Comes s rows later (record (seen (view_of s)) { rows = now; frame = lay })
-comes s are rows {now} is {ds} {later} rest alike order tied waits lain = record {
-  lawful = grind arith;
-  told_as =
-      let same : dup_rows later.dups ≡ dup_rows s.dups.dups = (λ i. dup_rows (rest i).dups) ∙ alike in
-      let lies_so = ap (λ rs. frame_of (lodgings_of (lodging rs s.frames.items) rows.held)) same ∙ lain in
-      λ i. record (seen (view_of s))
-      { rows = is i; frame = lies_so i; dups = same i; next = (rest i).next };
-}
+comes s are rows {held} new {now} is {ds} {later} rest alike order tied alone {lay} lain =
+    let same : dup_rows later.dups ≡ dup_rows s.dups.dups = (λ i. dup_rows (rest i).dups) ∙ alike in
+    let are_now : rows_of rows.held ≡ now = ap rows_of new.held ∙ is in
+    let are_dups : later.dups ≡ ds = λ i. (rest i).dups in
+    record {
+      lawful = record {
+        small = are.small;
+        order = rw are_now order;
+        tied = rw (are_now, are_dups) tied;
+        places = (λ i. (rest i).places) ∙ are.places;
+        by_node = new.by_node ∙ are.by_node;
+        alone = rw (new.held, same) alone;
+        room = are.room;
+      };
+      told_as =
+          let lies_so = ap (λ rs. frame_of (lodgings_of (lodging rs s.frames.items) rows.held)) same
+          ∙ ap (λ hs. frame_of (lodgings_of (of_dup s) hs)) new.held ∙ lain in
+          λ i. record (seen (view_of s))
+          { rows = are_now i; frame = lies_so i; dups = same i; next = (rest i).next };
+    }
 
 -- a page that comes to lie where it lay does not move
 pub lies_same : (page : GuestPage) {frames : Frames} → lies_on page (frames page) frames ≡ frames
@@ -88,33 +110,29 @@ module _ (s : Inside) (are : AreLawful s) (page : GuestPage) {h : Held} (found :
     pub lies : seat (of_dup s) (Some h) ≡ frame_of p.lodgings page
     lies = grind (arith, frame_by)
 
-  -- once the row of the page no longer waits, and the page has stopped, the right pages wait
-  pub stops : (row : Row) → row.page ≡ page → waiting_state row.state ≡ false → (w : List WaitingPage)
-      → IsStopped s.knobs old s.dups.waiting w
-      → AreWaiting s.knobs (change_row page (λ _. row) (rows_of s.rows.held)) w
-  stops row at still w stopped = rw (← at) (row_stopped s.knobs _ _ are.waits _ row old (rw at row_there) still stopped)
-
   module _ {p : PagesValue} (seen_as : view_of s ≡ p) (rows : RowsView) where
     -- once a page's row changed, the page is seen with the new row, on the frame that the new row says
     pub turned_so : (f : Held → Held) (g : Row → Row) → ((x : Held) → (f x).row ≡ g x.row)
         → ((r : Row) → (g r).page ≡ r.page)
-        → rows.held ≡ change_held page f s.rows.held → {ds : List Dup} {later : DupsState}
-        → later ≡ record s.dups { dups = ds; waiting = later.waiting }
+        → Become s.rows rows (change_held page f s.rows.held) → {ds : List Dup} {later : DupsState}
+        → later ≡ record s.dups { dups = ds }
         → dup_rows ds ≡ dup_rows s.dups.dups → (to : Row → Row) → g old ≡ to old
         → AreTied (change_row page (λ _. to old) (rows_of s.rows.held)) ds
-        → AreWaiting s.knobs (change_row page (λ _. to old) (rows_of s.rows.held)) later.waiting → {frame : Option ℕ}
+        → (IsLone s.knobs (dup_rows s.dups.dups) h → IsLone s.knobs (dup_rows s.dups.dups) (f h)) → {frame : Option ℕ}
         → seat (of_dup s) (Some (f h)) ≡ frame
         → Comes s rows later (record (seen p) { rows = change_row page to p.rows; frame = lies_on page frame (frame_of p.lodgings) })
-    turned_so f g is same turned rest alike to agree tied waits lodged =
+    turned_so f g is same turned rest alike to agree tied lone lodged =
         let before = rows_of s.rows.held in
-        let by_g = ap rows_of turned ∙ rows_changed _ f g _ is in
+        let by_g = rows_changed _ f g _ is in
         let as_old = changed_to page to _ are.order row_there in
         let new = by_g ∙ changed_to _ g _ are.order row_there ∙ ap (λ r. change_row page (λ _. r) before) agree
         ∙ sym as_old in
-        let lain = ap (λ held. frame_of (lodgings_of (of_dup s) held)) turned
-        ∙ lodged_changed _ f (λ x. (λ i. (is x i).page) ∙ same x.row) _ _ found
+        let lain = lodged_changed _ f (λ x. (λ i. (is x i).page) ∙ same x.row) _ _ found
         ∙ ap (λ o. lies_on page o (frame_of (lodgings_of (of_dup s) s.rows.held))) lodged in
-        grind (arith, comes, ordered_change)
+        rw (← seen_as)
+        (comes s are rows turned new rest alike
+        (subst InPageOrder (sym by_g ∙ new) (ordered_change _ g _ same are.order)) (rw as_old tied)
+        (lone_changed s.knobs _ page f _ are.order found lone are.alone) lain)
 
 -- a page that comes to lie where it lay does not move
 pub stays_there : {s : Inside} {rows : RowsView} {later : DupsState} (p : PagesValue) (page : GuestPage) {now : List Row}

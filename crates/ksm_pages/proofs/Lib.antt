@@ -4,6 +4,7 @@ pub mod Ranked
 pub mod Found
 pub mod Tallying
 pub mod Filing
+pub mod Led
 pub mod Listings
 pub mod Changing
 pub mod Settling
@@ -12,6 +13,7 @@ pub mod Writing
 pub mod Reading
 pub mod Gathering
 pub mod Lodgings
+pub mod Lone
 pub mod Leaving
 pub mod Paging
 pub mod Resting
@@ -19,9 +21,10 @@ pub mod Dropping
 pub mod Joined
 pub mod Turning
 pub mod Entering
-pub mod Meeting
+pub mod Partners
 pub mod Visiting
 pub mod Paired
 pub mod Moving
 pub mod Asked
 pub mod Beside
+pub mod Leading

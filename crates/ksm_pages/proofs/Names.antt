@@ -10,7 +10,7 @@ pub use Rattle.ksm_base.specs.Reading.{items_of, place_of}
 pub use Rattle.ksm_base.specs.Rows.{all_zero, change_row, change_rows, comes_before, dup_numbered, has_items, InPageOrder, InPlaceOrder, item_count, merged_into, merged_state, private_state, row_at}
 pub use Rattle.ksm_base.specs.Rows.{same_page, settled, settled_state, shared_state, waiting_state, with_dup, with_row, without_page}
 pub use Rattle.ksm_base.specs.State.{default_knobs, place_count, tree_of}
-pub use Rattle.ksm_base.specs.Visit.{after_cursor, best_dup, is_for_zero, partner}
+pub use Rattle.ksm_base.specs.Visit.{after_cursor, best_dup, is_for_zero, partner, waits_for}
 pub use Rattle.ksm_base.specs.declared.knobs.Knobs.{Knobs}
 pub use Rattle.ksm_base.specs.declared.limits.TheConstants.{MOST_REFERENCES}
 pub use Rattle.ksm_base.specs.declared.page.GuestPage.{GuestPage}
@@ -21,15 +21,17 @@ pub use Rattle.ksm_base.specs.declared.row.Row.{Row}
 pub use Rattle.ksm_pages.specs.Filed.{AreBegun, AreFiled, AreListed, CanMove, held_in, held_under, is_useless, IsInVain, IsMoved, IsRows, IsTally, IsUnder, key_in, named_of, one_if}
 pub use Rattle.ksm_pages.specs.Ahead.{last_of, mergeable_pages, pages_behind, pages_between}
 pub use Rattle.ksm_pages.specs.Held.{AreInOrder, change_held, forgotten, Held, held_at, held_of, holds, is_own, is_restless, IsAddedTo, Listing, mapped, number_left, on_row, pages_of, rows_of}
-pub use Rattle.ksm_pages.specs.Held.{RowsView, state_of, with_held, without_held}
+pub use Rattle.ksm_pages.specs.Held.{AreInTree, beside, has_content, in_tree_by, is_in, IsFree, out_of_tree, page_in_tree, RowsView, shares, state_of, tree_by, waiting_in, with_held, without_held, written}
 pub use Rattle.ksm_pages.specs.Left.{IsLeft}
 pub use Rattle.ksm_pages.specs.Ordered.{AreAscending, is_of, key_of, marked, named_by, page_of, visited, with_named, without_named}
-pub use Rattle.ksm_pages.specs.Paged.{AreKept, elsewhere, Finds, FindsAt, frame_of, frame_seen, Frames, HasRoom, is_item, is_next, IsAlone, IsHeld, IsKnown, IsVacant, items_on, lies_on}
+pub use Rattle.ksm_pages.specs.Paged.{AreAlone, AreKept, elsewhere, Finds, FindsAt, frame_of, frame_seen, Frames, HasRoom, is_item, is_next, IsAlone, IsHeld, IsKnown, IsVacant, items_on, lies_on}
 pub use Rattle.ksm_pages.specs.Paged.{lodging, lodgings_of, MayPair, of_guest, page_beside, PagesValue, PagesView, paired, seen}
 pub use Rattle.ksm_pages.specs.declared.named.Named.{Named}
 pub use Rattle.ksm_pages.specs.declared.pages.Find.{Find}
 pub use Rattle.ksm_pages.specs.declared.pages.Pages.TheInside.{Inside}
 pub use Rattle.ksm_pages.specs.declared.row.Entry.{Entry}
+pub use Rattle.ksm_pages.specs.declared.row.InTree.{InTree}
+pub use Rattle.ksm_pages.specs.declared.row.InTree.TheVariants.{Alone, Beside, Not}
 pub use Rattle.ksm_pages.specs.declared.row.Kind.{Kind}
 pub use Rattle.ksm_pages.specs.declared.row.Spot.{Spot}
 pub use Rattle.ksm_pages.specs.declared.tally.Tally.{Tally}
@@ -39,14 +41,13 @@ pub use Rattle.ksm_rmap.specs.Items.{has_item, with_item}
 pub use Rattle.ksm_tree.proofs.Bridge.{best_found, choice_alike, choice_exists, live_count, live_placed, stale_alike}
 pub use Rattle.ksm_tree.proofs.Chained.{found_passing}
 pub use Rattle.ksm_tree.proofs.Changes.{all_rows, row_found, rows_items, rows_new, rows_out, rows_without}
-pub use Rattle.ksm_tree.proofs.Tied.{tied_counted}
+pub use Rattle.ksm_tree.proofs.Tied.{at_mapped, at_others, tied_counted}
 pub use Rattle.ksm_tree.proofs.Ties.{number_found, tied_absent, tied_count, tied_dropped, tied_inserted, tied_joined, tied_left, tied_made, tied_mapped, tied_pruned}
-pub use Rattle.ksm_tree.proofs.Waiters.{at_mapped, at_others, knobs_tuned, look_up_found, none_waiting, own_found, partner_found, row_begun, row_dropped, row_inserted, row_kept, row_stopped}
 pub use Rattle.ksm_tree.specs.Bridge.{AreTied, let_out}
+pub use Rattle.ksm_tree.specs.Chains.{in_group}
 pub use Rattle.ksm_tree.specs.Choosing.{best_of, found_at}
 pub use Rattle.ksm_tree.specs.Dups.{AreDups, change_items, dup_at, dup_of, DupsState, is_live, is_stale, items_in, stands_at, with_new}
 pub use Rattle.ksm_tree.specs.Numbered.{number_of}
-pub use Rattle.ksm_tree.specs.Waits.{AreWaiting, IsAdded, IsStopped, waiting_page, WaitingPage, waits_there}
 pub use Rattle.ksm_tree.specs.declared.dup.Best.{Best}
 pub use Rattle.ksm_tree.specs.declared.dup.Dup.{Dup}
 pub use Rattle.slab.proofs.SlabLemmas.{Updates-with_value}
@@ -66,6 +67,7 @@ pub use Rattle.std.proofs.lemmas.List.Sorted.{IsPartitionPoint-from_clause}
 pub use Rattle.std.proofs.lemmas.List.Sums.{count_by-le-length, length-filter}
 pub use Rattle.std.proofs.lemmas.Map.Views.{any-filter_same}
 pub use Rattle.std.proofs.lemmas.Option.{none-some, same_Some, slice_get-get_or, slice_get-map, slice_get_past, unwrap_or-slice_get}
+pub use Rattle.std.proofs.lemmas.Slice.Eq.{bytes_eq-Decides}
 pub use Rattle.std.specs.List.{list_any}
 pub use Rattle.std.specs.List.Sorted.{IsPartitionedBy}
 pub use Rattle.std.specs.Option.{IfSome, MatchOption, option_and_then, unwrap_or}

@@ -1,8 +1,8 @@
 -- What is read of the pages: rows and dups found by their pages, places and numbers.
-use Rattle.ksm_pages.proofs.Names.{All, ap, AreDups, AreTied, AreWaiting, arith, Dup, dup_at, dup_numbered, dup_of, DupRow, DupsState, each_has_number, false, find, find_all, found_passing, has_items}
-use Rattle.ksm_pages.proofs.Names.{Held, InPageOrder, InPlaceOrder, is_live, is_some, is_stale, items_in, items_of, Knobs, length, List, list_any, live_placed, lodging, lodgings_of, merged_into, None}
-use Rattle.ksm_pages.proofs.Names.{Option, option_and_then, option_map, refl, Row, row_at, rows_of, slice_get, slice_get-get_or, Some, stale_alike, stands_at, sym, tied_counted, true}
-use Rattle.ksm_pages.proofs.Names.{unwrap_or-slice_get, waiting_state, WaitingPage, ℕ, ◌&&◌, ◌<◌, ◌==◌, ◌∙◌, ◌≡◌}
+use Rattle.ksm_pages.proofs.Names.{All, ap, AreDups, AreTied, arith, Dup, dup_at, dup_numbered, dup_of, DupRow, DupsState, each_has_number, find, find_all, found_passing, has_items}
+use Rattle.ksm_pages.proofs.Names.{Held, InPageOrder, InPlaceOrder, is_live, is_some, is_stale, items_in, items_of, length, List, list_any, live_placed, lodging, lodgings_of, merged_into, None}
+use Rattle.ksm_pages.proofs.Names.{Option, option_and_then, option_map, refl, Row, rows_of, slice_get, slice_get-get_or, Some, stale_alike, stands_at, sym, tied_counted, true}
+use Rattle.ksm_pages.proofs.Names.{unwrap_or-slice_get, ℕ, ◌&&◌, ◌<◌, ◌==◌, ◌∙◌, ◌≡◌}
 use Rattle.std.proofs.Common.{unwrap_or}
 use Rattle.ksm_base.specs.Rows.{is_stale as is_stale_row}
 use Rattle.ksm_tree.specs.Dups.{rows_of as dup_rows}
@@ -11,18 +11,6 @@ use Rattle.ksm_pages.specs.Paged.{frame_of as lies_at}
 use Rattle.ksm_rmap.proofs.Ordered.{any_found}
 use Rattle.ksm_pages.proofs.Joined.{item_lies}
 use Rattle.ksm_pages.proofs.Options.{mapped_twice, some_mapped}
-
--- ---------------------------------------------------------------- rows
-
--- where no row waits, the waiting pages are right for any knobs
-pub knobs_free : (knobs tuned : Knobs) (rows : List Row) (w : List WaitingPage) → AreWaiting knobs rows w → All (λ r. waiting_state r.state ≡ false) rows → AreWaiting tuned rows w
-knobs_free knobs tuned rows w are still t b q =
-    grind (
-      arith,
-      are t b q,
-      λ (r : Row) (found : row_at q rows ≡ Some r). find_all _
-          (λ s. waiting_state s.state ≡ false) rows r found still,
-    )
 
 -- ---------------------------------------------------------------- dups
 

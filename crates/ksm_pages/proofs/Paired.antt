@@ -1,21 +1,25 @@
 -- The pages once two of them became the items of a new dup.
-use Rattle.ksm_pages.proofs.Names.{All, All-filter, ap, ap₂, AreDups, AreKept, arith, at_others, change_held, change_row, change_rows, dup_numbered, DupRow, DupsState, Entry, false, filter, find}
-use Rattle.ksm_pages.proofs.Names.{find-append, find_all, find_nothing, find_over, frame_of, Frames, get_or-set_same, GuestPage, Held, held_at, held_of, InPageOrder, InPlaceOrder, Inside, is_live}
-use Rattle.ksm_pages.proofs.Names.{IsStopped, length, length-set, let_out, lies_on, List, lodging, lodgings_of, mapped, MatchOption, MayPair, Merged, merged_into, None, not, Option, option_and_then}
-use Rattle.ksm_pages.proofs.Names.{option_map, ordered_change, PagesValue, paired, refl, Row, row_at, row_stopped, rows_new, rows_of, RowsView, rules, same_page, same_page_eq, seen, set, slice_get}
-use Rattle.ksm_pages.proofs.Names.{slice_get-get_or, Some, stands_at, subst, suc, sym, tied_made, tree_of, true, with_dup, with_item, with_new, zero, ℕ, [], ◌&&◌, ◌+◌, ◌<◌, ◌==◌, ◌||◌, ◌∙◌, ◌∷◌, ◌≡◌}
+use Rattle.ksm_pages.proofs.Names.{All, All-append, All-cons, All-filter, All-map, ap, ap₂, AreAlone, AreDups, AreInTree, AreKept, arith, Bool, change_held, change_row, change_rows, cond_both, dup_numbered}
+use Rattle.ksm_pages.proofs.Names.{DupRow, DupsState, Entry, false, filter, find, find-append, find_all, find_nothing, find_over, frame_of, Frames, get_or, get_or-set_same, GuestPage, has_content, Held, held_at, held_of, holds}
+use Rattle.ksm_pages.proofs.Names.{in_group, InPageOrder, InPlaceOrder, Inside, InTree, is_in, is_live, length, length-set, lies_on, List, lodging, lodgings_of, MatchOption, MayPair, Merged, merged_into, nat_tests, None, not, Option, option_and_then}
+use Rattle.ksm_pages.proofs.Names.{option_map, ordered_change, page_in_tree, PagesValue, paired, refl, Row, row_at, rows_new, rows_of, RowsView, rules, same_page, same_page_eq, same_page_refl, seen, set, shares, slice_get}
+use Rattle.ksm_pages.proofs.Names.{slice_get-get_or, Some, stands_at, subst, suc, sym, tied_made, tree_of, true, waiting_state, with_dup, with_item, with_new, zero, ℕ, [], ◌&&◌, ◌+◌, ◌<◌, ◌==◌, ◌||◌, ◌∙◌, ◌∷◌, ◌≡◌}
 use Rattle.ksm_pages.proofs.Names.{◌≢◌}
+use Rattle.ksm_pages.specs.Held.{is_alone}
 use Rattle.std.specs.Vec.{with_item as with_frame}
 use Rattle.ksm_tree.specs.Dups.{rows_of as dup_rows}
 use Rattle.ksm_tree.proofs.Alike.{map_mapped}
+use Rattle.ksm_tree.proofs.Rows.{eq_bytes}
 use Rattle.ksm_base.proofs.Orders.{above, below, dups_parted, elsewhere}
 use Rattle.ksm_pages.proofs.Changing.{row_told, rows_changed}
 use Rattle.ksm_pages.proofs.Dropping.{lodged_alike, none_live, not_vacant}
 use Rattle.ksm_pages.proofs.Filing.{differ_by}
 use Rattle.ksm_pages.proofs.Found.{find_changed_other, find_kept}
-use Rattle.ksm_pages.proofs.Joined.{let_out_alone, own_not_merged, own_seat}
+use Rattle.ksm_pages.proofs.Joined.{own_not_merged, own_seat}
 use Rattle.ksm_pages.proofs.Leaving.{AreLawful, lies, lies_same, of_dup, of_page, row_seen, view_of}
 use Rattle.ksm_pages.proofs.Lodgings.{changed_to, frame_by, lodged_changed, seat}
+use Rattle.ksm_pages.proofs.Lone.{IsLone, lone_changed, shared_lone}
+use Rattle.ksm_pages.proofs.Partners.{each_led, held_led, tree_is, waits_parts}
 use Rattle.ksm_pages.proofs.Visiting.{lawful_numbered, seen_numbered}
 
 -- ---------------------------------------------------------------- what is kept at one place
@@ -81,7 +85,7 @@ module _ (s : Inside) {p : PagesValue} (seen_as : view_of s ≡ p) (place : ℕ)
     (may : IsOfBoth (MayPair (seen p) place) (row_at first p.rows) (row_at second p.rows)) where
   may_first : {o : Option Held} → held_at first s.rows.held ≡ o
       → IsOfBoth (MayPair (seen p) place) (option_map (λ h. h.row) o) (row_at second p.rows)
-  may_first is = search (rules, row_seen)
+  may_first is = subst (λ q. IsOfBoth (MayPair (seen p) place) q (row_at second p.rows)) (row_seen s seen_as first is) may
 
   -- the first of two pages that may pair is held
   pub first_there : held_at first s.rows.held ≡ None → true ≡ false
@@ -89,14 +93,18 @@ module _ (s : Inside) {p : PagesValue} (seen_as : view_of s ≡ p) (place : ℕ)
 
   -- the second of two pages that may pair is held
   pub second_there : held_at second s.rows.held ≡ None → true ≡ false
-  second_there gone = grind (arith, first_there, row_seen, may_first)
+  second_there gone = go _ refl
+    where
+      go : (o : Option Held) → held_at first s.rows.held ≡ o → true ≡ false
+      go None is = first_there is
+      go (Some a) is = subst (λ q. IsOfBoth (MayPair (seen p) place) (Some a.row) q) (row_seen s seen_as second gone) (may_first is)
 
   -- and the rows may become items
   may_both : {a b : Held} → held_at first s.rows.held ≡ Some a → held_at second s.rows.held ≡ Some b
       → MayPair (seen (view_of s)) place a.row b.row
   may_both {a} {b} found also =
       subst (λ v. MayPair (seen v) place a.row b.row) (sym seen_as)
-      (grind (arith, row_seen, seen_as, may_first))
+      (subst (λ q. IsOfBoth (MayPair (seen p) place) (Some a.row) q) (row_seen s seen_as second also) (may_first found))
 
 -- the dups with a new one of two pages
 abbrev with_pair : DupRow → GuestPage → GuestPage → DupsState → DupsState
@@ -107,7 +115,7 @@ with_pair row first second d =
 -- what is held once two pages are merged into the dup with a number
 abbrev pub both_merged : ℕ → GuestPage → GuestPage → List Held → List Held
 both_merged number first second held =
-    change_held second (mapped (Merged number) None) (change_held first (mapped (Merged number) None) held)
+    change_held second (shares (Merged number)) (change_held first (shares (Merged number)) held)
 
 -- two pages whose entries are known may become the items of a new dup at the place
 pub record CanPair (s : Inside) (p : PagesValue) (place : ℕ) (first second : GuestPage) (pass : ℕ) (one other : Entry) : Type 0 where
@@ -160,9 +168,12 @@ module _ {s : Inside} {p : PagesValue} {place : ℕ} {first second : GuestPage} 
   pub is_free : find (λ d. stands_at place d && is_live d) s.dups.dups ≡ None
   is_free = none_live before _ are.tied may.vacant
 
+  differ : same_page a.row.page b.row.page ≡ false
+  differ = (waits_parts s.knobs b.row a.row may.waits).1
+
   -- two pages that can pair differ
   pub are_apart : same_page first second ≡ false
-  are_apart = ap₂ same_page at_first at_second ∙ may.apart
+  are_apart = ap₂ same_page at_first at_second ∙ differ
 
   own_first : seat (of_dup s) (Some a) ≡ Some one.at
   own_first = own_seat _ pass one may.first_alone
@@ -175,13 +186,10 @@ module _ {s : Inside} {p : PagesValue} {place : ℕ} {first second : GuestPage} 
   pub lay_second : frame_of p.lodgings second ≡ Some other.at
   lay_second = grind (arith, lies, own_seat)
 
-  module _ {tree : ℕ} (in_tree : (r : Row) → r.home ≡ other.home → tree ≡ tree_of s.knobs r) {made between later : DupsState}
-      (is_made : made ≡ with_pair (record { number = s.dups.next; place = place; tree = tree; bytes = b.row.bytes }) first second s.dups)
-      (lawful : AreDups s.dups)
-      (out : between ≡ record made { dups = let_out a.row.state a.row.page made.dups; waiting = between.waiting })
-      (stopped : IsStopped s.knobs a.row made.waiting between.waiting)
-      (out_too : later ≡ record between { dups = let_out b.row.state b.row.page between.dups; waiting = later.waiting })
-      (stopped_too : IsStopped s.knobs b.row between.waiting later.waiting) {number : ℕ} (is_number : number ≡ s.dups.next)
+  module _ {tree : ℕ} (in_tree : (r : Row) → r.home ≡ other.home → tree ≡ tree_of s.knobs r) {later : DupsState}
+      (is_made : later ≡ with_pair (record { number = s.dups.next; place = place; tree = tree; bytes = b.row.bytes }) first second s.dups)
+      (lawful : AreDups s.dups) (led : All (λ h. waiting_state h.row.state ≡ true → is_in h.in_tree ≡ true) s.rows.held)
+      (there : AreInTree s.rows) {number : ℕ} (is_number : number ≡ s.dups.next)
       {rows : RowsView} (turned : rows ≡ record s.rows { held = both_merged number first second s.rows.held }) where
     abbrev frame : ℕ
     frame = one.at
@@ -193,7 +201,7 @@ module _ {s : Inside} {p : PagesValue} {place : ℕ} {first second : GuestPage} 
     item r = record r { state = Merged s.dups.next }
 
     abbrev into : Held → Held
-    into h = mapped (Merged s.dups.next) None h
+    into h = shares (Merged s.dups.next) h
 
     abbrev half : List Held
     half = change_held a.row.page into s.rows.held
@@ -201,7 +209,7 @@ module _ {s : Inside} {p : PagesValue} {place : ℕ} {first second : GuestPage} 
     -- ---------------------------------------------------------------- the dups
 
     now_dups : later.dups ≡ with_new (record { row = dup; items = with_item b.row.page (a.row.page ∷ []) }) s.dups.dups
-    now_dups = grind (arith, let_out_alone, at_first, at_second)
+    now_dups = grind (arith, at_first, at_second)
 
     now_rows : dup_rows later.dups ≡ with_dup dup (dup_rows s.dups.dups)
     now_rows = grind (arith, now_dups, rows_new)
@@ -216,7 +224,7 @@ module _ {s : Inside} {p : PagesValue} {place : ℕ} {first second : GuestPage} 
 
     found_second : held_at b.row.page half ≡ Some b
     found_second =
-        find_changed_other _ _ into (λ h. refl) b.row.page _ may.apart
+        find_changed_other _ _ into (λ h. refl) b.row.page _ differ
         ∙ ap (λ q. held_at q s.rows.held) (sym at_second) ∙ it.also
 
     half_rows : rows_of half ≡ change_row a.row.page item before
@@ -237,18 +245,68 @@ module _ {s : Inside} {p : PagesValue} {place : ℕ} {first second : GuestPage} 
         ∙ changed_to _ _ _ half_order (row_told _ half found_second)
         ∙ ap (change_row b.row.page (λ _. item b.row)) (half_rows ∙ changed_to _ _ _ are.order may.first_is)
 
+    -- ---------------------------------------------------------------- rows that are said to be alone
+
+    abbrev dups_now : List DupRow
+    dups_now = with_dup dup (dup_rows s.dups.dups)
+
+    first_led : (tree_of s.knobs a.row ≡ tree) × (a.row.bytes ≡ b.row.bytes) × (is_in a.in_tree ≡ true)
+    first_led =
+        let parts = waits_parts s.knobs b.row a.row may.waits in (
+          parts.2 ∙ sym (in_tree b.row refl),
+          parts.3,
+          find_all (holds first) (λ h. waiting_state h.row.state ≡ true → is_in h.in_tree ≡ true) _ a it.found led parts.0,
+        )
+
+    -- the tree leads from the content of the dup to the first page
+    to_first : page_in_tree s.rows tree b.row.bytes ≡ Some a.row.page
+    to_first =
+        ap₂ (page_in_tree s.rows) (sym first_led.0) (sym first_led.1)
+        ∙ held_led s.knobs s.rows are.by_node there first it.found first_led.2
+
+    -- another row that is alone is not of the content of the dup
+    not_of_dup : (h : Held) → is_in h.in_tree ≡ true → holds a.row.page h ≡ false
+        → (has_content s.rows.by_node tree b.row.bytes h ≡ true → page_in_tree s.rows tree b.row.bytes ≡ Some h.row.page)
+        → in_group (tree_of s.knobs h.row) h.row.bytes dup ≡ false
+    not_of_dup h in_it other of_content = go _ refl
+      where
+        go : (o : Bool) → in_group (tree_of s.knobs h.row) h.row.bytes dup ≡ o → in_group (tree_of s.knobs h.row) h.row.bytes dup ≡ false
+        go false is = is
+        go true is =
+            let has : has_content s.rows.by_node tree b.row.bytes h ≡ true =
+            grind (arith, nat_tests, in_it, is, tree_is s.knobs are.by_node h.row, eq_bytes b.row.bytes h.row.bytes) in
+            absurd (grind (arith, of_content has, to_first, other, same_page_refl))
+
+    half_alone : AreAlone s.knobs half dups_now
+    half_alone = All-map (IsLone s.knobs dups_now) _ s.rows.held (λ k d lt.
+        let h = get_or s.rows.held k d in
+        cond_both _ _ _ (IsLone s.knobs dups_now) (λ _. shared_lone s.knobs dups_now (Merged s.dups.next) h)
+        (λ apart alone.
+        let none = are.alone k d lt alone in
+        let P : DupRow → Type 0 = λ r. in_group (tree_of s.knobs h.row) h.row.bytes r ≡ false in
+        All-append P (filter (below dup.place) (dup_rows s.dups.dups)) _ (All-filter _ P _ none)
+        (All-cons P dup _ (not_of_dup h (in_where h.in_tree alone) apart (each_led s.rows there tree b.row.bytes k d lt))
+        (All-filter _ P _ none))))
+      where
+        in_where : (t : InTree) → is_alone t ≡ true → is_in t ≡ true
+        in_where t is = grind arith
+
+    now_alone : AreAlone s.knobs rows.held (dup_rows later.dups)
+    now_alone =
+        rw (now_held, now_rows)
+        (lone_changed s.knobs dups_now b.row.page into half half_order found_second
+        (λ _. shared_lone s.knobs dups_now (Merged s.dups.next) b) half_alone)
+
     -- the pages are lawful once two of them became the items of a new dup
-    pub lawful_paired : AreKept s.shape s.knobs (rows_of rows.held) later (set s.frames.items place frame)
+    pub lawful_paired : AreKept s.shape s.knobs rows later (set s.frames.items place frame)
     lawful_paired = record {
       small = are.small;
       order = rw both_rows (ordered_change _ _ _ (λ r. refl) half_order);
       tied = rw whole (rw now_dups (tied_made _ _ _ _ are.order may.first_is may.second_is (own_not_merged _ may.first_alone)
           (own_not_merged _ may.second_alone) may.fresh _ lawful.numbers_below are.tied));
-      places = (λ i. (out_too i).places) ∙ (λ i. (out i).places) ∙ (λ i. (is_made i).places)
-          ∙ are.places;
-      waits = rw whole (row_stopped s.knobs _ _ (row_stopped s.knobs _ _ are.waits _ _ _ may.first_is refl
-          (subst (λ w. IsStopped s.knobs a.row w between.waiting) (λ i. (is_made i).waiting) stopped))
-          _ _ _ (at_others _ b.row.page before may.apart ∙ may.second_is) refl stopped_too);
+      places = (λ i. (is_made i).places) ∙ are.places;
+      by_node = (λ i. (turned i).by_node) ∙ are.by_node;
+      alone = now_alone;
       room = length-set s.frames.items place frame ∙ are.room;
     }
 
@@ -291,10 +349,9 @@ module _ {s : Inside} {p : PagesValue} {place : ℕ} {first second : GuestPage} 
         ≡ paired place a.row b.row (seen (view_of s))
     told =
         let changed = both_rows ∙ ap (change_row b.row.page item) half_rows
-        ∙ both_changed _ _ _ (λ r. refl) may.apart _ in
+        ∙ both_changed _ _ _ (λ r. refl) differ _ in
         let dups = now_rows ∙ ap (λ t. with_dup (record dup { tree = t }) (dup_rows s.dups.dups)) (in_tree b.row refl) in
-        let next = (λ i. (out_too i).next) ∙ (λ i. (out i).next) ∙ (λ i. (is_made i).next) in
-        λ i. record (seen (view_of s)) { rows = changed i; frame = now_lie i; dups = dups i; next = next i }
+        λ i. record (seen (view_of s)) { rows = changed i; frame = now_lie i; dups = dups i; next = (is_made i).next }
 
     -- once two pages became the items of a new dup, the pages are seen as paired on the first one's frame
     pub told_paired : let now = seen (view_of (record s { rows = rows; dups = later; frames = with_frame s.frames place frame })) in

@@ -21,11 +21,14 @@ went r alone = grind arith
 pub settled_again : (state : PageState) → settled_state (settled_state state) ≡ settled_state state
 settled_again state = grind arith
 
--- a settled state is not Waiting
-pub settled_still : (state : PageState) → waiting_state (settled_state state) ≡ false
-settled_still state = grind arith
-
 -- a page in two states that settle to one lies on the same frame
 pub lies_alike : (of_dup : ℕ → Option ℕ) (a b : PageState) (own : Option ℕ) → settled_state a ≡ settled_state b
     → frame_seen of_dup a own ≡ frame_seen of_dup b own
 lies_alike of_dup a b own like = grind arith
+
+-- a row that does not wait is settled
+pub idle_settled : (r : Row) → waiting_state r.state ≡ false → settled r ≡ r
+idle_settled r idle = λ i. record r { state = same r.state idle i }
+  where
+    same : (state : PageState) → waiting_state state ≡ false → settled_state state ≡ state
+    same state is = grind arith

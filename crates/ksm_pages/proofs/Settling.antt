@@ -3,9 +3,11 @@ use Rattle.ksm_pages.proofs.Names.{ap, AreFiled, AreListed, arith, Bool, CalledA
 use Rattle.ksm_pages.proofs.Names.{Listing, map, MutBor, Named, None, on_row, Option, option_map, PageState, refl, RetainsFrom, Row, rows_of, rules, settled, Slab, Some, sym, Tally, true, ℕ, [], ◌+◌}
 use Rattle.ksm_pages.proofs.Names.{◌∙◌, ◌∷◌, ◌≡◌, ◌≤◌}
 use Rattle.ksm_pages.proofs.Options.{mapped_some}
-use Rattle.ksm_base.specs.Rows.{merged_state, waiting_state, zero_state}
+use Rattle.ksm_base.specs.Rows.{merged_state, settled_state, waiting_state, zero_state}
 use Rattle.std.proofs.Math.ListN.{get_or-map}
+use Rattle.ksm_pages.specs.declared.row.InTree.TheVariants.{Not}
 use Rattle.ksm_pages.specs.declared.row.Kind.TheVariants as kinds
+use Rattle.ksm_pages.specs.Held.{out_of_tree}
 use Rattle.ksm_tree.proofs.Alike.{count_mapped, map_mapped}
 use Rattle.ksm_pages.proofs.Filing.{all_stand}
 
@@ -27,13 +29,13 @@ counts_alike f p q same held =
     ∙ sym (grind (arith, count_mapped))
 
 -- the tally of rows of which none waits any more
-tally_settled : (held : List Held) {tally : Tally} → IsTally (rows_of held) tally
-    → IsTally (rows_of (map (on_row settled) held)) (record tally { waiting = 0 })
-tally_settled held are = record {
-  merged = are.merged ∙ sym (counts_alike _ merged_state merged_state (λ h. grind arith) held);
-  waiting = sym (counts_alike (on_row settled) waiting_state (λ s. false) (λ h. grind arith) held
+tally_settled : (f : Held → Held) → ((h : Held) → (f h).row.state ≡ settled_state h.row.state) → (held : List Held) {tally : Tally}
+    → IsTally (rows_of held) tally → IsTally (rows_of (map f held)) (record tally { waiting = 0 })
+tally_settled f is held are = record {
+  merged = are.merged ∙ sym (counts_alike f merged_state merged_state (λ h. grind (arith, is h)) held);
+  waiting = sym (counts_alike f waiting_state (λ s. false) (λ h. grind (arith, is h)) held
       ∙ count_none (λ r. false) (rows_of held) (λ k d lt. refl));
-  zero = are.zero ∙ sym (counts_alike _ zero_state zero_state (λ h. grind arith) held);
+  zero = are.zero ∙ sym (counts_alike f zero_state zero_state (λ h. grind (arith, is h)) held);
 }
 
 -- the tally of rows whose states stay
@@ -98,7 +100,7 @@ module _ {slab : Slab Entry} {order : List Named} {restless : Listing} {tally : 
     ascending = are.ascending;
     filed = are.filed;
     listed = are.listed;
-    counted = rw next_seen (tally_settled _ are.counted);
+    counted = rw next_seen (tally_settled (on_row settled) (λ h. refl) _ are.counted);
     begun = grind arith;
     counting = omega arith;
   }
@@ -115,7 +117,7 @@ module _ {slab : Slab Entry} {order : List Named} {restless : Listing} {tally : 
     pub anew_rows : IsRows later order restless (record tally { waiting = 0 }) 1
     anew_rows =
         all_rows are later 1 forgotten slots (λ e. refl) (λ e. refl) (λ e. refl) _ settled_anew
-        (λ k e stands own. grind arith) (omega arith) (tally_settled _ are.counted)
+        (λ k e stands own. grind arith) (omega arith) (tally_settled (on_row settled) (λ h. refl) _ are.counted)
 
   abbrev plain : Entry → Entry
   plain e = record e { unchanged = false }
@@ -133,3 +135,20 @@ module _ {slab : Slab Entry} {order : List Named} {restless : Listing} {tally : 
     plain_rows =
         all_rows are later pass plain slots (λ e. refl) (λ e. refl) (λ e. refl) (on_row told_plain) (λ k e stands. refl)
         are.begun are.counting (search (rules, tally_kept))
+
+  abbrev out : Entry → Entry
+  out e = record e { in_tree = Not }
+
+  module _ (later : Slab Entry) (slots : later.slots ≡ map (option_map out) slab.slots) where
+    out_again : (e : Entry) → held_of pass (out e) ≡ out_of_tree (held_of pass e)
+    out_again e = grind arith
+
+    -- once the unstable tree leads to no entry, each row is seen so, and waits no more
+    pub out_seen : held_in pass later order ≡ map out_of_tree (held_in pass slab order)
+    out_seen = all_seen are later pass out slots (λ e. refl) (λ e. refl) (λ e. refl) out_of_tree (λ k e stands. out_again e)
+
+    -- once the unstable tree leads to no entry, the rows are lawful, with none that waits
+    pub out_rows : IsRows later order restless (record tally { waiting = 0 }) pass
+    out_rows =
+        all_rows are later pass out slots (λ e. refl) (λ e. refl) (λ e. refl) out_of_tree (λ k e stands. out_again e)
+        are.begun are.counting (tally_settled out_of_tree (λ h. refl) _ are.counted)

@@ -1,45 +1,36 @@
 -- The pages once a call changed the row of one page: they are lawful, and what is seen of them changed so.
-use Rattle.ksm_pages.proofs.Names.{All-map, ap, AreWaiting, arith, at_mapped, change_held, change_row, cond_both, DupsState, false, find_passes, frame_of, frame_seen, get_or, GuestPage, Held, held_at}
-use Rattle.ksm_pages.proofs.Names.{if◌then◌else◌, Inside, IsAlone, IsKnown, IsLeft, let_out, lies_on, List, lodgings_of, map, mapped, MatchOption, merged_state, None, none_waiting, on_row, Option}
-use Rattle.ksm_pages.proofs.Names.{option_map, ordered_map, ordered_without, PageState, PagesValue, Private, refl, Row, row_at, row_dropped, rows_of, rows_out, RowsView, same_page, same_page_eq, seen}
-use Rattle.ksm_pages.proofs.Names.{settled_state, shared_state, Some, sym, tied_dropped, tied_left, tied_mapped, waiting_state, waits_there, without_held, without_page, ℕ, [], ⊤, ◌∙◌, ◌≡◌}
+use Rattle.ksm_pages.proofs.Names.{All, All-head, All-map, All-tail, ap, arith, Bool, change_held, change_row, cond_both, DupsState, false, frame_of, frame_seen, get_or, GuestPage, Held, held_at, if◌then◌else◌, inl, inr, in_group, InTree, Inside, IsAlone, IsKnown, Knobs}
+use Rattle.ksm_pages.proofs.Names.{IsLeft, let_out, lies_on, List, lodgings_of, map, MatchOption, merged_state, None, not, Option, ordered_map, ordered_without, PageState, PagesValue, Private, private_state}
+use Rattle.ksm_pages.proofs.Names.{on_row, out_of_tree, refl, Row, row_at, rows_of, rows_out, RowsView, same_page, seen, settled, settled_state, shared_state, Some, subst, sym, tied_dropped, tied_left, tied_mapped, tree_of, true, true≢false, waiting_state, without_held}
+use Rattle.ksm_pages.proofs.Names.{without_page, ℕ, [], ⊤, ◌∙◌, ◌∷◌, ◌==◌, ◌≡◌, ◌⊎◌}
+use Rattle.std.specs.List.{AllByRecursion}
 use Rattle.ksm_base.specs.Apply.{let_go}
-use Rattle.std.proofs.lemmas.Bool.{some_since}
-use Rattle.ksm_tree.proofs.Alike.{map_alike, map_mapped}
-use Rattle.ksm_pages.proofs.Changing.{rows_mapped, rows_without}
+use Rattle.ksm_pages.specs.Paged.{HasRow}
+use Rattle.ksm_tree.specs.Dups.{rows_of as dup_rows}
+use Rattle.ksm_tree.proofs.Alike.{map_mapped}
+use Rattle.ksm_pages.specs.Held.{is_alone}
+use Rattle.ksm_pages.proofs.Changing.{rows_without}
+use Rattle.ksm_pages.proofs.Joined.{let_out_alone}
 use Rattle.ksm_pages.proofs.Lodgings.{lodged_gone, seat}
-use Rattle.ksm_pages.proofs.Leaving.{alone_found, AreLawful, Comes, comes, known_there, lies, of_dup, of_page, row_there, stays_there, stops, turned_so, view_of}
-use Rattle.ksm_pages.proofs.Resting.{lies_alike, settled_again, settled_still}
-
--- equal values of the rows hold the same
-pub held_as : {old new : RowsView} → new ≡ old → new.held ≡ old.held
-held_as same = λ i. (same i).held
+use Rattle.ksm_pages.proofs.Leaving.{alone_found, alone_there, AreLawful, Become, Comes, comes, held_as, known_there, lies, of_dup, of_page, row_seen, row_there, stays_there, turned_so, view_of}
+use Rattle.ksm_pages.proofs.Lone.{IsLone, lone_mapped, lone_without, out_lone}
+use Rattle.ksm_pages.proofs.Resting.{idle_settled, lies_alike, settled_again}
 
 -- ---------------------------------------------------------------- a page that leaves what it is in
 
--- a page has a row, and is let out of its dup or of the pages that wait
+-- a page has a row, and is let out of its dup
 pub record HasLeft (s : Inside) (p : PagesValue) (page : GuestPage) (later : DupsState) (frames : List ℕ) (lone : Option ℕ) : Type 0 where
   pub lawful : AreLawful s
   pub seen_as : view_of s ≡ p
   pub held : Held
   pub found : held_at page s.rows.held ≡ Some held
-  pub left : IsLeft s.knobs frames s.dups later lone held
+  pub left : IsLeft frames s.dups later lone held
 
 module _ {s : Inside} {p : PagesValue} {page : GuestPage} {later : DupsState} {frames : List ℕ} {lone : Option ℕ} where
-  -- a page whose row is held, and which was let out, has left
-  abbrev pub found_left : AreLawful s → view_of s ≡ p → {h : Held} → held_at page s.rows.held ≡ Some h
-      → IsLeft s.knobs frames s.dups later lone h → HasLeft s p page later frames lone
-  found_left are seen_as {h = h} found left = record { lawful = are; seen_as = seen_as; held = h; found = found; left = left }
-
   -- a page that is known, and which was let out, has left
   pub known_left : AreLawful s → view_of s ≡ p → IsKnown page p.rows
-      → MatchOption (held_at page s.rows.held) ⊤ (IsLeft s.knobs frames s.dups later lone) → HasLeft s p page later frames lone
+      → MatchOption (held_at page s.rows.held) ⊤ (IsLeft frames s.dups later lone) → HasLeft s p page later frames lone
   known_left are seen_as known left = grind (arith, known_there, seen_as)
-
-  -- a page with a frame of its own, which was let out, has left
-  pub alone_left : AreLawful s → view_of s ≡ p → IsAlone page p.rows
-      → MatchOption (held_at page s.rows.held) ⊤ (IsLeft s.knobs frames s.dups later lone) → HasLeft s p page later frames lone
-  alone_left are seen_as alone = grind (arith, known_left, some_since)
 
   module _ (it : HasLeft s p page later frames lone) where
     -- a page that has left lay on the frame that is told
@@ -52,119 +43,237 @@ module _ {s : Inside} {p : PagesValue} {page : GuestPage} {later : DupsState} {f
     there : row_at page (rows_of s.rows.held) ≡ Some it.held.row
     there = row_there s it.lawful page it.found
 
-    out : later ≡ record s.dups { dups = let_out it.held.row.state page s.dups.dups; waiting = later.waiting }
+    out : later ≡ record s.dups { dups = let_out it.held.row.state page s.dups.dups }
     out = grind (arith, at, it.left.dups)
+
+    abbrev StaysLone : Held → Type 0
+    StaysLone to = IsLone s.knobs (dup_rows s.dups.dups) it.held → IsLone s.knobs (dup_rows s.dups.dups) to
 
     module _ (rows : RowsView) where
       left_so : (f : Held → Held) (g : Row → Row) → ((x : Held) → (f x).row ≡ g x.row)
           → ((r : Row) → (g r).page ≡ r.page)
-          → rows.held ≡ change_held page f s.rows.held → (to : Row → Row) → g it.held.row ≡ to it.held.row
+          → Become s.rows rows (change_held page f s.rows.held) → (to : Row → Row) → g it.held.row ≡ to it.held.row
           → merged_state (to it.held.row).state ≡ false
-          → waiting_state (to it.held.row).state ≡ false → {frame : Option ℕ}
+          → StaysLone (f it.held) → {frame : Option ℕ}
           → seat (of_dup s) (Some (f it.held)) ≡ frame
           → Comes s rows later (record (seen p) { rows = change_row page to p.rows; frame = lies_on page frame (frame_of p.lodgings) })
-      left_so f g is same turned to agree apart still =
+      left_so f g is same turned to agree apart keeps =
           turned_so s it.lawful page it.found it.seen_as rows f g is same turned out (rows_out _ _ _) to agree
-          (tied_left _ _ _ it.lawful.order there _ _ apart it.lawful.tied)
-          (stops s it.lawful page it.found _ ((λ i. (sym agree i).page) ∙ same it.held.row ∙ at) still _
-          it.left.waiting)
+          (tied_left _ _ _ it.lawful.order there _ _ apart it.lawful.tied) keeps
 
       -- a page that has left comes to another state and lies where that state and its frame say
-      pub moved : (state : PageState) (own : Option ℕ) → merged_state state ≡ false → waiting_state state ≡ false
-          → rows.held ≡ change_held page (mapped state own) s.rows.held
+      pub moved : (state : PageState) (own : Option ℕ) (in_tree : InTree → InTree)
+          → ((t : InTree) → is_alone (in_tree t) ≡ true → is_alone t ≡ true) → merged_state state ≡ false
+          → Become s.rows rows (change_held page
+          (λ h. record { row = record h.row { state = state }; frame = own; in_tree = in_tree h.in_tree }) s.rows.held)
           → Comes s rows later (record (seen p) {
             rows = change_row page (λ r. record r { state = state }) p.rows;
             frame = lies_on page (frame_seen (of_dup s) state own) (frame_of p.lodgings);
           })
-      moved state own apart still turned =
-          left_so (mapped state own) (λ r. record r { state = state }) (λ x. refl) (λ r. refl) turned _ refl apart
-          still refl
+      moved state own in_tree less apart turned =
+          left_so (λ h. record { row = record h.row { state = state }; frame = own; in_tree = in_tree h.in_tree })
+          (λ r. record r { state = state }) (λ x. refl) (λ r. refl) turned _ refl apart
+          (λ lone is. lone (less it.held.in_tree is)) refl
 
       -- a page that has left is let go, on a frame of its own
-      pub gone_on : (frame : ℕ) → rows.held ≡ change_held page (λ h. record { row = let_go h.row; frame = Some frame }) s.rows.held
+      pub gone_on : (frame : ℕ) → Become s.rows rows (change_held page (λ h. record h { row = let_go h.row; frame = Some frame }) s.rows.held)
           → Comes s rows later (record (seen p) { rows = change_row page let_go p.rows; frame = lies_on page (Some frame) (frame_of p.lodgings) })
       gone_on frame turned =
-          left_so (λ h. record { row = let_go h.row; frame = Some frame }) let_go (λ x. refl) (λ r. refl) turned let_go
-          refl refl refl refl
+          left_so (λ h. record h { row = let_go h.row; frame = Some frame }) let_go (λ x. refl) (λ r. refl) turned let_go
+          refl refl (λ lone. lone) refl
 
-      -- a page that has left comes to be Private, on the frame of its own that it had
-      pub rested : (g to : Row → Row) → ((r : Row) → (g r).page ≡ r.page) → ((r : Row) → (to r).state ≡ Private) → IsAlone page p.rows
+      -- a page with a frame of its own comes to be Private there
+      pub rested : (f : Held → Held) (g to : Row → Row) → ((x : Held) → (f x).row ≡ g x.row) → ((x : Held) → (f x).frame ≡ x.frame)
+          → ((r : Row) → (g r).page ≡ r.page) → (to it.held.row).state ≡ Private → IsAlone page p.rows
           → (shared_state it.held.row.state ≡ false → g it.held.row ≡ to it.held.row)
-          → rows.held ≡ change_held page (on_row g) s.rows.held
+          → StaysLone (f it.held)
+          → Become s.rows rows (change_held page f s.rows.held)
           → Comes s rows later (record (seen p) { rows = change_row page to p.rows })
-      rested g to same rest alone_seen agree turned =
+      rested f g to is framed same private alone_seen agree keeps turned =
           let alone = alone_found s it.seen_as _ it.found alone_seen in
-          let private = rest it.held.row in
           let own = lies s it.lawful page it.found it.seen_as in
-          stays_there p page (left_so (on_row g) g (λ x. refl) same turned to (agree alone) (grind (arith, private))
-          (grind (arith, private))
-          (grind (arith, agree alone, private, alone, own)))
+          stays_there p page (left_so f g is same turned to (agree alone) (grind (arith, private)) keeps
+          (grind (arith, is it.held, framed it.held, agree alone, private, alone, own)))
 
       -- a page that has left and whose row is gone is seen no more, and lies on no frame
-      pub parted : rows.held ≡ without_held page s.rows.held
+      pub parted : Become s.rows rows (without_held page s.rows.held)
           → Comes s rows later (record (seen p) {
             rows = without_page page p.rows;
             frame = lies_on page None (frame_of p.lodgings);
           })
       parted gone =
           rw (← it.seen_as)
-          (comes s it.lawful rows (ap rows_of gone ∙ rows_without page _) out (rows_out _ _ _)
+          (comes s it.lawful rows gone (rows_without page _) out (rows_out _ _ _)
           (ordered_without _ _ it.lawful.order)
           (tied_dropped _ _ _ it.lawful.order there _ it.lawful.tied)
-          (row_dropped s.knobs _ _ it.lawful.waits _ _ _ there it.left.waiting)
-          (ap (λ held. frame_of (lodgings_of (of_dup s) held)) gone ∙ lodged_gone _ _ _))
+          (lone_without s.knobs _ page _ it.lawful.alone)
+          (lodged_gone _ _ _))
+
+-- a page with a frame of its own is in no dup, and leaves nothing
+pub own_left : {s : Inside} {p : PagesValue} {page : GuestPage} → AreLawful s → view_of s ≡ p → IsAlone page p.rows
+    → HasLeft s p page s.dups s.frames.items (frame_of p.lodgings page)
+own_left {s} {p} {page} are seen_as alone = go _ refl
+  where
+    go : (o : Option Held) → held_at page s.rows.held ≡ o → HasLeft s p page s.dups s.frames.items (frame_of p.lodgings page)
+    go None gone = absurd (true≢false (alone_there s seen_as page gone alone))
+    go (Some h) found = record {
+      lawful = are;
+      seen_as = seen_as;
+      held = h;
+      found = found;
+      left = record {
+        dups = λ i. record s.dups { dups = sym (let_out_alone h.row.state h.row.page {dups = s.dups.dups} (alone_found s seen_as page found alone)) i };
+        frame = sym (lies s are page found seen_as);
+      };
+    }
+
+-- a page with a Private row has a frame of its own
+pub private_alone : (p : PagesValue) (page : GuestPage) → HasRow page p.rows (λ r. private_state r.state ≡ true) → IsAlone page p.rows
+private_alone p page is = go _ refl is
+  where
+    go : (o : Option Row) → row_at page p.rows ≡ o → MatchOption o (true ≡ false) (λ r. private_state r.state ≡ true)
+        → MatchOption (row_at page p.rows) (true ≡ false) (λ r. shared_state r.state ≡ false)
+    go None at is = rw at is
+    go (Some r) at is = rw at (grind arith)
+
+-- what is held of it has a Private row
+pub private_left : {s : Inside} {p : PagesValue} {page : GuestPage} {later : DupsState} {frames : List ℕ} {lone : Option ℕ}
+    → (it : HasLeft s p page later frames lone) → HasRow page p.rows (λ r. private_state r.state ≡ true) → it.held.row.state ≡ Private
+private_left {s} {p} {page} it is =
+    let at = row_seen s it.seen_as page it.found in
+    private_is it.held.row.state (subst (λ o. MatchOption o (true ≡ false) (λ (r : Row). private_state r.state ≡ true)) at is)
+  where
+    private_is : (state : PageState) → private_state state ≡ true → state ≡ Private
+    private_is state is = grind arith
 
 -- ---------------------------------------------------------------- rows that change where they lie
 
+rows_by : (F : Held → Held) (f : Row → Row) → ((x : Held) → (F x).row ≡ f x.row) → (held : List Held)
+    → rows_of (map F held) ≡ map f (rows_of held)
+rows_by F f is [] = refl
+rows_by F f is (h ∷ held) = grind (arith, is h, rows_by F f is held)
+
 module _ (s : Inside) (are : AreLawful s) {p : PagesValue} (seen_as : view_of s ≡ p) where
-  abbrev before : List Row
-  before = rows_of s.rows.held
-
-  -- where rows change, but for pages and dups, and the right pages wait, all rows are seen changed so
-  pub still : (f : Row → Row) → ((r : Row) → (f r).page ≡ r.page) → ((r : Row) → settled_state (f r).state ≡ settled_state r.state)
-      → (rows : RowsView) → rows.held ≡ map (on_row f) s.rows.held → (later : DupsState)
-      → later ≡ record s.dups { waiting = later.waiting }
-      → AreWaiting s.knobs (map f before) later.waiting
-      → Comes s rows later (record (seen p) { rows = map f p.rows })
-  still f pages like rows turned later rest waits =
+  -- where rows change, but for pages and dups, and those that are said to be alone were so, all rows are seen changed so
+  pub still : (F : Held → Held) (f : Row → Row) → ((x : Held) → (F x).row ≡ f x.row) → ((x : Held) → (F x).frame ≡ x.frame)
+      → ((r : Row) → (f r).page ≡ r.page) → ((r : Row) → settled_state (f r).state ≡ settled_state r.state)
+      → ((x : Held) → IsLone s.knobs (dup_rows s.dups.dups) x → IsLone s.knobs (dup_rows s.dups.dups) (F x))
+      → (rows : RowsView) → Become s.rows rows (map F s.rows.held)
+      → Comes s rows s.dups (record (seen p) { rows = map f p.rows })
+  still F f is framed pages like keeps rows turned =
       rw (← seen_as)
-      (comes s are rows (ap rows_of turned ∙ rows_mapped f s.rows.held) rest refl (ordered_map f _ pages are.order)
-      (tied_mapped f _ _ (λ k d lt. (pages _, λ number. grind (arith, like (get_or before k d)))) are.tied) waits
-      (grind (arith, map_mapped, lies_alike)))
-
-  -- where every row is settled by a change and no page waits any more, all rows are seen changed so
-  pub rest_all : (f : Row → Row) → ((r : Row) → (f r).page ≡ r.page) → ((r : Row) → (f r).state ≡ settled_state r.state) → (rows : RowsView)
-      → rows.held ≡ map (on_row f) s.rows.held → {later : DupsState} → later ≡ record s.dups { waiting = [] }
-      → Comes s rows later (record (seen p) { rows = map f p.rows })
-  rest_all f pages states rows turned cleared =
-      still f pages (λ r. grind (arith, states r, settled_again)) _ turned _ (grind arith)
-      (rw cleared (none_waiting s.knobs _ (All-map (λ r. waiting_state r.state ≡ false) f _
-      (λ k d lt. grind (arith, states (get_or before k d), settled_still)))))
-
-  -- where a row changes, but for its page, state and where it waits, only that row is seen changed
-  pub stays : (page : GuestPage) (g : Row → Row) → ((r : Row) → (g r).page ≡ r.page) → ((r : Row) → (g r).state ≡ r.state)
-      → ((r : Row) → row_at page p.rows ≡ Some r → (t : ℕ) (b : List ℕ)
-      → waits_there s.knobs t b (Some (g r)) ≡ waits_there s.knobs t b (Some r))
-      → (rows : RowsView) → rows.held ≡ change_held page (on_row g) s.rows.held
-      → Comes s rows s.dups (record (seen p) { rows = change_row page g p.rows })
-  stays page g same states alike rows turned =
-      still f (λ r. grind (arith, same r)) (λ r. grind (arith, states r)) rows
-      (grind (arith, map_alike)) _ refl waiting
+      (comes s are rows turned (rows_by F f is s.rows.held) refl refl (ordered_map f _ pages are.order)
+      (tied_mapped f _ _ (λ k d lt. (pages _, λ number. grind (arith, like (get_or (rows_of s.rows.held) k d)))) are.tied)
+      (lone_mapped s.knobs _ F keeps _ are.alone)
+      (λ i. frame_of (lodged (s.rows.held) i)))
     where
-      f : Row → Row
-      f r = if same_page r.page page then g r else r
+      lodged : (held : List Held) → lodgings_of (of_dup s) (map F held) ≡ lodgings_of (of_dup s) held
+      lodged [] = refl
+      lodged (h ∷ held) =
+          grind (arith, lodged held, is h, framed h, pages h.row, lies_alike (of_dup s) (f h.row).state h.row.state h.frame (like h.row))
 
-      waiting : AreWaiting s.knobs (map f before) s.dups.waiting
-      waiting t b q = are.waits t b q ∙ go _ refl
-          ∙ ap (waits_there s.knobs t b) (grind (arith, at_mapped, f))
-        where
-          go : (o : Option Row) → row_at q before ≡ o → waits_there s.knobs t b o ≡ waits_there s.knobs t b (option_map f o)
-          go None is = refl
-          go (Some r) is =
-              cond_both _ _ _ (λ x. waits_there s.knobs t b (Some r) ≡ waits_there s.knobs t b (Some x))
-              (λ at. sym (alike r (grind (
-                arith,
-                same_page_eq r.page,
-                find_passes (λ x. same_page x.page q) before r
-                    is,
-              )) t b)) (λ _. refl)
+  -- where a row changes, but for its page and state, only that row is seen changed
+  pub stays : (page : GuestPage) (g : Row → Row) → ((r : Row) → (g r).page ≡ r.page) → ((r : Row) → (g r).state ≡ r.state)
+      → ((x : Held) → IsLone s.knobs (dup_rows s.dups.dups) x → IsLone s.knobs (dup_rows s.dups.dups) (record x { row = g x.row }))
+      → (rows : RowsView) → Become s.rows rows (change_held page (λ h. record h { row = g h.row }) s.rows.held)
+      → Comes s rows s.dups (record (seen p) { rows = change_row page g p.rows })
+  stays page g same states keeps rows turned =
+      still (λ h. if same_page h.row.page page then record h { row = g h.row } else h) (λ r. if same_page r.page page then g r else r)
+      (λ x. grind arith) (λ x. grind arith) (λ r. grind (arith, same r)) (λ r. grind (arith, states r))
+      (λ x lone. cond_both _ _ _ (IsLone s.knobs (dup_rows s.dups.dups)) (λ _. keeps x lone) (λ _. lone)) rows turned
+
+  -- where no row waits any more, and the tree then leads to none or to those that it did, all rows are seen settled
+  pub settle_then : {rows later : RowsView} {pass : ℕ} → rows ≡ record s.rows { held = map (on_row settled) s.rows.held; pass = pass }
+      → (later ≡ rows) ⊎ (later ≡ record rows { held = map out_of_tree rows.held })
+      → Comes s later s.dups (record (seen p) { rows = map settled p.rows })
+  settle_then {rows} {later} turned (inl same) =
+      still (on_row settled) settled (λ x. refl) (λ x. refl) (λ r. refl) (λ r. settled_again r.state) (λ x lone. lone) later
+      (held_as (same ∙ turned))
+  settle_then {rows} {later} turned (inr out) =
+      still (λ h. out_of_tree (on_row settled h)) settled (λ x. (λ i. record x.row { state = settled_again x.row.state i })) (λ x. refl)
+      (λ r. refl) (λ r. settled_again r.state) (λ x _. out_lone s.knobs (dup_rows s.dups.dups) (on_row settled x)) later
+      (record {
+        held = (λ i. (out i).held) ∙ (λ i. map out_of_tree (turned i).held) ∙ map_mapped _ _ _ s.rows.held (λ k d lt. refl);
+        by_node = (λ i. (out i).by_node) ∙ (λ i. (turned i).by_node);
+      })
+
+-- ---------------------------------------------------------------- other knobs
+
+trees_alike : (knobs tuned : Knobs) (row : Row) → not (tuned.merge_across_nodes == 1) ≡ not (knobs.merge_across_nodes == 1)
+    → tree_of tuned row ≡ tree_of knobs row
+trees_alike knobs tuned row same = grind arith
+
+never_not : (b : Bool) → b ≡ not b → true ≡ false
+never_not b same = grind arith
+
+module _ (s : Inside) (are : AreLawful s) (knobs : Knobs) {by_node : Bool} (is : by_node ≡ not (knobs.merge_across_nodes == 1)) (rows : RowsView) where
+  abbrev Tuned : Type 0
+  Tuned = AreLawful (record s { rows = rows; knobs = knobs })
+      × (seen (view_of (record s { rows = rows; knobs = knobs })) ≡ record (seen (view_of s)) { knobs = knobs })
+
+  tuned_same : by_node ≡ s.rows.by_node → rows ≡ s.rows → Tuned
+  tuned_same by same = (
+    record {
+      small = are.small;
+      order = rw same are.order;
+      tied = rw same are.tied;
+      places = are.places;
+      by_node = (λ i. (same i).by_node) ∙ sym by ∙ is;
+      alone = rw same (λ k d lt alone. subst
+          (λ t. All (λ r. in_group t (get_or s.rows.held k d).row.bytes r ≡ false) (dup_rows s.dups.dups))
+          (sym (trees_alike s.knobs knobs (get_or s.rows.held k d).row (sym is ∙ by ∙ are.by_node))) (are.alone k d lt alone));
+      room = are.room;
+    },
+    λ i. seen (view_of (record s { rows = same i; knobs = knobs })),
+  )
+
+  tuned_out : All (λ r. waiting_state r.state ≡ false) (rows_of s.rows.held)
+      → rows ≡ record s.rows { held = map out_of_tree s.rows.held; by_node = by_node } → Tuned
+  tuned_out idle went =
+      let held_now : rows.held ≡ map out_of_tree s.rows.held = λ i. (went i).held in
+      let all_idle = idle_held s.rows.held (idle) in
+      let rows_now : rows_of rows.held ≡ rows_of s.rows.held = ap rows_of held_now ∙ rows_stay s.rows.held all_idle in (
+        record {
+          small = are.small;
+          order = rw rows_now are.order;
+          tied = rw rows_now are.tied;
+          places = are.places;
+          by_node = (λ i. (went i).by_node) ∙ is;
+          alone = rw held_now (All-map (IsLone knobs (dup_rows s.dups.dups)) out_of_tree s.rows.held
+              (λ k d lt. out_lone knobs (dup_rows s.dups.dups) (get_or s.rows.held k d)));
+          room = are.room;
+        },
+        λ i. record (seen (view_of s)) {
+          rows = rows_now i;
+          frame = frame_of ((ap (lodgings_of (of_dup s)) held_now ∙ lodgings_stay s.rows.held all_idle) i);
+          knobs = knobs;
+        },
+      )
+    where
+      idle_held : (held : List Held) → All (λ r. waiting_state r.state ≡ false) (rows_of held) → AllByRecursion (λ h. settled h.row ≡ h.row) held
+      idle_held [] all = tt
+      idle_held (h ∷ held) all = (
+        idle_settled h.row (All-head (λ r. waiting_state r.state ≡ false) h.row (rows_of held) all),
+        idle_held held (All-tail (λ r. waiting_state r.state ≡ false) h.row (rows_of held) all),
+      )
+
+      rows_stay : (held : List Held) → AllByRecursion (λ h. settled h.row ≡ h.row) held → rows_of (map out_of_tree held) ≡ rows_of held
+      rows_stay [] all = refl
+      rows_stay (h ∷ held) all = λ i. all.0 i ∷ rows_stay held all.1 i
+
+      lodgings_stay : (held : List Held) → AllByRecursion (λ h. settled h.row ≡ h.row) held
+          → lodgings_of (of_dup s) (map out_of_tree held) ≡ lodgings_of (of_dup s) held
+      lodgings_stay [] all = refl
+      lodgings_stay (h ∷ held) all =
+          λ i. record { page = h.row.page; frame = frame_seen (of_dup s) (all.0 i).state h.frame } ∷ lodgings_stay held all.1 i
+
+  -- knobs that keep the trees of the rows, or under which no row waits, leave the pages lawful, and are seen
+  pub tuned : ((by_node ≡ s.rows.by_node) × (rows ≡ s.rows))
+      ⊎ ((by_node ≡ not s.rows.by_node) × (rows ≡ record s.rows { held = map out_of_tree s.rows.held; by_node = by_node }))
+      → (knobs.merge_across_nodes ≡ s.knobs.merge_across_nodes) ⊎ All (λ r. waiting_state r.state ≡ false) (rows_of s.rows.held)
+      → Tuned
+  tuned (inl same) may = tuned_same same.0 same.1
+  tuned (inr went) (inr idle) = tuned_out idle went.1
+  tuned (inr went) (inl merge) =
+      absurd (true≢false (never_not s.rows.by_node
+      (are.by_node ∙ (λ i. not (sym merge i == 1)) ∙ sym is ∙ went.0)))

@@ -1,17 +1,22 @@
 -- What a visit finds of a row that it may change, and the pages once the row waits.
-use Rattle.ksm_pages.proofs.Names.{all_zero, and_parts, ap, AreTied, arith, Best, best_dup, best_found, best_of, Bool, change_held, change_row, Dup, DupsState, Entry, false, Find, Finds, FindsAt}
-use Rattle.ksm_pages.proofs.Names.{found_at, GuestPage, Held, held_at, held_of, Inside, is_for_zero, IsAdded, IsAlone, List, MatchOption, None, not, not-true, number_of, on_row, Option, option_map}
-use Rattle.ksm_pages.proofs.Names.{PagesValue, PagesView, partner, Private, refl, Row, row_at, rows_of, RowsView, rules, same_page, seen, shared_state, Some, subst, sym, tied_counted, tied_left}
-use Rattle.ksm_pages.proofs.Names.{tree_of, true, unwrap_or, Waiting, waiting_page, ℕ, ◌&&◌, ◌==◌, ◌∙◌, ◌≡◌}
-use Rattle.ksm_pages.proofs.Options.{none_mapped}
-use Rattle.std.specs.Option.{is_some}
+use Rattle.ksm_pages.proofs.Names.{All, All-map, all_rows, all_zero, and_parts, ap, AreInTree, AreTied, arith, Best, best_dup, best_found, best_of, Bool, change_held, change_row, Dup, DupRow, DupsState, Entry, false, Find}
+use Rattle.ksm_pages.proofs.Names.{Finds, FindsAt, find, find_all, find_nothing, found_at, get_or, GuestPage, has_content, Held, held_at, held_of, holds, in_group, in_tree_by, inl, inr, Inside, is_in, IsFree, is_for_zero, IsAlone, if◌then◌else◌, lodgings_of, List, MatchOption, None, Not, not, not-true}
+use Rattle.ksm_pages.proofs.Names.{Option, option_map, out_of_tree, page_in_tree, PagesValue, PagesView, partner, Private, refl, Row, row_at, rows_of, RowsView, rules, same_page, same_page_eq, seen, shared_state, Some, subst, sym}
+use Rattle.ksm_pages.proofs.Names.{tied_counted, tied_left, tree_by, tree_of, true, true≢false, Waiting, waiting_in, waiting_state, ℕ, [], ◌&&◌, ◌==◌, ◌∙◌, ◌∷◌, ◌≡◌}
+use Rattle.ksm_tree.specs.Dups.{rows_of as dup_rows}
+use Rattle.ksm_tree.proofs.Alike.{map_alike}
+use Rattle.ksm_pages.proofs.Options.{mapped_some, none_mapped}
+use Rattle.ksm_pages.proofs.Partners.{free_but, free_by, idle_led, none_led, own_led, tree_is, waiter_led}
 use Rattle.ksm_pages.specs.declared.pages.Find.TheVariants as finds
-use Rattle.ksm_pages.specs.Held.{is_restless as is_restless_entry}
-use Rattle.ksm_pages.specs.Paged.{is_restless, visited}
+use Rattle.std.specs.Prelude.{IfNone, IfSome}
+use Rattle.ksm_pages.specs.Held.{is_alone as is_alone_in, is_restless as is_restless_entry}
+use Rattle.ksm_pages.specs.Paged.{HasRow, is_restless, visited}
+use Rattle.ksm_pages.proofs.Found.{find_changed_other}
 use Rattle.ksm_pages.proofs.Gathering.{restless_as}
 use Rattle.ksm_pages.proofs.Joined.{let_out_alone}
-use Rattle.ksm_pages.proofs.Leaving.{AreLawful, Comes, lies, of_page, row_seen, row_there, stays_there, turned_so, view_of}
-use Rattle.ksm_pages.proofs.Meeting.{met_other, met_own, met_partner, met_waits}
+use Rattle.ksm_pages.proofs.Leaving.{AreLawful, Become, Comes, held_as, lies, of_dup, of_page, row_seen, row_there, stays_there, turned_so, view_of}
+use Rattle.ksm_pages.proofs.Resting.{idle_settled}
+use Rattle.ksm_pages.proofs.Lone.{each_held, IsLone, lone_changed, out_lone}
 
 -- ---------------------------------------------------------------- groups that got other numbers
 
@@ -44,31 +49,24 @@ pub is_alone : (s : Inside) → AreLawful s → (page : GuestPage) (e : Entry) �
     → is_restless_entry e ≡ true → IsAlone page (rows_of s.rows.held)
 is_alone s are page e found restless = search (rules, row_there, not_shared, restless_as)
 
--- ---------------------------------------------------------------- a row whose group has a number
+-- ---------------------------------------------------------------- a row that is asked
 
--- a visit may change the row of a page, and the row's group has a number
-pub record IsAsked (s : Inside) (p : PagesValue) (page : GuestPage) (e : Entry) (group : ℕ) : Type 0 where
+-- a visit may change the row of a page
+pub record IsAsked (s : Inside) (p : PagesValue) (page : GuestPage) (e : Entry) : Type 0 where
   pub lawful : AreLawful s
   pub seen_as : view_of s ≡ p
   pub found : held_at page s.rows.held ≡ Some (held_of s.rows.pass e)
   pub restless : is_restless_entry e ≡ true
-  pub numbered : number_of (tree_of s.knobs (held_of s.rows.pass e).row) e.bytes s.dups.numbers ≡ Some group
 
--- once groups got numbers, a page whose row a visit may change is asked with its group
-pub asked : {s : Inside} → AreLawful s → {p : PagesValue} → view_of s ≡ p → {page : GuestPage} {e : Entry}
-    → held_at page s.rows.held ≡ Some (held_of s.rows.pass e)
-    → is_restless_entry e ≡ true → {later : DupsState} → later ≡ record s.dups { numbers = later.numbers; most = later.most }
-    → {tree group : ℕ} → ((row : Row) → row.home ≡ e.home → tree ≡ tree_of s.knobs row) → number_of tree e.bytes later.numbers ≡ Some group
-    → IsAsked (record s { dups = later }) p page e group
-asked {s} are seen_as {e} found restless {later = later} kept {group = group} in_tree numbered = record {
-  lawful = lawful_numbered s kept are;
-  seen_as = grind arith;
-  found = found;
-  restless = restless;
-  numbered = rw (← in_tree (held_of s.rows.pass e).row refl) numbered;
-}
+-- no dup has the tree and bytes
+abbrev pub NoneHas : ℕ → List ℕ → List Dup → Type 0
+NoneHas tree bytes dups = All (λ d. in_group tree bytes d.row ≡ false) dups
 
-module _ {s : Inside} {p : PagesValue} {page : GuestPage} {e : Entry} {group : ℕ} (it : IsAsked s p page e group) where
+-- where no dup has the tree and bytes, a page may join none
+pub none_best : (tree : ℕ) (bytes : List ℕ) (limit : ℕ) (dups : List Dup) → NoneHas tree bytes dups → best_of tree bytes limit dups ≡ None
+none_best tree bytes limit dups none = find_nothing _ dups (λ k d lt. grind (arith, none k d lt))
+
+module _ {s : Inside} {p : PagesValue} {page : GuestPage} {e : Entry} (it : IsAsked s p page e) where
   abbrev held : Held
   held = held_of s.rows.pass e
 
@@ -78,7 +76,8 @@ module _ {s : Inside} {p : PagesValue} {page : GuestPage} {e : Entry} {group : �
   abbrev before : List Row
   before = rows_of s.rows.held
 
-  at_row : row.page ≡ page
+  -- the row that is asked is of the page
+  pub at_row : row.page ≡ page
   at_row = of_page s it.lawful _ it.found
 
   there : row_at page before ≡ Some row
@@ -93,26 +92,27 @@ module _ {s : Inside} {p : PagesValue} {page : GuestPage} {e : Entry} {group : �
   finds_at : (new : PagesView) (what : Find) → FindsAt (seen p) new row what → Finds (seen p) new page what
   finds_at = finds_row s it.seen_as _ it.found
 
-  -- what is so of the group with this number
-  abbrev IsOfGroup : (ℕ → List ℕ → Type 0) → Type 0
-  IsOfGroup P = (tree : ℕ) (bytes : List ℕ) → number_of tree bytes s.dups.numbers ≡ Some group → P tree bytes
+  -- the dup that the row may join
+  abbrev pub best : Option Dup
+  best = best_of (tree_of s.knobs row) row.bytes s.knobs.max_page_sharing s.dups.dups
 
-  abbrev best : ℕ → List ℕ → Option Dup
-  best tree bytes = best_of tree bytes s.knobs.max_page_sharing s.dups.dups
-
-  best_is : best_dup p.knobs p.rows p.dups row ≡ option_map (λ d. d.row) (best (tree_of s.knobs row) row.bytes)
+  best_is : best_dup p.knobs p.rows p.dups row ≡ option_map (λ d. d.row) best
   best_is =
       ap (λ (v : PagesValue). best_dup v.knobs v.rows v.dups row) (sym it.seen_as)
       ∙ sym (search (rules, best_found, tied_counted))
 
-  -- where the group of an asked row has a best dup, the visit finds that dup
-  pub finds_dup : (b : Best) → IsOfGroup (λ tree bytes. Some b ≡ option_map found_at (best tree bytes))
-      → Finds (seen p) (seen (view_of s)) page (finds.Dup b)
+  -- no dup has the content of a row that is said to be alone
+  pub lone_none : is_alone_in e.in_tree ≡ true → NoneHas (tree_of s.knobs row) row.bytes s.dups.dups
+  lone_none is = all_rows (λ (d : DupRow). in_group (tree_of s.knobs row) row.bytes d ≡ false) s.dups.dups
+      (find_all (holds page) (IsLone s.knobs (dup_rows s.dups.dups)) s.rows.held held it.found it.lawful.alone is)
+
+  -- where an asked row has a best dup, the visit finds that dup
+  pub finds_dup : (b : Best) → Some b ≡ option_map found_at best → Finds (seen p) (seen (view_of s)) page (finds.Dup b)
   finds_dup b is = search (rules, best_is, finds_at)
 
-  module _ (none : IsOfGroup (λ tree bytes. None ≡ option_map found_at (best tree bytes))) where
+  module _ (none : best ≡ None) where
     no_best : best_dup p.knobs p.rows p.dups row ≡ None
-    no_best = grind (arith, best_is, none_mapped)
+    no_best = grind (arith, best_is, none)
 
     -- without a best dup, a row that was not unchanged is found changed, and is unchanged from then on
     pub finds_changed : e.unchanged ≡ false → {new : PagesView}
@@ -128,52 +128,244 @@ module _ {s : Inside} {p : PagesValue} {page : GuestPage} {e : Entry} {group : �
       pub finds_zero : (s.knobs.use_zero_pages == 1 && all_zero e.bytes) ≡ true → Finds (seen p) (seen (view_of s)) page finds.Zero
       finds_zero zeroes = grind (arith, finds_at, may, no_best, zero_as)
 
-      module _ (other : (s.knobs.use_zero_pages == 1 && all_zero e.bytes) ≡ false) {met : GuestPage} {later : DupsState}
-          (is : IsOfGroup (λ tree bytes. met ≡ unwrap_or (waiting_page tree bytes s.dups.waiting) page))
-          (again : IsOfGroup (λ tree bytes. is_some (waiting_page tree bytes s.dups.waiting) ≡ true → later ≡ s.dups)) where
-        abbrev waits : Option GuestPage
-        waits = waiting_page (tree_of s.knobs row) row.bytes s.dups.waiting
-
-        met_is : met ≡ unwrap_or waits row.page
-        met_is = grind (arith, at_row)
-
-        same_again : is_some waits ≡ true → later ≡ s.dups
-        same_again = grind arith
-
-        -- a row that stays, without a dup and not for Zero, finds another page that waits with its bytes as partner
-        pub finds_partner : same_page met page ≡ false
-            → Finds (seen p) (seen (view_of (record s { dups = later }))) page (finds.Partner met)
-        finds_partner apart =
-            let from = ap (same_page met) at_row ∙ apart in
-            let that = met_other s.knobs _ _ row it.lawful.order it.lawful.waits met_is from in
+      module _ (other : (s.knobs.use_zero_pages == 1 && all_zero e.bytes) ≡ false) where
+        -- a row that stays, without a dup and not for Zero, finds its partner
+        pub finds_partner : (met : GuestPage) → MatchOption (partner s.knobs before row) (true ≡ false) (λ w. met ≡ w.page)
+            → Finds (seen p) (seen (view_of s)) page (finds.Partner met)
+        finds_partner met is =
             let partner_is = subst (λ (v : PagesValue). MatchOption (partner v.knobs v.rows row) (true ≡ false)
-            (λ w. met ≡ w.page)) it.seen_as (met_partner s.knobs _ _ row it.lawful.order it.lawful.waits met_is from) in
-            let same = (λ i. seen (view_of (record s { dups = (same_again (ap is_some that) i) }))) ∙ ap seen it.seen_as in
-            grind (arith, finds_at, may, no_best, zero_as)
+            (λ w. met ≡ w.page)) it.seen_as is in
+            grind (arith, finds_at, may, no_best, zero_as, it.seen_as)
 
-        module _ (own : same_page met page ≡ true) (kept : later ≡ record s.dups { waiting = later.waiting })
-            (added : IsOfGroup (λ tree bytes. IsAdded tree bytes met s.dups.waiting later.waiting)) (rows : RowsView)
-            (turned : rows ≡ record s.rows { held = change_held page (on_row (λ r. record r { state = Waiting })) s.rows.held }) where
-          abbrev to : Row → Row
-          to r = record r { state = Waiting }
-
-          -- the pages are lawful once the row waits, and are seen so
-          pub waits_then : Comes s rows later (record (seen p) { rows = change_row page to p.rows })
-          waits_then =
-              let lay = lies s it.lawful page it.found it.seen_as in
-              let here = ap (λ q. row_at q before) at_row ∙ there in
-              let now_waits = met_waits s.knobs _ _ row it.lawful.order it.lawful.waits met_is here
-              (ap (same_page met) at_row ∙ own)
-              (added (tree_of s.knobs row) row.bytes it.numbered) (λ that. (λ i. (same_again that i).waiting)) in
-              stays_there p page (turned_so s it.lawful page it.found it.seen_as rows (on_row to) to (λ x. refl)
-              (λ r. refl) (λ i. (turned i).held) kept refl to refl
-              (subst (AreTied (change_row page (λ _. to row) before)) (let_out_alone row.state page alone)
-              (tied_left _ _ _ it.lawful.order there _ _ refl it.lawful.tied)) (rw (← at_row) now_waits)
-              (grind (arith, lay, alone)))
-
+        module _ (lonely : partner s.knobs before row ≡ None) {rows : RowsView}
+            (waits : Comes s rows s.dups (record (seen p) { rows = change_row page (λ r. record r { state = Waiting }) p.rows })) where
           -- a row that stays, without a dup, not for Zero and without a partner, is found to wait
-          pub finds_waits : Finds (seen p) (seen (view_of (record s { rows = rows; dups = later }))) page finds.Waits
+          pub finds_waits : Finds (seen p) (seen (view_of (record s { rows = rows }))) page finds.Waits
           finds_waits =
-              let met_none = met_own s.knobs _ _ row it.lawful.order it.lawful.waits met_is (rw at_row own) in
-              let none_waits = (λ i. partner (sym it.seen_as i).knobs (sym it.seen_as i).rows row) ∙ met_none in
-              grind (arith, finds_at, may, no_best, zero_as, waits_then, at_row)
+              let none_waits = (λ i. partner (sym it.seen_as i).knobs (sym it.seen_as i).rows row) ∙ lonely in
+              grind (arith, finds_at, may, no_best, zero_as, waits.told_as, at_row)
+
+  -- the pages are lawful once the row waits, and are seen so
+  pub waits_then : (f : Held → Held) → ((x : Held) → (f x).row ≡ record x.row { state = Waiting }) → ((x : Held) → (f x).frame ≡ x.frame)
+      → (IsLone s.knobs (dup_rows s.dups.dups) held → IsLone s.knobs (dup_rows s.dups.dups) (f held))
+      → {rows : RowsView} → Become s.rows rows (change_held page f s.rows.held)
+      → Comes s rows s.dups (record (seen p) { rows = change_row page (λ r. record r { state = Waiting }) p.rows })
+  waits_then f is framed keeps {rows} turned =
+      let lay = lies s it.lawful page it.found it.seen_as in
+      stays_there p page (turned_so s it.lawful page it.found it.seen_as rows f (λ r. record r { state = Waiting }) is
+      (λ r. refl) turned {ds = s.dups.dups} {later = s.dups} refl refl (λ r. record r { state = Waiting }) refl
+      (subst (AreTied (change_row page (λ _. record row { state = Waiting }) before)) (let_out_alone row.state page alone)
+      (tied_left _ _ _ it.lawful.order there _ _ refl it.lawful.tied)) keeps
+      (grind (arith, is held, framed held, lay, alone)))
+
+  -- a row that enters the tree is said to be alone only where no dup has its content
+  pub entered_lone : (group : Option ℕ) → IfNone group (NoneHas (tree_of s.knobs row) row.bytes s.dups.dups)
+      → IsLone s.knobs (dup_rows s.dups.dups) (waiting_in (in_tree_by group) held)
+  entered_lone None none is = All-map (λ (d : DupRow). in_group (tree_of s.knobs row) row.bytes d ≡ false) (λ (d : Dup). d.row) _ none
+  entered_lone (Some group) any is = cc
+
+  -- without a dup that is told, the row may join none
+  pub none_told : {tree : ℕ} → tree ≡ tree_of s.knobs row → {told : Option Best}
+      → told ≡ option_map found_at (best_of tree e.bytes s.knobs.max_page_sharing s.dups.dups) → told ≡ None → best ≡ None
+  none_told in_tree is none =
+      none_mapped found_at _ ((λ i. option_map found_at (best_of (sym in_tree i) e.bytes s.knobs.max_page_sharing s.dups.dups)) ∙ sym is ∙ none)
+
+-- ---------------------------------------------------------------- a row that leaves the tree
+
+module _ (s : Inside) (are : AreLawful s) (other : GuestPage) {w : Held} (found : held_at other s.rows.held ≡ Some w)
+    (idle : waiting_state w.row.state ≡ false) {rows : RowsView}
+    (turned : rows ≡ record s.rows { held = change_held other out_of_tree s.rows.held }) where
+  abbrev gone : Held → Held
+  gone h = record h { in_tree = (out_of_tree h).in_tree }
+
+  -- a row that does not wait is otherwise as it was
+  as_it_was : change_held other out_of_tree s.rows.held ≡ change_held other gone s.rows.held
+  as_it_was = map_alike _ _ _ (λ k d lt. alike (get_or s.rows.held k d) (each_held s.rows.held are.order k d lt))
+    where
+      alike : (h : Held) → held_at h.row.page s.rows.held ≡ Some h
+          → (if holds other h then out_of_tree h else h) ≡ (if holds other h then gone h else h)
+      alike h at = go _ refl
+        where
+          go : (b : Bool) → holds other h ≡ b → (if b then out_of_tree h else h) ≡ (if b then gone h else h)
+          go false is = refl
+          go true is =
+              let same : h ≡ w = grind (arith, same_page_eq h.row.page other is, at, found) in
+              λ i. record h { row = idle_settled h.row (ap (λ (x : Held). waiting_state x.row.state) same ∙ idle) i; in_tree = Not }
+
+  rows_stay : (held : List Held) → rows_of (change_held other gone held) ≡ rows_of held
+  rows_stay [] = refl
+  rows_stay (h ∷ held) = grind (arith, rows_stay held)
+
+  lodgings_stay : (held : List Held) → lodgings_of (of_dup s) (change_held other gone held) ≡ lodgings_of (of_dup s) held
+  lodgings_stay [] = refl
+  lodgings_stay (h ∷ held) = grind (arith, lodgings_stay held)
+
+  now_held : rows.held ≡ change_held other gone s.rows.held
+  now_held = (λ i. (turned i).held) ∙ as_it_was
+
+  -- and the rows are what they were
+  pub now_rows : rows_of rows.held ≡ rows_of s.rows.held
+  now_rows = ap rows_of now_held ∙ rows_stay s.rows.held
+
+  -- once a row that does not wait has left the tree, what is seen of the pages is what it was
+  pub seen_still : view_of (record s { rows = rows }) ≡ view_of s
+  seen_still =
+      let lodged = ap (lodgings_of (of_dup s)) now_held ∙ lodgings_stay s.rows.held in
+      λ i. record (view_of s) { rows = now_rows i; lodgings = lodged i }
+
+  -- and the pages are lawful still
+  pub lawful_still : AreLawful (record s { rows = rows })
+  lawful_still = record {
+    small = are.small;
+    order = rw now_rows are.order;
+    tied = rw now_rows are.tied;
+    places = are.places;
+    by_node = (λ i. (turned i).by_node) ∙ are.by_node;
+    alone =
+        let held_now : rows.held ≡ change_held other out_of_tree s.rows.held = λ i. (turned i).held in
+        rw held_now
+        (lone_changed s.knobs (dup_rows s.dups.dups) other out_of_tree s.rows.held are.order found
+        (λ _. out_lone s.knobs (dup_rows s.dups.dups) w) are.alone);
+    room = are.room;
+  }
+
+  -- and another page's row is held as it was
+  pub held_still : (page : GuestPage) → same_page other page ≡ false → held_at page rows.held ≡ held_at page s.rows.held
+  held_still page apart =
+      ap (λ (v : RowsView). held_at page v.held) turned
+      ∙ find_changed_other (λ (h : Held). h.row.page) other out_of_tree (λ h. refl) page s.rows.held apart
+
+-- ---------------------------------------------------------------- a row that may enter the tree
+
+-- a test that is not passed where its contrary fails
+pub not_other : (b : Bool) → false ≡ not b → b ≡ true
+not_other b is = grind arith
+
+-- a row that a visit may change
+pub asked : (s : Inside) → AreLawful s → {p : PagesValue} → view_of s ≡ p → {page : GuestPage} (e : Entry)
+    → held_at page s.rows.held ≡ Some (held_of s.rows.pass e) → is_restless_entry e ≡ true → IsAsked s p page e
+asked s are seen_as e found restless = record { lawful = are; seen_as = seen_as; found = found; restless = restless }
+
+-- a row may enter the tree: it joins no dup, has no partner, and the tree leads to no other row from its content
+pub record MayEnter (s : Inside) (p : PagesValue) (page : GuestPage) (e : Entry) (group : Option ℕ) : Type 0 where
+  pub not_zero : (s.knobs.use_zero_pages == 1 && all_zero e.bytes) ≡ false
+  pub lone : IfNone group (NoneHas (tree_of s.knobs (held_of s.rows.pass e).row) e.bytes s.dups.dups)
+  pub asked : IsAsked s p page e
+  pub none : best asked ≡ None
+  pub lonely : partner s.knobs (rows_of s.rows.held) (held_of s.rows.pass e).row ≡ None
+  pub free : IsFree s.rows page (held_of s.rows.pass e)
+
+module _ {s : Inside} {p : PagesValue} {page : GuestPage} {e : Entry} {group : Option ℕ} (it : MayEnter s p page e group) where
+  -- it has a frame of its own
+  pub enters_alone : IfSome (held_at page s.rows.held) (λ h. shared_state h.row.state ≡ false)
+  enters_alone = rw it.asked.found (alone it.asked)
+
+  -- where it does not enter, what is seen of the pages is what it was
+  pub entered_not : {rows : RowsView} → rows ≡ s.rows → view_of (record s { rows = rows }) ≡ p
+  entered_not same = (λ i. view_of (record s { rows = same i })) ∙ it.asked.seen_as
+
+  -- a visit may change its row
+  pub enters_restless : HasRow page p.rows (λ r. is_restless r ≡ true)
+  enters_restless = rw (row_seen s it.asked.seen_as page it.asked.found) (may it.asked)
+
+  -- the tree leads to no other row
+  pub enters_free : IfSome (held_at page s.rows.held) (λ h. IsFree s.rows page h)
+  enters_free = rw it.asked.found it.free
+
+  -- the pages are lawful once it has entered, and are seen so
+  pub entered_then : {rows : RowsView} → rows ≡ record s.rows { held = change_held page (waiting_in (in_tree_by group)) s.rows.held }
+      → Comes s rows s.dups (record (seen p) { rows = change_row page (λ r. record r { state = Waiting }) p.rows })
+  entered_then turned =
+      waits_then it.asked (waiting_in (in_tree_by group)) (λ x. refl) (λ x. refl) (λ _. entered_lone it.asked group it.lone) (held_as turned)
+
+  -- and the row is found to wait
+  pub entered_waits : e.unchanged ≡ true → {rows : RowsView}
+      → rows ≡ record s.rows { held = change_held page (waiting_in (in_tree_by group)) s.rows.held }
+      → Finds (seen p) (seen (view_of (record s { rows = rows }))) page finds.Waits
+  entered_waits stayed turned = finds_waits it.asked it.none stayed it.not_zero it.lonely (entered_then turned)
+
+-- what is told of a row that waits
+pub told_waits : {b : Bool} (o : Option Row) → MatchOption o (b ≡ false) (λ r. b ≡ waiting_state r.state) → b ≡ true
+    → (w : Row) × (o ≡ Some w) × (waiting_state w.state ≡ true)
+told_waits None told is = absurd (true≢false (sym is ∙ told))
+told_waits (Some w) told is = (w, refl, sym told ∙ is)
+
+module _ {s : Inside} {p : PagesValue} {page : GuestPage} {e : Entry} (it : IsAsked s p page e)
+    (led : All (λ h. waiting_state h.row.state ≡ true → is_in h.in_tree ≡ true) s.rows.held) (found_by : AreInTree s.rows)
+    {tree : ℕ} (in_tree : tree ≡ tree_of s.knobs (held_of s.rows.pass e).row) where
+  abbrev row_of : Row
+  row_of = (held_of s.rows.pass e).row
+
+  to_tree : {o : Option GuestPage} → page_in_tree s.rows tree e.bytes ≡ o → page_in_tree s.rows (tree_of s.knobs row_of) e.bytes ≡ o
+  to_tree at = ap (λ t. page_in_tree s.rows t e.bytes) (sym in_tree) ∙ at
+
+  by_home : {o : Option GuestPage} → page_in_tree s.rows tree e.bytes ≡ o → page_in_tree s.rows (tree_by s.rows.by_node e.home) e.bytes ≡ o
+  by_home at = ap (λ t. page_in_tree s.rows t e.bytes) (tree_is s.knobs it.lawful.by_node row_of) ∙ to_tree at
+
+  -- a row to which the tree leads, and which waits, is the partner
+  pub met : {other : GuestPage} {b : Bool} → page_in_tree s.rows tree e.bytes ≡ Some other → same_page other page ≡ false
+      → MatchOption (row_at other (rows_of s.rows.held)) (b ≡ false) (λ r. b ≡ waiting_state r.state) → b ≡ true
+      → MatchOption (partner s.knobs (rows_of s.rows.held) row_of) (true ≡ false) (λ w. other ≡ w.page)
+  met {other} {b} at apart told is =
+      let w = told_waits _ told is in
+      waiter_led s.knobs s.rows it.lawful.order it.lawful.by_node led found_by row_of (to_tree at) w.1 w.2
+      (ap (same_page other) (at_row it) ∙ apart)
+
+  module _ (none : best it ≡ None) (not_zero : (s.knobs.use_zero_pages == 1 && all_zero e.bytes) ≡ false) (group : Option ℕ)
+      (lone : IfNone group (NoneHas tree e.bytes s.dups.dups)) where
+    lone_so : IfNone group (NoneHas (tree_of s.knobs row_of) e.bytes s.dups.dups)
+    lone_so = subst (λ t. IfNone group (NoneHas t e.bytes s.dups.dups)) in_tree lone
+
+    -- where the tree leads to no row, the row may enter
+    pub enters_none : page_in_tree s.rows tree e.bytes ≡ None → MayEnter s p page e group
+    enters_none at = record {
+      not_zero = not_zero;
+      lone = lone_so;
+      asked = it;
+      none = none;
+      lonely = none_led s.knobs s.rows it.lawful.order it.lawful.by_node led found_by row_of (to_tree at);
+      free = free_by s.rows found_by page (held_of s.rows.pass e) (inl (by_home at));
+    }
+
+    -- the same where it leads to the row itself
+    pub enters_own : page_in_tree s.rows tree e.bytes ≡ Some page → MayEnter s p page e group
+    enters_own at = record {
+      not_zero = not_zero;
+      lone = lone_so;
+      asked = it;
+      none = none;
+      lonely = own_led s.knobs s.rows it.lawful.order it.lawful.by_node led found_by row_of (to_tree at ∙ ap Some (sym (at_row it)));
+      free = free_by s.rows found_by page (held_of s.rows.pass e) (inr (by_home at));
+    }
+
+    module _ {other : GuestPage} {b : Bool} (at : page_in_tree s.rows tree e.bytes ≡ Some other) (apart : same_page other page ≡ false)
+        (told : MatchOption (row_at other (rows_of s.rows.held)) (b ≡ false) (λ r. b ≡ waiting_state r.state)) (is : b ≡ false) where
+      there_is : (x : Held) × (find (has_content s.rows.by_node tree e.bytes) s.rows.held ≡ Some x) × (x.row.page ≡ other)
+      there_is = mapped_some _ _ at
+
+      held_other : held_at other s.rows.held ≡ Some there_is.0
+      held_other = subst (λ q. held_at q s.rows.held ≡ Some there_is.0) there_is.2
+          (find_all _ (λ x. held_at x.row.page s.rows.held ≡ Some x) s.rows.held there_is.0 there_is.1 (each_held s.rows.held it.lawful.order))
+
+      idle : waiting_state there_is.0.row.state ≡ false
+      idle = grind (arith, told, is, row_there s it.lawful other held_other)
+
+      -- the same once a row to which it led, and which does not wait, has left the tree
+      pub enters_for : MayEnter (record s { rows = record s.rows { held = change_held other out_of_tree s.rows.held } }) p page e group
+      enters_for =
+          let rows : RowsView = record s.rows { held = change_held other out_of_tree s.rows.held } in
+          let stays = now_rows s it.lawful other held_other idle {rows = rows} refl in
+          record {
+            not_zero = not_zero;
+            lone = lone_so;
+            asked = record {
+              lawful = lawful_still s it.lawful other held_other idle {rows = rows} refl;
+              seen_as = seen_still s it.lawful other held_other idle {rows = rows} refl ∙ it.seen_as;
+              found = held_still s it.lawful other held_other idle {rows = rows} refl page apart ∙ it.found;
+              restless = it.restless;
+            };
+            none = none;
+            lonely = rw stays (idle_led s.knobs s.rows it.lawful.order it.lawful.by_node led found_by row_of (to_tree at)
+                (row_there s it.lawful other held_other) idle);
+            free = free_but s.rows found_by page other (held_of s.rows.pass e) (by_home at);
+          }

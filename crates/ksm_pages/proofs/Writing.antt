@@ -1,11 +1,13 @@
 -- What each change of one row, found under its key, leaves: rows still, and what is seen of them.
 use Rattle.ksm_pages.proofs.Options.{none_mapped}
 use Rattle.ksm_pages.proofs.Names.{ap, AreListed, arith, Bool, CanMove, change_held, Entry, false, find, get, GuestPage, has_item, Held, held_at, held_in, held_of}
-use Rattle.ksm_pages.proofs.Names.{held_under, IfSome, inl, InPageOrder, inr, is_of, is_restless, is_some, IsAddedTo, IsInVain, IsMoved, IsRows, IsUnder, key_in, Kind, length}
+use Rattle.ksm_pages.proofs.Names.{held_under, IfSome, inl, InPageOrder, inr, is_of, is_restless, is_some, IsAddedTo, IsInVain, IsMoved, IsRows, IsUnder, key_in, length}
 use Rattle.ksm_pages.proofs.Names.{length-map, List, Listing, marked, Named, named_of, nat_tests, None, option_map, pages_ordered, PageState, Private, refl, row_at, rows_of}
 use Rattle.ksm_pages.proofs.Names.{RowsView, rules, same_page_refl, same_Some, shared_state, Slab, Some, state_of, sym, Tally, true, true≢false, Updates-with_value, Waiting, with_held}
 use Rattle.ksm_pages.proofs.Names.{with_named, with_value, without_held, without_named, ℕ, ◌<◌, ◌^◌, ◌∙◌, ◌≡◌, ◌≢◌, ◌≤◌, ◌⊎◌}
 use Rattle.slab.specs.Slab.{Updates as Fills}
+use Rattle.ksm_pages.specs.Filed.{StaysBegun}
+use Rattle.ksm_pages.specs.Held.{is_in}
 use Rattle.ksm_pages.specs.declared.row.Kind.TheVariants as kinds
 use Rattle.ksm_pages.specs.declared.rows.Rows.TheInside.{Inside}
 use Rattle.ksm_pages.proofs.Changing.{marked_same, row_told, rows_changed, rows_with, rows_without}
@@ -15,25 +17,25 @@ use Rattle.ksm_rmap.proofs.Ordered.{absent_kept, with_rises, without_rises}
 use Rattle.ksm_pages.proofs.Listings.{with_has}
 use Rattle.ksm_pages.proofs.Tallying.{can_move, tally_changed, tally_gone, tally_put}
 
--- what is seen of entries in an order, in a pass
-abbrev pub view : ℕ → Slab Entry → List Named → RowsView
-view pass entries order = record { held = held_in pass entries order; pass = pass }
+-- what is seen of entries in an order, in a pass, where each node has a tree or not
+abbrev pub view : Bool → ℕ → Slab Entry → List Named → RowsView
+view by_node pass entries order = record { held = held_in pass entries order; pass = pass; by_node = by_node }
 
 -- what is seen of the rows inside
 abbrev pub view_of : Inside → RowsView
-view_of s = view s.pass s.entries s.order
+view_of s = view s.by_node s.pass s.entries s.order
 
 -- the rows inside are lawful
 abbrev pub AreRows : Inside → Type 0
 AreRows s = IsRows s.entries s.order s.restless s.tally s.pass
 
--- a row with a frame of its own waits where its number is that of the pass
-pub waits_now : {kind : Kind} (pass : ℕ) → kind ≡ kinds.Own → state_of kind pass pass ≡ Waiting
-waits_now pass own = grind arith
+-- a row with a frame of its own waits where its number is that of the pass and the unstable tree leads to it
+pub waits_now : (pass : ℕ) (e : Entry) → e.kind ≡ kinds.Own → e.number ≡ pass → is_in e.in_tree ≡ true → state_of pass e ≡ Waiting
+waits_now pass e own now led = grind arith
 
 -- a row with a frame of its own and number 0 is Private in any pass from 1 on
-pub rests_now : (pass : ℕ) → 1 ≤ pass → state_of kinds.Own 0 pass ≡ Private
-rests_now pass counting = grind (arith, nat_tests)
+pub rests_now : (pass : ℕ) (e : Entry) → 1 ≤ pass → e.kind ≡ kinds.Own → e.number ≡ 0 → state_of pass e ≡ Private
+rests_now pass e counting own none = grind (arith, nat_tests)
 
 -- a change of a page without a row leaves what is seen of the rows as it is
 pub nothing : (s : Inside) → AreRows s → (page : GuestPage) → None ≡ key_in s.order page → (f : Held → Held) {v : RowsView} → view_of s ≡ v → v ≡ record v { held = change_held page f v.held }
@@ -70,8 +72,13 @@ module _ (s : Inside) (are : AreRows s) where
         → e.kind ≡ kinds.Own
     own_there seen_as alone = grind (arith, row_there)
 
+    -- the unstable tree leads to the entry of a page where it leads to the page's row
+    pub led_there : {v : RowsView} → view_of s ≡ v → IfSome (held_at page v.held) (λ h. is_in h.in_tree ≡ true)
+        → is_in e.in_tree ≡ true
+    led_there seen_as led = grind (arith, row_there)
+
     -- the tally can take the row of an entry from its state to any other
-    pub can_be : {from : PageState} → from ≡ state_of e.kind e.number s.pass → {state : PageState} → length s.order < 2 ^ 64
+    pub can_be : {from : PageState} → from ≡ state_of s.pass e → {state : PageState} → length s.order < 2 ^ 64
         → CanMove from state s.tally
     can_be is {state} few =
         let many : length (rows_of held) < 2 ^ 64 =
@@ -86,8 +93,7 @@ module _ (s : Inside) (are : AreRows s) where
 
     module _ {v : RowsView} (seen_as : view_of s ≡ v) (e' : Entry) {order : List Named}
         (marks : order ≡ marked page e'.mergeable s.order)
-        (keeps : (e'.page ≡ e.page) × ((e.kind ≡ kinds.Own → e.number ≤ v.pass) → e'.kind ≡ kinds.Own
-        → e'.number ≤ v.pass)) where
+        (keeps : (e'.page ≡ e.page) × StaysBegun v.pass e e') where
       abbrev later : Slab Entry
       later = with_value s.entries key e'
 
@@ -100,8 +106,8 @@ module _ (s : Inside) (are : AreRows s) where
 
       -- rows with an entry written anew are lawful where the order marks its page, the tally moved, and its page is
       -- added to the list, or a visit may change it only if it might before
-      pub still : {from to : PageState} {tally : Tally} → from ≡ state_of e.kind e.number s.pass
-          → to ≡ state_of e'.kind e'.number s.pass → IsMoved from to s.tally tally → {now : Listing}
+      pub still : {from to : PageState} {tally : Tally} → from ≡ state_of s.pass e
+          → to ≡ state_of s.pass e' → IsMoved from to s.tally tally → {now : Listing}
           → IsAddedTo page s.restless now ⊎ ((now ≡ s.restless) × (is_restless e' ≡ true → is_restless e ≡ true))
           → IsRows later order now tally s.pass
       still was is moved either = record {
@@ -118,7 +124,7 @@ module _ (s : Inside) (are : AreRows s) where
 
       -- with an entry written anew whose row is changed by f, the rows are seen with f at that page
       pub viewed : (f : Held → Held) → (1 ≤ v.pass → held_of v.pass e' ≡ f (held_of v.pass e))
-          → view s.pass later order ≡ record v { held = change_held page f v.held }
+          → view s.by_node s.pass later order ≡ record v { held = change_held page f v.held }
       viewed f is = grind (arith, held_later f)
 
     -- ---------------------------------------------------------------- the entry went
@@ -132,7 +138,7 @@ module _ (s : Inside) (are : AreRows s) where
       held_gone = grind (arith, of_page, taken, fills)
 
       -- rows are lawful once a page's entry is gone, with its name and its count
-      pub still_gone : {from : PageState} {tally : Tally} → from ≡ state_of e.kind e.number s.pass
+      pub still_gone : {from : PageState} {tally : Tally} → from ≡ state_of s.pass e
           → IsMoved from Private s.tally tally → IsRows later (without_named page s.order) s.restless tally s.pass
       still_gone {from} {tally} was moved = record {
         ascending = without_rises pages_ordered (λ (n : Named). n.page) page _ are.ascending;
@@ -145,7 +151,7 @@ module _ (s : Inside) (are : AreRows s) where
 
       -- once the entry of a page is gone with the page's name, the rows are seen without that page
       pub viewed_gone : {v : RowsView} → view_of s ≡ v
-          → view s.pass later (without_named page s.order) ≡ record v { held = without_held page v.held }
+          → view s.by_node s.pass later (without_named page s.order) ≡ record v { held = without_held page v.held }
       viewed_gone seen_as = grind (arith, held_gone)
 
 -- where a page has no row, the rows without that page are seen as before
@@ -170,7 +176,8 @@ module _ (s : Inside) (are : AreRows s) {v : RowsView} (seen_as : view_of s ≡ 
   free : get s.entries key ≡ None
   free = (λ i. get (sym rest i) key) ∙ vacant
 
-  filled : Fills s.entries later key (Some e)
+  -- an entry came, where there is room for it, as it would without
+  pub filled : Fills s.entries later key (Some e)
   filled = record { changed = fills.changed; others = λ k apart. fills.others k apart ∙ (λ i. get (rest i) k) }
 
   held_absent : held_at e.page before ≡ None
@@ -183,7 +190,7 @@ module _ (s : Inside) (are : AreRows s) {v : RowsView} (seen_as : view_of s ≡ 
   held_put = put _ _ are.ascending are.filed free not_named filled _
 
   -- rows are lawful once a Private entry came under a vacant key, with a name and a place in the list
-  pub still_put : state_of e.kind e.number s.pass ≡ Private → e.number ≤ s.pass → {now : Listing} → IsAddedTo e.page s.restless now → IsRows later (with_named (named_of key e) s.order) now s.tally s.pass
+  pub still_put : state_of s.pass e ≡ Private → e.number ≤ s.pass → {now : Listing} → IsAddedTo e.page s.restless now → IsRows later (with_named (named_of key e) s.order) now s.tally s.pass
   still_put alone fits added = record {
     ascending = with_rises pages_ordered (λ (n : Named). n.page) _ (named_of key e) _ refl are.ascending;
     filed = filed_put _ _ are.ascending are.filed free not_named filled;
@@ -195,7 +202,7 @@ module _ (s : Inside) (are : AreRows s) {v : RowsView} (seen_as : view_of s ≡ 
   }
 
   -- once an entry came under a vacant key with a name, the rows are seen with its row
-  pub viewed_put : view s.pass later (with_named (named_of key e) s.order) ≡ record v { held = with_held (held_of s.pass e) v.held }
+  pub viewed_put : view s.by_node s.pass later (with_named (named_of key e) s.order) ≡ record v { held = with_held (held_of s.pass e) v.held }
   viewed_put = grind (arith, held_put)
 
 -- rows are lawful under a list that lost only pages that were there in vain

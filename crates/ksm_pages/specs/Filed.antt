@@ -10,9 +10,10 @@ use Rattle.slab.specs.Slab.{Slab, get}
 use Rattle.ksm_pages.specs.declared.named.Named.{Named}
 use Rattle.ksm_pages.specs.declared.row.Kind.TheVariants as kinds
 use Rattle.ksm_pages.specs.declared.row.Entry.{Entry}
+use Rattle.ksm_pages.specs.declared.row.InTree.TheVariants.{Not}
 use Rattle.ksm_pages.specs.declared.row.Spot.{Spot}
 use Rattle.ksm_pages.specs.declared.tally.Tally.{Tally}
-use Rattle.ksm_pages.specs.Held.{Held, Listing, RowsView, change_held, held_of, is_restless, rows_of}
+use Rattle.ksm_pages.specs.Held.{Held, Listing, RowsView, change_held, held_of, is_in, is_restless, rows_of}
 use Rattle.ksm_pages.specs.Ordered.{AreAscending, is_of}
 
 -- ---------------------------------------------------------------- tallies
@@ -102,6 +103,7 @@ no_held = record {
     state = Private;
   };
   frame = None;
+  in_tree = Not;
 }
 
 -- the row that stands under a key
@@ -113,10 +115,17 @@ held_under pass (Some e) = held_of pass e
 abbrev pub held_in : ℕ → Slab Entry → List Named → List Held
 held_in pass slab order = map (λ n. held_under pass (get slab n.key)) order
 
--- what becomes of an entry keeps its page, and is of no pass to come
+-- an entry that comes of another is of no pass to come
+abbrev pub StaysBegun : ℕ → Entry → Entry → Type 0
+StaysBegun pass e later = (e.kind ≡ kinds.Own → e.number ≤ pass) → later.kind ≡ kinds.Own → later.number ≤ pass
+
+-- where the unstable tree leads to an entry that comes of another, it led to that, with the same home and bytes
+abbrev pub StaysLed : Entry → Entry → Type 0
+StaysLed e later = is_in later.in_tree ≡ true → (is_in e.in_tree ≡ true) × (later.home ≡ e.home) × (later.bytes ≡ e.bytes)
+
+-- what becomes of an entry keeps its page, is of no pass to come, and stands in the unstable tree only as it did
 abbrev pub KeepsPage : ℕ → (Entry → Entry → Type 0) → Type 0
-KeepsPage pass R = (e later : Entry) → R e later
-    → (later.page ≡ e.page) × ((e.kind ≡ kinds.Own → e.number ≤ pass) → later.kind ≡ kinds.Own → later.number ≤ pass)
+KeepsPage pass R = (e later : Entry) → R e later → (later.page ≡ e.page) × StaysBegun pass e later × StaysLed e later
 
 -- the row of a page was changed as its entry was
 abbrev pub IsMade : (Entry → Entry → Type 0) → GuestPage → RowsView → RowsView → Type 0

@@ -1,20 +1,23 @@
 -- Rows as they are kept, in the order of their pages, each with the frame of its own if it has one. (own)
-use Rattle.std.specs.Prelude.{◌≡◌, ◌⊎◌, ℕ, Bool, true, false, not, ◌&&◌, ◌==◌, AllPairs, List, ◌∷◌, ◌++◌, filter, find, map, Option, None, Some, if◌then◌else◌}
+use Rattle.std.specs.Prelude.{◌≡◌, ◌⊎◌, ℕ, Bool, true, false, not, ◌&&◌, ◌==◌, All, AllPairs, bytes_eq, List, ◌∷◌, ◌++◌, filter, find, map, option_map, Option, None, Some, if◌then◌else◌}
 use Rattle.ksm_base.specs.declared.page.GuestPage.{GuestPage}
 use Rattle.ksm_base.specs.declared.row.PageState.{PageState}
 use Rattle.ksm_base.specs.declared.row.PageState.TheVariants.{Private, Waiting, Merged, Zero}
 use Rattle.ksm_base.specs.declared.row.Row.{Row}
-use Rattle.ksm_base.specs.Rows.{comes_before, same_page}
+use Rattle.ksm_base.specs.Rows.{comes_before, same_page, settled}
 use Rattle.ksm_rmap.specs.Items.{with_item}
+use Rattle.ksm_pages.specs.declared.row.InTree.{InTree}
+use Rattle.ksm_pages.specs.declared.row.InTree.TheVariants.{Alone, Beside, Not}
 use Rattle.ksm_pages.specs.declared.row.Kind.{Kind}
 use Rattle.ksm_pages.specs.declared.row.Kind.TheVariants as kinds
 use Rattle.ksm_pages.specs.declared.row.Entry.{Entry}
 use Rattle.ksm_pages.specs.declared.row.Spot.{Spot}
 
--- a row, and the frame of its own
+-- a row, the frame of its own, and whether the unstable tree leads to it
 pub record Held : Type 0 where
   pub row : Row
   pub frame : Option ℕ
+  pub in_tree : InTree
 
 -- pages that a visit may change, in their order, and whether all of them are known
 pub record Listing : Type 0 where
@@ -33,10 +36,45 @@ pages_of spots = map (λ s. s.page) spots
 abbrev pub IsAddedTo : GuestPage → Listing → Listing → Type 0
 IsAddedTo page old new = (new ≡ record old { pages = with_item page old.pages }) ⊎ (new ≡ record old { known = false })
 
--- what is seen of the rows: each with its frame, and the number of the pass
+-- what is seen of the rows: each with its frame, the number of the pass, and whether each node has a tree of its own
 pub record RowsView : Type 0 where
   pub held : List Held
   pub pass : ℕ
+  pub by_node : Bool
+
+-- ---------------------------------------------------------------- the unstable tree
+
+-- whether the tree leads to the row
+abbrev pub is_in : InTree → Bool
+is_in Not = false
+is_in Beside = true
+is_in Alone = true
+
+-- whether it does, and no dup of the row's content is there
+abbrev pub is_alone : InTree → Bool
+is_alone Not = false
+is_alone Beside = false
+is_alone Alone = true
+
+-- the same once there may be dups of the row's content
+abbrev pub beside : InTree → InTree
+beside Not = Not
+beside Beside = Beside
+beside Alone = Beside
+
+-- how a row comes to stand in the tree, where there is a group of dups of its content, or none
+abbrev pub in_tree_by : Option ℕ → InTree
+in_tree_by None = Alone
+in_tree_by (Some group) = Beside
+
+-- the tree of a row with a home
+abbrev pub tree_by : Bool → ℕ → ℕ
+tree_by by_node home = if by_node then home else 0
+
+-- whether the unstable tree leads to the row, and that has this tree and these bytes
+abbrev pub has_content : Bool → ℕ → List ℕ → Held → Bool
+has_content by_node tree bytes h =
+    is_in h.in_tree && (tree_by by_node h.row.home == tree && bytes_eq h.row.bytes bytes)
 
 -- ---------------------------------------------------------------- entries
 
@@ -45,11 +83,16 @@ abbrev pub own_state : Bool → PageState
 own_state false = Private
 own_state true = Waiting
 
--- the state that a kind and a number tell in a pass
-abbrev pub state_of : Kind → ℕ → ℕ → PageState
-state_of kinds.Own number pass = own_state (number == pass)
-state_of kinds.Merged number pass = Merged number
-state_of kinds.Zero number pass = Zero
+-- the state that a kind and a number tell, where it is known whether one with a frame of its own waits
+abbrev pub state_by : Kind → ℕ → Bool → PageState
+state_by kinds.Own number waits = own_state waits
+state_by kinds.Merged number waits = Merged number
+state_by kinds.Zero number waits = Zero
+
+-- the state that an entry tells in a pass: one with a frame of its own waits where the unstable tree leads to it and its
+-- number is that of the pass
+abbrev pub state_of : ℕ → Entry → PageState
+state_of pass e = state_by e.kind e.number (e.number == pass && is_in e.in_tree)
 
 -- the frame of its own, if the kind has one
 abbrev pub frame_of : Kind → ℕ → Option ℕ
@@ -66,9 +109,10 @@ held_of pass e = record {
     bytes = e.bytes;
     mergeable = e.mergeable;
     unchanged = e.unchanged;
-    state = state_of e.kind e.number pass;
+    state = state_of pass e;
   };
   frame = frame_of e.kind e.at;
+  in_tree = e.in_tree;
 }
 
 -- whether the kind is that of pages with frames of their own
@@ -125,4 +169,36 @@ on_row change h = record h { row = change h.row }
 
 -- a change of the state, and of the frame with it
 abbrev pub mapped : PageState → Option ℕ → Held → Held
-mapped state frame h = record { row = record h.row { state = state }; frame = frame }
+mapped state frame h = record h { row = record h.row { state = state }; frame = frame }
+
+-- the page of the row to which the unstable tree leads from a tree and bytes
+abbrev pub page_in_tree : RowsView → ℕ → List ℕ → Option GuestPage
+page_in_tree v tree bytes = option_map (λ h. h.row.page) (find (has_content v.by_node tree bytes) v.held)
+
+-- each row to which the unstable tree leads is found by its tree and bytes, so no other row there has these
+abbrev pub AreInTree : RowsView → Type 0
+AreInTree v = All (λ h. is_in h.in_tree ≡ true
+    → page_in_tree v (tree_by v.by_node h.row.home) h.row.bytes ≡ Some h.row.page) v.held
+
+-- the unstable tree leads to no other row with the tree and bytes of a page's row
+abbrev pub IsFree : RowsView → GuestPage → Held → Type 0
+IsFree v page h = All (λ g. holds page g ≡ false → has_content v.by_node (tree_by v.by_node h.row.home) h.row.bytes g ≡ false) v.held
+
+-- a row that shares a frame from now on
+abbrev pub shares : PageState → Held → Held
+shares state h = record { row = record h.row { state = state }; frame = None; in_tree = beside h.in_tree }
+
+-- a row with these bytes, to which the unstable tree does not lead: where its bytes were others, it is not unchanged
+abbrev pub written : List ℕ → Held → Held
+written bytes h = record h {
+  row = record (settled h.row) { bytes = bytes; unchanged = h.row.unchanged && bytes_eq h.row.bytes bytes };
+  in_tree = Not;
+}
+
+-- a row to which the unstable tree does not lead
+abbrev pub out_of_tree : Held → Held
+out_of_tree h = record h { row = settled h.row; in_tree = Not }
+
+-- a row that waits, and to which the unstable tree leads
+abbrev pub waiting_in : InTree → Held → Held
+waiting_in in_tree h = record h { row = record h.row { state = Waiting }; in_tree = in_tree }

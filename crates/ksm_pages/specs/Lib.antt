@@ -1,6 +1,7 @@
 pub mod Ahead
 pub mod Ordered
 pub mod Held
+pub mod Unstable
 pub mod Filed
 pub mod Paged
 pub mod Left

@@ -12,17 +12,17 @@ use Rattle.ksm_base.specs.declared.shape.Shape.{Shape}
 use Rattle.ksm_base.specs.Values.{frames_of, IsShape}
 use Rattle.ksm_base.specs.Rows.{same_page, row_at, change_row, change_rows, shared_state, merged_into, merged_state, item_count, with_dup, InPageOrder, dup_numbered}
 use Rattle.ksm_base.specs.State.{tree_of}
-use Rattle.ksm_base.specs.Visit.{after_cursor, best_dup, is_for_zero, partner}
+use Rattle.ksm_base.specs.Visit.{after_cursor, best_dup, is_for_zero, partner, waits_for}
 use Rattle.ksm_base.specs.Answers.{every_row}
 use Rattle.ksm_base.specs.Refusals.{is_of}
 use Rattle.ksm_pages.specs.declared.pages.Find.{Find}
 use Rattle.ksm_pages.specs.declared.pages.Find.TheVariants as finds
 use Rattle.ksm_pages.specs.declared.pages.Held.{Held}
-use Rattle.ksm_pages.specs.Held.{Held as HeldRow}
+use Rattle.ksm_pages.specs.Held.{Held as HeldRow, RowsView, is_alone, rows_of}
+use Rattle.ksm_tree.specs.Chains.{in_group}
 use Rattle.ksm_base.specs.declared.row.PageState.{PageState}
 use Rattle.ksm_tree.specs.Bridge.{AreTied}
-use Rattle.ksm_tree.specs.Dups.{DupsState}
-use Rattle.ksm_tree.specs.Waits.{AreWaiting}
+use Rattle.ksm_tree.specs.Dups.{DupsState, rows_of as dup_rows}
 
 -- the frame of each page, if it has one
 abbrev pub Frames : Type 0
@@ -148,7 +148,7 @@ pub record MayPair (p : PagesView) (place : ℕ) (first second : Row) : Type 0 w
   pub second_is : row_at second.page p.rows ≡ Some second
   pub first_alone : shared_state first.state ≡ false
   pub second_alone : shared_state second.state ≡ false
-  pub apart : same_page first.page second.page ≡ false
+  pub waits : waits_for p.knobs second first ≡ true
   pub inside : place < frames_of p.shape
   pub vacant : IsVacant place p.rows p.dups
   pub number : p.next + 1 < 2 ^ 64
@@ -218,12 +218,18 @@ frame_seen of_dup Zero own = None
 abbrev pub lodgings_of : (ℕ → Option ℕ) → List HeldRow → List Lodging
 lodgings_of of_dup held = map (λ h. record { page = h.row.page; frame = frame_seen of_dup h.row.state h.frame }) held
 
--- the rows are in order, the items of each dup are the rows merged into it, the waiting pages are the rows that wait,
--- and there is room for a frame at each place
-pub record AreKept (shape : Shape) (knobs : Knobs) (rows : List Row) (dups : DupsState) (frames : List ℕ) : Type 0 where
+-- no dup has the tree and bytes of a row that is said to be alone
+abbrev pub AreAlone : Knobs → List HeldRow → List DupRow → Type 0
+AreAlone knobs held dups = All (λ h. is_alone h.in_tree ≡ true
+    → All (λ d. in_group (tree_of knobs h.row) h.row.bytes d ≡ false) dups) held
+
+-- the rows are in order, the items of each dup are the rows merged into it, the unstable trees are those of the knobs,
+-- rows that are said to be alone are so, and there is room for a frame at each place
+pub record AreKept (shape : Shape) (knobs : Knobs) (rows : RowsView) (dups : DupsState) (frames : List ℕ) : Type 0 where
   pub small : IsShape shape
-  pub order : InPageOrder rows
-  pub tied : AreTied rows dups.dups
+  pub order : InPageOrder (rows_of rows.held)
+  pub tied : AreTied (rows_of rows.held) dups.dups
   pub places : dups.places ≡ frames_of shape
-  pub waits : AreWaiting knobs rows dups.waiting
+  pub by_node : rows.by_node ≡ not (knobs.merge_across_nodes == 1)
+  pub alone : AreAlone knobs rows.held (dup_rows dups.dups)
   pub room : length frames ≡ frames_of shape

@@ -7,10 +7,10 @@ ghost use Rattle.ksm_base.specs.Rows.{row_at, with_row, without_page, change_row
 ghost use Rattle.ksm_base.specs.Rows.{settled as as_settled};
 ghost use Rattle.ksm_pages.specs.Paged.{HasRow, IsAlone, IsKnown, lies_on, on_its_own, seen};
 
-use crate::left::{leave, left_by_any};
+use crate::left::leave;
 use crate::pages::Pages;
 use crate::row::{Kind, Spot};
-use ksm_base::{Fault, GuestPage, PageBytes, PageState};
+use ksm_base::{Fault, GuestPage, PageBytes};
 
 impl Pages {
     /// Adds a page that has no row, at home on a node; which frame is its own is told next, by `resettle`. Refused for
@@ -42,7 +42,7 @@ impl Pages {
           frame = lies_on spot.page (Some frame) (seen self.old).frame;
         } }
     {
-        let left = leave(&mut self.dups, &self.frames, &self.knobs, &self.rows, spot);
+        let left = leave(&mut self.dups, &self.frames, &self.rows, spot);
         self.rows.change(spot, |entry| {
             entry.kind = Kind::Own;
             entry.at = frame;
@@ -60,7 +60,7 @@ impl Pages {
           frame = lies_on spot.page None (seen self.old).frame;
         } }
     {
-        let left = leave(&mut self.dups, &self.frames, &self.knobs, &self.rows, spot);
+        let left = leave(&mut self.dups, &self.frames, &self.rows, spot);
         self.rows.remove(spot);
         left
     }
@@ -73,34 +73,7 @@ impl Pages {
           rows = change_row spot.page (stored bytes.now) self.old.rows;
         } }
     {
-        // Mostly the row lies where that was guessed, and is Private, so in nothing: then nothing is written between
-        // the look at it and the store.
-        if let Some(entry) = self.rows.at(spot) {
-            if let PageState::Private = entry.state(self.rows.pass()) {
-                self.rows.store(spot, bytes);
-                return;
-            }
-        }
-        self.store_any(spot, bytes);
-    }
-
-    // The same, whatever the row is, and wherever it lies.
-    #[inline(never)]
-    fn store_any(&mut self, spot: Spot, bytes: &PageBytes)
-        requires { IsAlone spot.page self.old.rows }
-        ensures { seen self.new ≡ record (seen self.old) {
-          rows = change_row spot.page (stored bytes.now) self.old.rows;
-        } }
-    {
-        let Some(entry) = self.rows.find(spot) else {
-            return;
-        };
-        let pass = self.rows.pass();
-        left_by_any(&mut self.dups, &self.frames, &self.knobs, entry, pass);
-        self.rows.change(spot, |entry| {
-            entry.forget_pass();
-            entry.take_bytes(bytes);
-        });
+        self.rows.store(spot, bytes);
     }
 
     /// A Private page is at home on another node from now on.
@@ -110,7 +83,7 @@ impl Pages {
           rows = change_row spot.page (λ r. record r { home = node }) self.old.rows;
         } }
     {
-        self.rows.change(spot, |entry| entry.home = node);
+        self.rows.set_home(spot, node);
     }
 
     /// The page is not unchanged from now on.
@@ -140,7 +113,6 @@ impl Pages {
           rows = change_row spot.page as_let_go self.old.rows;
         } }
     {
-        leave(&mut self.dups, &self.frames, &self.knobs, &self.rows, spot);
         self.rows.let_go(spot);
     }
 
@@ -154,7 +126,7 @@ impl Pages {
           frame = lies_on spot.page (Some frame) (seen self.old).frame;
         } }
     {
-        let left = leave(&mut self.dups, &self.frames, &self.knobs, &self.rows, spot);
+        let left = leave(&mut self.dups, &self.frames, &self.rows, spot);
         self.rows.change(spot, |entry| {
             entry.kind = Kind::Own;
             entry.at = frame;
@@ -170,7 +142,6 @@ impl Pages {
         requires { IsAlone spot.page self.old.rows }
         ensures { seen self.new ≡ record (seen self.old) { rows = change_row spot.page on_its_own self.old.rows } }
     {
-        leave(&mut self.dups, &self.frames, &self.knobs, &self.rows, spot);
         self.rows.change(spot, |entry| entry.forget_pass());
     }
 
@@ -179,7 +150,7 @@ impl Pages {
         ensures { seen self.new ≡ record (seen self.old) { rows = map as_settled self.old.rows } }
     {
         self.rows.settle_all();
-        self.dups.clear_waiting();
+        self.rows.make_room();
     }
 
     /// Every page becomes Private and not unchanged, where none is merged or Zero.
@@ -190,6 +161,5 @@ impl Pages {
         } }
     {
         self.rows.unshare_all();
-        self.dups.clear_waiting();
     }
 }

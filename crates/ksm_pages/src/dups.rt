@@ -10,7 +10,7 @@ ghost use Rattle.ksm_base.specs.State.{place_count};
 ghost use Rattle.ksm_base.specs.Visit.{new_place as a_new_place};
 ghost use Rattle.ksm_pages.specs.Paged.{IsVacant, ItemsLieOn, elsewhere, items_on, seen};
 
-use crate::lying::frame_at;
+use crate::left::frame_at;
 use crate::pages::Pages;
 use ksm_base::{DupRow, GuestPage};
 use ksm_tree::Choice;

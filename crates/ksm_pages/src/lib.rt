@@ -5,7 +5,6 @@ mod ahead;
 mod changes;
 mod dups;
 mod left;
-mod lying;
 mod named;
 mod order;
 mod pages;
@@ -17,6 +16,7 @@ mod scanning;
 mod slot;
 mod tally;
 mod tree;
+mod unstable;
 mod visited;
 
 pub use ahead::Ahead;

@@ -1,5 +1,4 @@
-//! The pages: the rows, the dups into which rows are merged, each with its frame, the pages that wait, and the knobs.
-//! Each call tells a change to all of them.
+//! The pages: the rows, the dups into which rows are merged, each with its frame, and the knobs. Each call tells a change to all of them.
 //!
 //! A page is named by a `Spot`, whose key is a guess that no contract reads; a change is told by the page. What is read
 //! of pages is in `reads.rt`, what commands change in `changes.rt`, what visits find and change in `visited.rt`, which
@@ -57,7 +56,7 @@ pub enum Glance {
     Nothing,
 }
 
-/// The rows, the dups with their frames, the pages that wait, and the knobs, which say what tree a row is in.
+/// The rows, the dups with their frames, and the knobs, which say what tree a row is in.
 ///
 /// The frame of a dup is kept once, at the dup's place: to move a dup writes one number, however many pages are merged
 /// into it.
@@ -86,7 +85,7 @@ impl Model for Pages {
       next = p.dups.next;
     } };
 
-    ghost invariant = { λ p. AreKept p.shape p.knobs (rows_of p.rows.held) p.dups p.frames.items };
+    ghost invariant = { λ p. AreKept p.shape p.knobs p.rows p.dups p.frames.items };
 }
 
 impl Pages {
@@ -143,6 +142,7 @@ impl Pages {
         ensures { seen self.new ≡ record (seen self.old) { knobs = knobs } }
     {
         self.dups.set_limit(knobs.max_page_sharing);
+        self.rows.set_by_node(knobs.merge_across_nodes != 1);
         self.knobs = knobs;
     }
 }

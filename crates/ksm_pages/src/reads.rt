@@ -9,7 +9,7 @@ ghost use Rattle.ksm_base.specs.Visit.{after_cursor};
 ghost use Rattle.ksm_base.specs.declared.row.Row.{Row};
 ghost use Rattle.ksm_pages.specs.Paged.{IsHeld, IsKnown, is_next, of_guest, page_beside, seen};
 
-use crate::lying::frame_of;
+use crate::left::frame_of;
 use crate::pages::{Held, Pages};
 use crate::row::{Kind, Spot};
 use crate::tree::tree_in;
@@ -112,10 +112,11 @@ impl Pages {
         let entry = self.rows.find(spot)?;
         match entry.kind {
             Kind::Merged => {
+                // Called for its contract alone: the tree leads to each row that waits.
+                self.rows.are_lawful();
                 let tree = tree_in(&self.knobs, entry.home);
-                let page = self.dups.waiting_of(entry.at, tree, &entry.bytes)?;
-                let key = self.rows.guess(page);
-                Some(Spot { page, key })
+                let other = self.rows.in_tree(tree, &entry.bytes)?;
+                self.waits(other).then_some(other)
             }
             Kind::Own => None,
             Kind::Zero => None,

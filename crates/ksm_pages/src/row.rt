@@ -1,11 +1,12 @@
 //! A row as it is kept, and how it is found.
 //!
-//! The state of a row is kept as a kind and a number. A row with a frame of its own waits exactly where its number is
-//! that of the pass that goes on: so when a pass begins and none waits any more, one number grows, and no row is
-//! written.
+//! The state of a row is kept as a kind and a number. A row with a frame of its own waits exactly where the unstable tree
+//! leads to it and its number is that of the pass that goes on: so when a pass begins and none waits any more, one number
+//! grows, and no row is written.
 
 ghost use Rattle.std.specs.Prelude.{◌≡◌, ◌&&◌, bytes_eq};
-ghost use Rattle.ksm_pages.specs.Held.{forgotten, frame_of, held_of, is_restless as is_a_restless, state_of};
+ghost use Rattle.ksm_pages.specs.Held.{beside as no_longer_alone, forgotten, frame_of, held_of, is_in as is_in_tree};
+ghost use Rattle.ksm_pages.specs.Held.{is_restless as is_a_restless, state_of};
 
 use ksm_base::{GuestPage, PageBytes, PageState, Row};
 
@@ -29,6 +30,38 @@ pub enum Kind {
     Zero,
 }
 
+/// Whether the unstable tree leads to a row.
+#[derive(Clone, Copy, Debug, PartialEq, Eq)]
+pub enum InTree {
+    /// It does not.
+    Not,
+    /// It does, and there may be dups of the row's content.
+    Beside,
+    /// It does, and there is no dup of the row's content.
+    Alone,
+}
+
+impl InTree {
+    /// Whether the tree leads to the row.
+    #[inline(always)]
+    pub fn is_in(self) -> bool
+        ensures { result ≡ is_in_tree self }
+    {
+        !matches!(self, InTree::Not)
+    }
+
+    /// The same once there may be dups of the row's content.
+    #[inline(always)]
+    pub fn beside(self) -> InTree
+        ensures { result ≡ no_longer_alone self }
+    {
+        match self {
+            InTree::Not => InTree::Not,
+            InTree::Beside | InTree::Alone => InTree::Beside,
+        }
+    }
+}
+
 /// A row as it is kept. The fields stand in an order that leaves no gaps.
 #[derive(Clone, Copy, Debug)]
 pub struct Entry {
@@ -40,9 +73,10 @@ pub struct Entry {
     /// Of a row with a frame of its own that frame; of a merged one a guess of the place of its dup.
     pub at: u32,
     pub home: u32,
-    /// A guess of the number that the row's tree and bytes have among the groups.
+    /// A guess of the number that the row's tree and bytes have among the groups of dups.
     pub group: u32,
     pub kind: Kind,
+    pub in_tree: InTree,
     pub mergeable: bool,
     pub unchanged: bool,
 }
@@ -59,11 +93,10 @@ impl Entry {
     /// The state of the row in a pass.
     #[inline(always)]
     pub fn state(&self, pass: u64) -> PageState
-        ensures { result ≡ state_of self.now.kind self.now.number pass }
+        ensures { result ≡ state_of pass self.now }
     {
         match self.kind {
-            Kind::Own if self.number == pass => PageState::Waiting,
-            Kind::Own => PageState::Private,
+            Kind::Own => self.state_alone(pass),
             Kind::Merged => PageState::Merged(self.number),
             Kind::Zero => PageState::Zero,
         }
@@ -73,9 +106,9 @@ impl Entry {
     #[inline(always)]
     pub fn state_alone(&self, pass: u64) -> PageState
         requires { self.now.kind ≡ Kind.Own }
-        ensures { result ≡ state_of self.now.kind self.now.number pass }
+        ensures { result ≡ state_of pass self.now }
     {
-        if self.number == pass {
+        if self.number == pass && self.in_tree.is_in() {
             PageState::Waiting
         } else {
             PageState::Private

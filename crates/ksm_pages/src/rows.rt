@@ -2,33 +2,36 @@
 //! how many there are of each state.
 //!
 //! A key is told as a guess, or comes from a table of guesses by slots of pages (`slot.rt`). Where it is right no
-//! search is made; where it is wrong the page is searched for in the order. `settle_all` writes no row. `unshare_all` walks
-//! over all.
+//! search is made; where it is wrong the page is searched for in the order. `settle_all` writes no row. `unshare_all` and
+//! `set_by_node` walk over all.
 
-ghost use Rattle.std.specs.Prelude.{◌≡◌, ◌≤◌, ◌<◌, ◌^◌, true, false, [], None, Some, All, IfErr, IfOk, IfSome};
-ghost use Rattle.std.specs.Prelude.{MatchOption, OnErr, OnOk, ◌&&◌, bytes_eq, count_by, filter, find, is_some};
+ghost use Rattle.std.specs.Prelude.{◌≡◌, ◌⊎◌, ◌≤◌, ◌<◌, ◌^◌, true, false, [], None, Some, All, IfErr, IfOk, IfSome};
+ghost use Rattle.std.specs.Prelude.{MatchOption, OnErr, OnOk, ◌==◌, count_by, filter, find, if◌then◌else◌, is_some};
 ghost use Rattle.std.specs.Prelude.{length, map, not, option_map, slice_get};
 ghost use Rattle.std.specs.Fn.{FnOnceReturnsAtMut};
 ghost use Rattle.ksm_base.specs.declared.limits.TheConstants.{MOST_FRAMES};
 ghost use Rattle.ksm_base.specs.declared.page.GuestPage.{GuestPage};
-ghost use Rattle.ksm_base.specs.declared.row.PageState.TheVariants.{Private, Waiting, Merged, Zero};
+ghost use Rattle.ksm_base.specs.declared.row.PageState.TheVariants.{Merged, Waiting, Zero};
 ghost use Rattle.ksm_base.specs.Apply.{fresh_row, let_go as as_let_go};
-ghost use Rattle.ksm_base.specs.Rows.{InPageOrder, settled, shared_state};
+ghost use Rattle.ksm_base.specs.Rows.{InPageOrder, settled, shared_state, waiting_state};
 ghost use Rattle.ksm_base.specs.Visit.{after_cursor};
 ghost use Rattle.ksm_pages.specs.Ahead.{EndsAt, FindsNext, last_of, mergeable_pages, pages_behind, pages_between};
 ghost use Rattle.ksm_pages.specs.Filed.{AreFiled, AreListed, IsMade, IsTally, IsUnder, KeepsPage, key_in};
-ghost use Rattle.ksm_pages.specs.Held.{change_held, held_at, held_of, mapped, on_row, rows_of};
-ghost use Rattle.ksm_pages.specs.Held.{with_held, without_held};
+ghost use Rattle.ksm_pages.specs.Held.{AreInTree, IsFree, change_held, held_at, held_of, is_in, on_row, out_of_tree};
+ghost use Rattle.ksm_pages.specs.Held.{in_tree_by, page_in_tree, rows_of, shares, waiting_in, with_held, without_held, written};
 ghost use Rattle.ksm_pages.specs.Ordered.{AreAscending};
+ghost use Rattle.ksm_pages.specs.Unstable.{AreLed, IsFreeAt, LeadsAt};
+ghost use Rattle.slab.specs.Slab.{get};
 
 use crate::ahead::Ahead;
 use crate::order::Order;
 use crate::restless::Restless;
-use crate::row::{Entry, Kind, Spot};
+use crate::row::{Entry, InTree, Kind, Spot};
 use crate::slot::{last_slot, slot_of};
 use crate::tally::Tally;
+use crate::unstable::{GONE, UnstableTree, is_in_tree, tree_by};
 use ksm_base::{Fault, GuestPage, PageBytes, PageState};
-use ksm_tree::{Guesses, reserve_one};
+use ksm_tree::{Guesses, NO_NUMBER, reserve_one};
 use slab::Slab;
 use std::alloc::Global;
 use std::marker::Model;
@@ -36,6 +39,7 @@ use std::marker::Model;
 /// The rows, each with the frame of its own.
 #[derive(Drop)]
 pub struct Rows {
+    alloc: Global,
     entries: Slab<Entry>,
     order: Order,
     /// Guesses: in the slot of a page the key of the row that came last of the pages with that slot.
@@ -45,17 +49,22 @@ pub struct Rows {
     tally: Tally,
     /// One more whenever no row waits any longer.
     pass: u64,
+    unstable: UnstableTree,
+    /// Whether each node has an unstable tree of its own.
+    by_node: bool,
 }
 
 impl Model for Rows {
     ghost use Rattle.ksm_pages.specs.Filed.{IsRows, held_in};
     ghost use Rattle.ksm_pages.specs.Held.{RowsView};
+    ghost use Rattle.ksm_pages.specs.Unstable.{AreLed};
 
     ghost Value = { RowsView };
 
-    ghost view = { λ r. record { held = held_in r.pass r.entries r.order; pass = r.pass } };
+    ghost view = { λ r. record { held = held_in r.pass r.entries r.order; pass = r.pass; by_node = r.by_node } };
 
-    ghost invariant = { λ r. IsRows r.entries r.order r.restless r.tally r.pass };
+    ghost invariant = { λ r. IsRows r.entries r.order r.restless r.tally r.pass
+        × AreLed r.by_node r.entries r.unstable };
 }
 
 /// The key of a page's row. The guess is tried first.
@@ -108,14 +117,54 @@ fn gather(entries: &Slab<Entry>, order: &Order, restless: &mut Restless)
     }
 }
 
+/// How a row comes to stand in the unstable tree, where there is a group of dups of its content, or none.
+fn in_tree_by(group: Option<u32>) -> InTree
+    ensures { result ≡ in_tree_by group }
+{
+    match group {
+        Some(_) => InTree::Beside,
+        None => InTree::Alone,
+    }
+}
+
+/// The unstable tree leads to the entry under a key, which is about to say so, if it does not say so yet. The one fault is
+/// `Memory`, and then the tree leads where it did.
+#[inline(always)]
+fn lead_to(
+    unstable: &mut UnstableTree,
+    entries: &Slab<Entry>,
+    by_node: bool,
+    key: usize,
+) -> Result<(), Fault>
+    requires stands { is_some (get entries.now key) ≡ true }
+    requires led { AreLed by_node entries.now unstable.old }
+    requires free { IsFreeAt by_node entries.now unstable.old key }
+    ensures leads { OnOk result (LeadsAt by_node entries.now unstable.new key) }
+    ensures kept { AreLed by_node entries.now unstable.new }
+    ensures memory { IfErr result (λ fault. fault ≡ Fault.Memory) }
+{
+    let entry = &entries[key];
+    if entry.in_tree.is_in() {
+        return Ok(());
+    }
+    let number = u32::try_from(key).unwrap_or(GONE);
+    if number >= GONE {
+        return Err(Fault::Memory);
+    }
+    let tree = tree_by(by_node, entry.home);
+    unstable.lead(entries, tree, &entry.bytes, number)
+}
+
 impl Rows {
     /// No rows, in a table with so many frames.
     pub fn new(alloc: Global, frames: u32) -> Rows
         requires { frames ≤ MOST_FRAMES }
         ensures held { result.held ≡ [] }
+        ensures by_node { result.by_node ≡ false }
     {
         let last_slot = last_slot(frames);
         Rows {
+            alloc,
             entries: Slab::new(alloc),
             order: Order::new(alloc),
             keys: Guesses::new(alloc, last_slot as usize + 1),
@@ -123,15 +172,20 @@ impl Rows {
             restless: Restless::new(alloc),
             tally: Tally::NONE,
             pass: 1,
+            unstable: UnstableTree::new(alloc, 0),
+            by_node: false,
         }
     }
 
     // ------------------------------------------------------------ what is read
 
-    /// A law: the rows are in the order of their pages, and those with frames of their own have them.
+    /// A law: the rows are in the order of their pages, those with frames of their own have them, and the unstable tree
+    /// leads to those that wait, and from each tree and bytes to one row at most.
     pub fn are_lawful(&self)
         ensures rise { InPageOrder (rows_of self.now.held) }
         ensures framed { All (λ h. is_some h.frame ≡ not (shared_state h.row.state)) self.now.held }
+        ensures led { All (λ h. waiting_state h.row.state ≡ true → is_in h.in_tree ≡ true) self.now.held }
+        ensures found { AreInTree self.now }
     {
         // A law is told of the fields where one of them is read.
         let _ = self.order.len();
@@ -197,6 +251,20 @@ impl Rows {
         self.pass
     }
 
+    /// The row to which the unstable tree leads from a tree and bytes: the one that waits, or did last.
+    #[inline(always)]
+    pub fn in_tree(&self, tree: u32, bytes: &PageBytes) -> Option<Spot>
+        ensures { option_map (λ s. s.page) result ≡ page_in_tree self.now tree bytes.now }
+    {
+        let key = self
+            .unstable
+            .find(&self.entries, self.by_node, tree, bytes)? as usize;
+        Some(Spot {
+            page: self.entries[key].page,
+            key,
+        })
+    }
+
     /// How many rows there are.
     pub fn len(&self) -> usize
         ensures { result ≡ length self.now.held }
@@ -260,7 +328,7 @@ impl Rows {
     ) -> Result<Spot, Fault>
         requires absent { held_at page self.old.held ≡ None }
         ensures added { OnOk result (self.new ≡ record self.old {
-          held = with_held (record { row = fresh_row page home bytes; frame = Some frame }) self.old.held;
+          held = with_held (record { row = fresh_row page home bytes; frame = Some frame; in_tree = InTree.Not }) self.old.held;
         }) }
         ensures spot { IfOk result (λ spot. spot.page ≡ page) }
         ensures kept { OnErr result (self.new ≡ self.old) }
@@ -277,8 +345,9 @@ impl Rows {
             number: 0,
             at: frame,
             home,
-            group: u32::MAX,
+            group: NO_NUMBER,
             kind: Kind::Own,
+            in_tree: InTree::Not,
             mergeable: true,
             unchanged: false,
         });
@@ -302,6 +371,7 @@ impl Rows {
         self.tally.change(gone.state(self.pass), PageState::Private);
         self.order.remove(spot.page);
         self.restless.lose_row();
+        self.forget(key, &gone);
     }
 
     // ------------------------------------------------------------ rows that change
@@ -339,51 +409,113 @@ impl Rows {
         was_restless
     }
 
-    /// The row has these bytes. Where its bytes were others, it is not unchanged.
+    /// The row has these bytes, and waits no more. Where its bytes were others, it is not unchanged.
     #[inline(always)]
     pub fn store(&mut self, spot: Spot, bytes: &PageBytes)
-        ensures { self.new ≡ record self.old {
-          held = change_held spot.page (on_row (λ r. record r {
-            bytes = bytes.now;
-            unchanged = r.unchanged && bytes_eq r.bytes bytes.now;
-          })) self.old.held;
-        } }
+        ensures { self.new ≡ record self.old { held = change_held spot.page (written bytes.now) self.old.held } }
     {
         let Some(key) = key_of(&self.entries, &self.order, spot) else {
             return;
         };
-        self.entries[key].take_bytes(bytes);
+        if self.entries[key].in_tree.is_in() {
+            let page = spot.page;
+            self.store_in_tree(Spot { page, key }, bytes);
+        } else {
+            self.entries[key].take_bytes(bytes);
+        }
     }
 
-    // ------------------------------------------------------------ how a page is mapped
+    // The same where the unstable tree leads to the row.
+    #[inline(never)]
+    fn store_in_tree(&mut self, spot: Spot, bytes: &PageBytes)
+        ensures { self.new ≡ record self.old { held = change_held spot.page (written bytes.now) self.old.held } }
+    {
+        self.change_out_of_tree(spot, |entry| {
+            entry.in_tree = InTree::Not;
+            entry.take_bytes(bytes);
+        });
+    }
 
-    /// The page of a row is mapped from the frame of the dup with a number, at a place that is a guess.
-    #[inline(always)]
-    pub fn merge(&mut self, spot: Spot, number: u64, place: u32)
+    /// The row is at home on another node, and the unstable tree does not lead to it.
+    pub fn set_home(&mut self, spot: Spot, home: u32)
         ensures { self.new ≡ record self.old {
-          held = change_held spot.page (mapped (Merged number) None) self.old.held;
+          held = change_held spot.page (λ h. on_row (λ r. record r { home = home }) (out_of_tree h)) self.old.held;
         } }
     {
-        self.change(spot, |entry| {
-            entry.kind = Kind::Merged;
-            entry.number = number;
-            entry.at = place;
+        self.change_out_of_tree(spot, |entry| {
+            entry.in_tree = InTree::Not;
+            entry.home = home;
         });
-        self.restless.let_be();
     }
 
-    /// The page of a row is mapped from the zero page.
-    pub fn become_zero(&mut self, spot: Spot)
-        ensures { self.new ≡ record self.old { held = change_held spot.page (mapped Zero None) self.old.held } }
+    /// The unstable tree does not lead to the row, so that waits no more.
+    pub fn leave_tree(&mut self, spot: Spot)
+        ensures { self.new ≡ record self.old { held = change_held spot.page out_of_tree self.old.held } }
     {
-        self.change(spot, |entry| entry.kind = Kind::Zero);
-        self.restless.let_be();
+        self.change_out_of_tree(spot, |entry| entry.in_tree = InTree::Not);
     }
 
-    /// A row with a frame of its own waits.
+    // The entry of a page becomes what is made of it, to which the unstable tree does not lead: it forgets the key.
+    fn change_out_of_tree<F: FnOnce(&mut Entry)>(&mut self, spot: Spot, make: F)
+        requires callable { F.IsAlwaysCallable make }
+        requires kept { KeepsPage self.old.pass (λ old new. FnOnceReturnsAtMut F.FnOnce make old tt new) }
+        ensures { IsMade (λ old new. FnOnceReturnsAtMut F.FnOnce make old tt new) spot.page self.old self.new }
+    {
+        let found = match self.look_up(spot) {
+            Some((there, entry)) => Some((there.key, *entry)),
+            None => None,
+        };
+        self.change(spot, make);
+        if let Some((key, was)) = found {
+            self.forget(key, &was);
+        }
+    }
+
+    // ------------------------------------------------------------ the unstable tree
+
+    // The unstable tree forgets the key of a row that was in it, and is not any more.
+    fn forget(&mut self, key: usize, was: &Entry)
+        ensures { self.new ≡ self.old }
+    {
+        let number = u32::try_from(key).unwrap_or(GONE);
+        if was.in_tree.is_in() && !is_in_tree(&self.entries, number) {
+            let tree = tree_by(self.by_node, was.home);
+            self.unstable
+                .forget(&self.entries, tree, &was.bytes, number);
+        }
+    }
+
+    /// A row with a frame of its own waits, and the unstable tree leads to it, where it leads to no other row of the tree
+    /// and bytes. The row remembers the number of its group of dups, or that there is no dup of its content. The one fault
+    /// is `Memory`, and then nothing changes.
+    #[inline(always)]
+    pub fn enter(&mut self, spot: Spot, group: Option<u32>) -> Result<(), Fault>
+        requires own { IfSome (held_at spot.page self.old.held) (λ h. shared_state h.row.state ≡ false) }
+        requires free { IfSome (held_at spot.page self.old.held) (λ h. IsFree self.old spot.page h) }
+        ensures waits { OnOk result (self.new ≡ record self.old {
+          held = change_held spot.page (waiting_in (in_tree_by group)) self.old.held;
+        }) }
+        ensures kept { OnErr result (self.new ≡ self.old) }
+        ensures memory { IfErr result (λ fault. fault ≡ Fault.Memory) }
+    {
+        let Some(key) = key_of(&self.entries, &self.order, spot) else {
+            return Ok(());
+        };
+        lead_to(&mut self.unstable, &self.entries, self.by_node, key)?;
+        let entry = &mut self.entries[key];
+        let old = entry.state_alone(self.pass);
+        entry.in_tree = in_tree_by(group);
+        entry.group = group.unwrap_or(NO_NUMBER);
+        entry.number = self.pass;
+        self.tally.change(old, PageState::Waiting);
+        Ok(())
+    }
+
+    /// A row with a frame of its own, to which the unstable tree leads, waits.
     #[inline(always)]
     pub fn wait(&mut self, spot: Spot)
         requires own { IfSome (held_at spot.page self.old.held) (λ h. shared_state h.row.state ≡ false) }
+        requires led { IfSome (held_at spot.page self.old.held) (λ h. is_in h.in_tree ≡ true) }
         ensures { self.new ≡ record self.old {
           held = change_held spot.page (on_row (λ r. record r { state = Waiting })) self.old.held;
         } }
@@ -395,6 +527,80 @@ impl Rows {
         let old = entry.state_alone(self.pass);
         entry.number = self.pass;
         self.tally.change(old, PageState::Waiting);
+    }
+
+    /// Each node has an unstable tree of its own, or all have one; where that is another than before, the tree leads to no
+    /// row.
+    pub fn set_by_node(&mut self, by_node: bool)
+        ensures { ((by_node ≡ self.old.by_node) × (self.new ≡ self.old))
+            ⊎ ((by_node ≡ not self.old.by_node) × (self.new ≡ record self.old {
+              held = map out_of_tree self.old.held;
+              by_node = by_node;
+            })) }
+    {
+        if by_node != self.by_node {
+            self.clear_tree(by_node);
+        }
+    }
+
+    // ------------------------------------------------------------ how a page is mapped
+
+    /// The page of a row is mapped from the frame of the dup with a number, at a place that is a guess.
+    #[inline(always)]
+    pub fn merge(&mut self, spot: Spot, number: u64, place: u32)
+        ensures { self.new ≡ record self.old { held = change_held spot.page (shares (Merged number)) self.old.held } }
+    {
+        self.change(spot, |entry| {
+            entry.kind = Kind::Merged;
+            entry.number = number;
+            entry.at = place;
+            entry.in_tree = entry.in_tree.beside();
+        });
+        self.restless.let_be();
+    }
+
+    /// The page of a row is mapped from the zero page.
+    pub fn become_zero(&mut self, spot: Spot)
+        ensures { self.new ≡ record self.old { held = change_held spot.page (shares Zero) self.old.held } }
+    {
+        self.change(spot, |entry| {
+            entry.kind = Kind::Zero;
+            entry.in_tree = entry.in_tree.beside();
+        });
+        self.restless.let_be();
+    }
+
+    /// Where the unstable tree has too little room for the rows with frames of their own, it gets more, and leads to no
+    /// row.
+    pub fn make_room(&mut self)
+        ensures { (self.new ≡ self.old) ⊎ (self.new ≡ record self.old { held = map out_of_tree self.old.held }) }
+    {
+        let alone = self.count_alone();
+        if !self.unstable.has_room(alone) {
+            self.clear_tree(self.by_node);
+        }
+    }
+
+    // How many rows have frames of their own.
+    fn count_alone(&self) -> usize {
+        self.order
+            .len()
+            .saturating_sub(self.tally.merged)
+            .saturating_sub(self.tally.zero)
+    }
+
+    // The unstable tree leads to no row, and has room for all with frames of their own.
+    fn clear_tree(&mut self, by_node: bool)
+        ensures { self.new ≡ record self.old { held = map out_of_tree self.old.held; by_node = by_node } }
+    {
+        let alone = self.count_alone();
+        self.tally.waiting = 0;
+        self.entries.retain(|_, entry| {
+            entry.in_tree = InTree::Not;
+            true
+        });
+        self.unstable = UnstableTree::new(self.alloc, alone);
+        self.by_node = by_node;
     }
 
     // ------------------------------------------------------------ what else a row says

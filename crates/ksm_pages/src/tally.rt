@@ -45,12 +45,10 @@ impl Tally {
     /// An entry became another in a pass. Where both say the same of the row's state, nothing is looked at.
     #[inline(always)]
     pub fn follow(&mut self, was: &Entry, is: &Entry, pass: u64)
-        requires { CanMove (state_of was.now.kind was.now.number pass) (state_of is.now.kind is.now.number pass)
-            self.old }
-        ensures { IsMoved (state_of was.now.kind was.now.number pass) (state_of is.now.kind is.now.number pass)
-            self.old self.new }
+        requires { CanMove (state_of pass was.now) (state_of pass is.now) self.old }
+        ensures { IsMoved (state_of pass was.now) (state_of pass is.now) self.old self.new }
     {
-        if is.kind != was.kind || is.number != was.number {
+        if is.kind != was.kind || is.number != was.number || is.in_tree != was.in_tree {
             self.change(was.state(pass), is.state(pass));
         }
     }

@@ -1,21 +1,22 @@
 //! What a visit of the scan finds, and what becomes of the page that is visited: it joins a dup, makes one with another
 //! page, becomes Zero, or waits.
 
-ghost use Rattle.std.specs.Prelude.{◌≡◌, true, None, Some, Err, All, ◌==◌, ◌&&◌, IfOk, OnOk, OnErr};
+ghost use Rattle.std.specs.Prelude.{◌≡◌, true, false, None, Some, Err, All, ◌==◌, ◌&&◌, IfNone, IfOk, IsTrue, OnOk, OnErr, option_map};
 ghost use Rattle.ksm_base.specs.declared.fault.Fault.TheVariants.{Memory};
 ghost use Rattle.ksm_base.specs.declared.row.PageState.TheVariants.{Merged, Private, Zero};
 ghost use Rattle.ksm_base.specs.Rows.{all_zero as has_only_zeroes, change_row, merged_into};
 ghost use Rattle.ksm_pages.specs.declared.pages.Find.TheVariants as finds;
 ghost use Rattle.ksm_pages.specs.Paged.{Finds, HasRoom, HasRow, IsAlone, MayPair, is_restless, lies_on};
 ghost use Rattle.ksm_pages.specs.Paged.{paired as are_paired, seen};
+ghost use Rattle.ksm_pages.specs.Held.{is_alone};
+ghost use Rattle.ksm_tree.specs.Chains.{in_group};
+ghost use Rattle.ksm_tree.specs.Choosing.{best_of, found_at};
 
-use crate::left::{leave, left_by, left_group};
 use crate::pages::{Find, Glance, Pages};
-use crate::row::Spot;
-use crate::rows::Rows;
+use crate::row::{Entry, InTree, Spot};
 use crate::tree::tree_in;
 use ksm_base::{Fault, Knobs, PageBytes};
-use ksm_tree::Best;
+use ksm_tree::{Best, Dups, NO_NUMBER};
 
 /// Whether each word is zero.
 #[inline(always)]
@@ -33,20 +34,48 @@ fn is_for_zero(knobs: &Knobs, bytes: &PageBytes) -> bool
     knobs.use_zero_pages == 1 && all_zero(bytes)
 }
 
-/// Remembers the group of a row, where the guess was another.
+/// The number of the group of dups that have the content of a row in a tree, if they have one, and the dup that the row
+/// may join. Where the row is said to be alone there is none, and nothing is looked up.
+#[tactic(auto, using(crate::proofs::Visiting::none_best))]
 #[inline(always)]
-fn remember(rows: &mut Rows, spot: Spot, guess: u32, group: u32)
-    ensures { rows.new ≡ rows.old }
+fn group_with_best(
+    dups: &mut Dups,
+    entry: &Entry,
+    tree: u32,
+    limit: u32,
+) -> (Option<u32>, Option<Best>)
+    requires { is_alone entry.now.in_tree ≡ true → All (λ d. in_group tree entry.now.bytes d.row ≡ false) dups.old.dups }
+    ensures none { IfNone result.0 (All (λ d. in_group tree entry.now.bytes d.row ≡ false) dups.old.dups) }
+    ensures best { result.1 ≡ option_map found_at (best_of tree entry.now.bytes limit dups.old.dups) }
+    ensures kept { dups.new ≡ dups.old }
 {
-    if group != guess {
-        rows.change(spot, |entry| entry.group = group);
+    if let InTree::Alone = entry.in_tree {
+        return (None, None);
+    }
+    match dups.group_of(entry.group, tree, &entry.bytes) {
+        Some(group) => (Some(group), dups.best_of(group, limit)),
+        None => (None, None),
+    }
+}
+
+/// Whether it is known of a row to which the unstable tree leads that there is no dup that it may join.
+#[tactic(auto, using(crate::proofs::Visiting::none_best))]
+#[inline(always)]
+fn joins_none(dups: &Dups, entry: &Entry, tree: u32, limit: u32) -> bool
+    requires { is_alone entry.now.in_tree ≡ true → All (λ d. in_group tree entry.now.bytes d.row ≡ false) dups.now.dups }
+    ensures { IsTrue result → best_of tree entry.now.bytes limit dups.now.dups ≡ None }
+{
+    match entry.in_tree {
+        InTree::Not => false,
+        InTree::Beside => dups.is_closed_group(entry.group, tree, &entry.bytes, limit),
+        InTree::Alone => true,
     }
 }
 
 impl Pages {
     /// A first look at a page that is visited. It tells whether a visit may change the row, where that lies where it
-    /// was guessed; and of an unchanged page whether it waits, where its group is the one that was guessed. Then it
-    /// waits from now on. Where a look tells nothing, nothing changes, and `visit` tells.
+    /// was guessed; and of an unchanged page whether it waits, where the unstable tree leads to it and there is no dup
+    /// that it may join. Then it waits from now on. Where a look tells nothing, nothing changes, and `visit` tells.
     #[inline(always)]
     pub fn glance(&mut self, spot: Spot) -> Glance
         ensures gone { result ≡ Glance.Gone → Finds (seen self.old) (seen self.new) spot.page finds.Gone }
@@ -59,17 +88,16 @@ impl Pages {
         if !entry.is_restless() {
             return Glance::Gone;
         }
-        if !entry.unchanged || is_for_zero(&self.knobs, &entry.bytes) {
+        if !entry.in_tree.is_in() || !entry.unchanged || is_for_zero(&self.knobs, &entry.bytes) {
             return Glance::Nothing;
         }
         let tree = tree_in(&self.knobs, entry.home);
-        let group = entry.group;
-        let limit = self.knobs.max_page_sharing;
-        if !self.dups.is_closed_group(group, tree, &entry.bytes, limit) {
+        if !joins_none(&self.dups, entry, tree, self.knobs.max_page_sharing) {
             return Glance::Nothing;
         }
+        // Called for its contract alone: the tree leads to no other row of the same content.
+        self.rows.are_lawful();
         self.rows.wait(spot);
-        self.dups.meet(group, spot.page);
         Glance::Waits
     }
 
@@ -86,18 +114,20 @@ impl Pages {
         if !entry.is_restless() {
             return Ok(Find::Gone);
         }
-        let guess = entry.group;
-        let group = self
-            .dups
-            .group(guess, tree_in(&self.knobs, entry.home), &entry.bytes)?;
-        if let Some(best) = self.dups.best_of(group, self.knobs.max_page_sharing) {
+        let tree = tree_in(&self.knobs, entry.home);
+        let (group, best) = group_with_best(
+            &mut self.dups,
+            entry,
+            tree,
+            self.knobs.max_page_sharing,
+        );
+        if let Some(best) = best {
             return Ok(Find::Dup(best));
         }
         if !entry.unchanged {
-            left_group(&mut self.dups, group, entry, self.rows.pass());
             self.rows.change(spot, |entry| {
                 entry.unchanged = true;
-                entry.group = group;
+                entry.group = group.unwrap_or(NO_NUMBER);
                 entry.forget_pass();
             });
             return Ok(Find::Changed);
@@ -105,13 +135,18 @@ impl Pages {
         if is_for_zero(&self.knobs, &entry.bytes) {
             return Ok(Find::Zero);
         }
-        let other = self.dups.meet(group, spot.page);
-        if other == spot.page {
-            self.rows.wait(spot);
-            remember(&mut self.rows, spot, guess, group);
-            return Ok(Find::Waits);
+        // Called for its contract alone: the tree leads to each row that waits.
+        self.rows.are_lawful();
+        if let Some(other) = self.rows.in_tree(tree, &entry.bytes) {
+            if other.page != spot.page {
+                if self.waits(other) {
+                    return Ok(Find::Partner(other.page));
+                }
+                self.rows.leave_tree(other);
+            }
         }
-        Ok(Find::Partner(other))
+        self.rows.enter(spot, group)?;
+        Ok(Find::Waits)
     }
 
     /// A page with a frame of its own joins a dup that has an item, and lies where its items do. Gives the frame that
@@ -135,13 +170,6 @@ impl Pages {
         };
         let place = self.dups.join_at(best.place, best.number, spot.page)?;
         let lone = entry.at;
-        left_by(
-            &mut self.dups,
-            &self.frames,
-            &self.knobs,
-            entry,
-            self.rows.pass(),
-        );
         self.rows.merge(spot, best.number, place);
         Ok(lone)
     }
@@ -158,6 +186,8 @@ impl Pages {
         ensures refused { OnErr result (self.new ≡ self.old) }
         ensures fault { OnErr result (result ≡ Err Memory) }
     {
+        // Called for its contract alone: the tree leads to no third row of the same content.
+        self.rows.are_lawful();
         let (Some(one), Some(other)) = (self.rows.find(first), self.rows.find(second)) else {
             unreachable!()
         };
@@ -167,9 +197,6 @@ impl Pages {
             .dups
             .found(group, place, tree, &other.bytes, first.page, second.page)?;
         let (frame, lone) = (one.at, other.at);
-        let pass = self.rows.pass();
-        left_by(&mut self.dups, &self.frames, &self.knobs, one, pass);
-        left_group(&mut self.dups, group, other, pass);
         self.rows.merge(first, number, place);
         self.rows.merge(second, number, place);
         self.frames[place as usize] = frame;
@@ -185,7 +212,7 @@ impl Pages {
           frame = lies_on spot.page None (seen self.old).frame;
         } }
     {
-        let left = leave(&mut self.dups, &self.frames, &self.knobs, &self.rows, spot);
+        let left = self.rows.find(spot)?.own_frame();
         self.rows.become_zero(spot);
         left
     }

@@ -1,8 +1,8 @@
 -- The dups in their groups: what is found there, and how that stays right with a change of items, with a dup that goes, and with a new one.
-use Rattle.ksm_tree.proofs.Names.{All, All-filter, ap, AreChained, AreTotals, arith, Bool, chain_in, change_at, change_items, content_of, Dup, dup_at, dup_of, DupRow, dups_seen, DupsState, false}
+use Rattle.ksm_tree.proofs.Names.{All, All-cons, All-filter, ap, AreChained, AreTotals, arith, Bool, chain_in, change_at, change_items, content_of, Dup, dup_at, dup_of, DupRow, dups_seen, DupsState, false}
 use Rattle.ksm_tree.proofs.Names.{filter, filter_all, find, find_none, find_nothing, get, Group, group_places, Groups, GuestPage, has_number, if◌then◌else◌, in_group, InPlaceOrder, is_some}
 use Rattle.ksm_tree.proofs.Names.{IsCountedAnew, IsMoved, items_in, length, List, MOST_FRAMES, nat_lt, None, not, number_of, Option, option_map, pairs_head, pairs_tail, refl, rows_of, rules, SameChains}
-use Rattle.ksm_tree.proofs.Names.{SameWaits, SlotsState, Some, stands_at, subst, Tells, true, with_dup, with_new, with_place, without, without_place, ℕ, [], ◌&&◌, ◌+◌, ◌<◌, ◌==◌, ◌∙◌, ◌∷◌, ◌≡◌, ◌≤◌}
+use Rattle.ksm_tree.proofs.Names.{SameNumbers, SlotsState, Some, stands_at, subst, Tells, true, with_dup, with_new, with_place, without, without_place, ℕ, [], ◌&&◌, ◌+◌, ◌<◌, ◌==◌, ◌∙◌, ◌∷◌, ◌≡◌, ◌≤◌}
 use Rattle.ksm_tree.proofs.Alike.{chosen, find_alike, map_alike}
 use Rattle.ksm_tree.proofs.OneSlot.{found_stands}
 use Rattle.ksm_tree.proofs.Grouped.{IsMore, more_there, more_with, totals_less, totals_more, totals_tell}
@@ -103,7 +103,17 @@ module _ {s : SlotsState} {next : ℕ} {groups : Groups} (h : AreChained s next 
 
     -- the group under the number of a tree and bytes has that tree and those bytes as its content
     pub content_here : g.content ≡ content_of tree bytes
-    content_here = grind (arith, groups.lawful.numbered (content_of tree bytes) number)
+    content_here = grind (arith, groups.lawful (content_of tree bytes) number)
+
+-- where a tree and bytes have no place, no dup is of these
+none_of_them : (t : ℕ) (b : List ℕ) (dups : List Dup) → group_places t b (rows_of dups) ≡ [] → All (λ d. in_group t b d.row ≡ false) dups
+none_of_them t b [] none = λ k d lt. absurd (omega arith)
+none_of_them t b (d ∷ dups) none =
+    All-cons (λ d. in_group t b d.row ≡ false) d dups (grind arith) (none_of_them t b dups (grind arith))
+
+-- where a tree and bytes have no number, no dup is of these
+pub ungrouped : {s : SlotsState} {next : ℕ} {groups : Groups} → AreChained s next groups → (t : ℕ) (b : List ℕ) → number_of t b groups.numbers.entries ≡ None → All (λ d. in_group t b d.row ≡ false) s.dups
+ungrouped {s} h t b none = none_of_them t b s.dups (grind (arith, h.grouped t b))
 
 -- once the dup of a place has gone, none stands there
 pub none_left : (p : ℕ) (dups : List Dup) → dup_at p (without_place p dups) ≡ None
@@ -169,6 +179,6 @@ new_again dup dups = grind (arith, lower dups, higher dups)
     higher (d ∷ ds) = grind (arith, higher ds)
 
 -- once a dup is made, callers see that dup among the others, and the next number one higher
-pub seen_made : (s : SlotsState) (next : ℕ) (groups new : Groups) (dup : ℕ → Dup) (ready : Bool) {old : DupsState} → dups_seen s next groups ≡ old → SameWaits groups new
+pub seen_made : (s : SlotsState) (next : ℕ) (groups new : Groups) (dup : ℕ → Dup) (ready : Bool) {old : DupsState} → dups_seen s next groups ≡ old → SameNumbers groups new
     → dups_seen (with_dups s (with_new (dup next) s.dups) ready) (next + 1) new ≡ record old { dups = with_new (dup old.next) old.dups; next = old.next + 1 }
 seen_made s next groups new dup ready view same = grind arith

@@ -15,5 +15,5 @@ pub mod Shelved
 pub mod Standing
 pub mod Tied
 pub mod Ties
-pub mod Waiters
+pub mod Waits
 pub mod Where

@@ -1,20 +1,19 @@
 -- The definitions, and the laws of the libraries and crates below, by their names, for proofs.
 pub use Rattle.ksm_base.proofs.Edits.{count-append, count_more, count_none, find_all, find_none, find_nothing, find_passes}
 pub use Rattle.ksm_base.proofs.Orders.{filter_none, Lower, ordered_map, pairs_head, pairs_tail}
-pub use Rattle.ksm_base.proofs.Pages.{same_page_refl}
 pub use Rattle.ksm_base.proofs.RowCounts.{each_at_page, filter_all}
 pub use Rattle.ksm_base.specs.Counting.{group_size, in_chain, leads_group}
 pub use Rattle.ksm_base.specs.Reading.{items_of}
-pub use Rattle.ksm_base.specs.Rows.{change_row, comes_before, has_items, InPageOrder, InPlaceOrder, item_count, merged_into, merged_state, row_at, same_group, same_page, waiting_state}
+pub use Rattle.ksm_base.specs.Rows.{change_row, comes_before, has_items, InPageOrder, InPlaceOrder, item_count, merged_into, merged_state, row_at, same_group, same_page}
 pub use Rattle.ksm_base.specs.Rows.{with_dup, with_row, without_page}
 pub use Rattle.ksm_base.specs.State.{tree_of}
-pub use Rattle.ksm_base.specs.Visit.{best_dup, empty_from, new_place, partner}
+pub use Rattle.ksm_base.specs.Visit.{best_dup, empty_from, new_place}
 pub use Rattle.ksm_base.specs.declared.knobs.Knobs.{Knobs}
 pub use Rattle.ksm_base.specs.declared.limits.TheConstants.{MOST_FRAMES}
 pub use Rattle.ksm_base.specs.declared.page.GuestPage.{GuestPage}
 pub use Rattle.ksm_base.specs.declared.row.DupRow.{DupRow}
 pub use Rattle.ksm_base.specs.declared.row.PageState.{PageState}
-pub use Rattle.ksm_base.specs.declared.row.PageState.TheVariants.{Merged, Waiting}
+pub use Rattle.ksm_base.specs.declared.row.PageState.TheVariants.{Merged}
 pub use Rattle.ksm_base.specs.declared.row.Row.{Row}
 pub use Rattle.ksm_rmap.proofs.Ordered.{absent_kept, absent_past, all_counted, any_found, counted_here, found_by, insert_at, IsOrder, none_found, parted, point_is_count, remove_at, with_found}
 pub use Rattle.ksm_rmap.proofs.Ordered.{with_rises, without_rises}
@@ -26,15 +25,15 @@ pub use Rattle.ksm_tree.specs.Choosing.{ArePlacesToJoin, best_of, candidate_of, 
 pub use Rattle.ksm_tree.specs.CountedSets.{IsMarked, MayBeMarked}
 pub use Rattle.ksm_tree.specs.Counts.{is_open, places_where}
 pub use Rattle.ksm_tree.specs.Dups.{change_items, dup_at, dup_of, DupsState, has_number, is_live, is_stale, items_in, places_open, rows_of, stands_at, with_new, without_place}
-pub use Rattle.ksm_tree.specs.Grouping.{AreGroups, content_in, is_occupied, IsIdle, places_in, waits_in}
-pub use Rattle.ksm_tree.specs.Groups.{chain_in, is_used_in, IsAsWas, IsCountedAnew, IsMoved, IsSwept, SameChains, SameWaits, StandsAsWas, under, waiting_in}
+pub use Rattle.ksm_tree.specs.Grouping.{AreGroups, content_in, has_place, places_in}
+pub use Rattle.ksm_tree.specs.Groups.{chain_in, is_used_in, IsCountedAnew, IsMoved, IsSwept, SameChains, SameNumbers, under}
 pub use Rattle.ksm_tree.specs.NumberSets.{AreSummed, has, HasNoBit, HasNone, IsLeast, IsLowestBit, IsSummed, Marks}
-pub use Rattle.ksm_tree.specs.Numbered.{AreNumbered, content_of, content_order, IsUnused, number_of, Numbers}
+pub use Rattle.ksm_tree.specs.Numbered.{content_of, content_order, IsUnused, number_of, Numbers}
 pub use Rattle.ksm_tree.specs.Places.{with_place, without}
 pub use Rattle.ksm_tree.specs.Shelf.{change_items_of, change_slot, has_room, kept_at, ShelfState, slots_by}
 pub use Rattle.ksm_tree.specs.Slots.{ArePlaced, AreSlots, change_at, count_in, holds, IsSetOf, present, slots_seen, SlotsState}
 pub use Rattle.ksm_tree.specs.Totals.{AreTotals, chained_of, chains_of, IsRegrouped, Tells}
-pub use Rattle.ksm_tree.specs.Waits.{AreWaiting, IsAdded, IsStopped, names, waiting_page, WaitingPage, waits_there}
+pub use Rattle.ksm_tree.specs.Waits.{waiting_page, waiting_pages}
 pub use Rattle.ksm_tree.specs.declared.choice.Choice.{Choice}
 pub use Rattle.ksm_tree.specs.declared.content.Content.{Content}
 pub use Rattle.ksm_tree.specs.declared.counted_set.CountedSet.{CountedSet}
@@ -53,20 +52,18 @@ pub use Rattle.std.proofs.lemmas.Bool.{cases_Bool, eqb-true, le-ltb}
 pub use Rattle.std.proofs.lemmas.Bool.Decides.{nat_tests}
 pub use Rattle.std.proofs.lemmas.List.{get_or-replicate, get_or_default, get_or_past, length-map, length-replicate, map-append, map-set, set-get_or}
 pub use Rattle.std.proofs.lemmas.List.Elements.{All-append, All-cons, All-filter, All-head, All-map, All-tail, filter-append, filter_passes}
-pub use Rattle.std.proofs.lemmas.List.Folds.{find-append, list_all-append, list_all_more}
+pub use Rattle.std.proofs.lemmas.List.Folds.{list_all-append, list_all_more}
 pub use Rattle.std.proofs.lemmas.List.Kept.{AllPairs-cons}
 pub use Rattle.std.proofs.lemmas.List.Sorted.{IsPartitionPoint-from_clause}
 pub use Rattle.std.proofs.lemmas.List.Sums.{AllPass-from_list_all, count_by-le-length, get_or-le-sum_by, length-filter, list_all-from_AllPass, sum_by-set}
-pub use Rattle.std.proofs.lemmas.Map.Lookups.{exact_bytes, exact_pairs, exact_unsigned}
 pub use Rattle.std.proofs.lemmas.Nat.Bits.{bit_at-trailing_zeros, bit_at_above, bit_at_clear_other, bit_at_clear_same, bit_at_ones, bit_at_set_other, bit_at_set_same}
 pub use Rattle.std.proofs.lemmas.Option.{get_or_from_slice_get, slice_get_within}
 pub use Rattle.std.proofs.lemmas.Slice.Eq.{bytes_eq-Decides}
 pub use Rattle.std.specs.BTreeMap.{BTreeMap, is_at, Updates}
-pub use Rattle.std.specs.Cmp.{Equal-is}
 pub use Rattle.std.specs.Int.{bit_at}
 pub use Rattle.std.specs.Int.Bits.{bit_and}
 pub use Rattle.std.specs.Int.RustNames.{bit_or}
 pub use Rattle.std.specs.List.{list_all}
-pub use Rattle.std.specs.Option.{ForSome, is_none, option_and_then}
+pub use Rattle.std.specs.Option.{is_none}
 pub use Rattle.std.specs.Prelude.{All, AllPairs, bytes_eq, cond, Err, filter, filter_map, find, if◌then◌else◌, is_some, MatchOption, nat_le, nat_lt, not, Ok, OnErr, option_copied}
 pub use Rattle.std.specs.Prelude.{option_map, Result, ◌%◌, ◌&&◌, ◌==◌, ◌^◌, ◌||◌}

@@ -1,9 +1,24 @@
--- The pages of the rows merged into a dup, after a change of one row.
+-- What is found at a page, and the pages of the rows merged into a dup, after a change of one row.
 use Rattle.ksm_tree.proofs.Alike.{change_none, chosen, kept_append}
 use Rattle.ksm_rmap.proofs.Ordered.{found_parts, none_same, none_same_low}
-use Rattle.ksm_tree.proofs.Names.{All, AreCounted, AreTied, arith, Bool, change_row, comes_before, Dup, DupRow, false, filter, filter_passes, find_passes, GuestPage, InPageOrder, is_some, items_of}
-use Rattle.ksm_tree.proofs.Names.{length-filter, length-map, List, map, map-append, merged_into, None, not, Option, pages_ordered, refl, Row, row_at, same_page, Some, suc, true, with_item, without_item}
+use Rattle.ksm_tree.proofs.Names.{All, AreCounted, AreTied, arith, Bool, change_row, comes_before, Dup, DupRow, false, filter, filter_passes, find_passes, GuestPage, if◌then◌else◌, InPageOrder, is_some, items_of}
+use Rattle.ksm_tree.proofs.Names.{length-filter, length-map, List, map, map-append, merged_into, None, not, Option, option_map, pages_ordered, refl, Row, row_at, same_page, Some, suc, true, with_item, without_item}
 use Rattle.ksm_tree.proofs.Names.{without_page, [], ◌++◌, ◌∷◌, ◌≡◌}
+
+-- a write of the row of one page, as a look-up at a page finds it
+pub at_written : (row : Row) (q : GuestPage) (rows : List Row) → row_at q (change_row row.page (λ _. row) rows) ≡ (if same_page row.page q then option_map (λ _. row) (row_at q rows) else row_at q rows)
+at_written row q [] = grind arith
+at_written row q (r ∷ rs) = grind (arith, at_written row q rs)
+
+-- a write of the row of one page leaves the rows of other pages as they were
+pub at_others : (row : Row) (q : GuestPage) (rows : List Row) → same_page row.page q ≡ false → row_at q (change_row row.page (λ _. row) rows) ≡ row_at q rows
+at_others row q rows other = grind (arith, at_written)
+
+-- a change that keeps each row's page finds at a page the changed row that was found there
+pub at_mapped : (f : Row → Row) (q : GuestPage) (rows : List Row) → All (λ r. (f r).page ≡ r.page) rows → row_at q (map f rows) ≡ option_map f (row_at q rows)
+at_mapped f q [] keeps = refl
+at_mapped f q (r ∷ rs) keeps =
+    grind (arith, keeps 0 r (omega arith), at_mapped f q rs (λ k d lt. keeps (suc k) d (omega arith)))
 
 abbrev pub page_of : Row → GuestPage
 page_of r = r.page

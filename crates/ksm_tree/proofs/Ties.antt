@@ -6,8 +6,7 @@ use Rattle.ksm_tree.proofs.Names.{sym, true, with_item, with_new, with_row, with
 use Rattle.ksm_tree.specs.Dups.{items_of as items_numbered}
 use Rattle.ksm_tree.proofs.Alike.{kept_append}
 use Rattle.ksm_tree.proofs.Changes.{all_rows}
-use Rattle.ksm_tree.proofs.Tied.{items_dropped, items_joined, items_kept, items_left, page_of, tied_counted}
-use Rattle.ksm_tree.proofs.Waiters.{at_written}
+use Rattle.ksm_tree.proofs.Tied.{at_written, items_dropped, items_joined, items_kept, items_left, page_of, tied_counted}
 use Rattle.ksm_rmap.proofs.Ordered.{absent_parts}
 
 abbrev IsTied : List Row → Dup → Type 0

@@ -1,13 +1,12 @@
 -- Where the dups of a tree and bytes stand, and what callers see of the dups by place and of the groups. (own)
-use Rattle.std.specs.Prelude.{Bool, bytes_eq, filter, is_some, length, List, map, nat_lt, ℕ, ◌&&◌, ◌==◌, ◌||◌, ◌≡◌, ◌≤◌}
+use Rattle.std.specs.Prelude.{Bool, bytes_eq, filter, length, List, map, nat_lt, ℕ, ◌&&◌, ◌==◌, ◌≡◌, ◌≤◌}
 use Rattle.ksm_base.specs.declared.limits.TheConstants.{MOST_FRAMES}
 use Rattle.ksm_base.specs.declared.row.DupRow.{DupRow}
 use Rattle.ksm_tree.specs.declared.groups.Groups.{Groups}
 use Rattle.ksm_tree.specs.Dups.{AreDups, DupsState, rows_of}
-use Rattle.ksm_tree.specs.Groups.{chain_in, waiting_in}
+use Rattle.ksm_tree.specs.Groups.{chain_in}
 use Rattle.ksm_tree.specs.Slots.{SlotsState}
 use Rattle.ksm_tree.specs.Totals.{AreTotals}
-use Rattle.ksm_tree.specs.Waits.{waiting_page}
 
 abbrev pub in_group : ℕ → List ℕ → DupRow → Bool
 in_group tree bytes r = r.tree == tree && bytes_eq r.bytes bytes
@@ -21,15 +20,13 @@ dups_seen s next groups = record {
   places = s.places;
   dups = s.dups;
   next = next;
-  waiting = waiting_in groups;
   numbers = groups.numbers.entries;
   most = groups.most;
 }
 
--- dups of the tree and bytes are there, or a page of them waits
+-- dups of the tree and bytes are there
 abbrev pub is_in_use : DupsState → ℕ → List ℕ → Bool
-is_in_use s tree bytes =
-    nat_lt 0 (length (group_places tree bytes (rows_of s.dups))) || is_some (waiting_page tree bytes s.waiting)
+is_in_use s tree bytes = nat_lt 0 (length (group_places tree bytes (rows_of s.dups)))
 
 -- the dups are lawful, and the groups have and count just them
 pub record AreChained (s : SlotsState) (next : ℕ) (groups : Groups) : Type 0 where

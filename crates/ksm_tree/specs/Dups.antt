@@ -6,15 +6,13 @@ use Rattle.ksm_base.specs.Rows.{InPlaceOrder, same_page}
 use Rattle.ksm_tree.specs.declared.dup.Dup.{Dup}
 use Rattle.ksm_tree.specs.Counts.{is_open}
 use Rattle.ksm_tree.specs.Numbered.{Numbers}
-use Rattle.ksm_tree.specs.Waits.{WaitingPage}
 
 -- how many places there are, the dups in the order of their places, the number of the dup that is made next,
--- the pages that wait, the contents that have a number, and how many may have one until those not in use lose it
+-- the contents that have a number, and how many may have one until those not in use lose it
 pub record DupsState : Type 0 where
   pub places : ℕ
   pub dups : List Dup
   pub next : ℕ
-  pub waiting : List WaitingPage
   pub numbers : Numbers
   pub most : ℕ
 

@@ -1,15 +1,13 @@
--- The groups: the dups of one tree and one content (mm/ksm: a chain links the copies of one content),
--- and the page that waits there.
-use Rattle.std.specs.Prelude.{Bool, bytes_eq, filter_map, if◌then◌else◌, is_some, length, List, nat_lt, None, Option, Some, true, ℕ, [], ◌&&◌, ◌+◌, ◌==◌, ◌||◌, ◌≡◌, ◌≤◌}
+-- The groups: the dups of one tree and one content (mm/ksm: a chain links the copies of one content).
+use Rattle.std.specs.Prelude.{Bool, bytes_eq, if◌then◌else◌, is_some, length, List, nat_lt, None, Option, Some, true, ℕ, [], ◌&&◌, ◌+◌, ◌==◌, ◌≡◌, ◌≤◌}
 use Rattle.slab.specs.Slab.{get}
 use Rattle.smallvec.specs.SmallVec.{HasRoomFor}
 use Rattle.std.specs.Option.{ForSome}
 use Rattle.ksm_tree.specs.declared.groups.Groups.{Groups}
 use Rattle.ksm_tree.specs.declared.groups.TheConstants.{MOST_SPARE}
-use Rattle.ksm_tree.specs.Grouping.{places_in, waits_in}
+use Rattle.ksm_tree.specs.Grouping.{places_in}
 use Rattle.ksm_tree.specs.Numbered.{number_of}
 use Rattle.ksm_tree.specs.Totals.{IsRegrouped, Tells}
-use Rattle.ksm_tree.specs.Waits.{waiting_page, WaitingPage}
 
 -- what stands under a number, where there is one
 abbrev pub under : {X : Type 0} → X → (ℕ → X) → Option ℕ → X
@@ -21,14 +19,9 @@ abbrev pub chain_in : ℕ → List ℕ → Groups → List ℕ
 chain_in tree bytes groups =
     under [] (λ number. places_in (get groups.groups number)) (number_of tree bytes groups.numbers.entries)
 
--- the pages that wait
-abbrev pub waiting_in : Groups → List WaitingPage
-waiting_in groups = filter_map (waits_in groups.pass) groups.groups.slots
-
--- dups of the tree and bytes are there, or a page of them waits
+-- dups of the tree and bytes are there
 abbrev pub is_used_in : Groups → ℕ → List ℕ → Bool
-is_used_in groups tree bytes =
-    nat_lt 0 (length (chain_in tree bytes groups)) || is_some (waiting_page tree bytes (waiting_in groups))
+is_used_in groups tree bytes = nat_lt 0 (length (chain_in tree bytes groups))
 
 -- every content that has a number is in use, and at most so many more may get one as the reserve has
 pub record IsSwept (groups : Groups) : Type 0 where
@@ -37,25 +30,15 @@ pub record IsSwept (groups : Groups) : Type 0 where
   pub least : length groups.numbers.entries ≤ groups.most
   pub most : groups.most ≤ length groups.numbers.entries + MOST_SPARE
 
--- the same contents have numbers, and as many may have one
-abbrev pub IsAsWas : Groups → Groups → Type 0
-IsAsWas old new = (new.numbers.entries ≡ old.numbers.entries) × (new.most ≡ old.most)
+-- each content has the number that it had, and as many may have one
+pub record SameNumbers (old new : Groups) : Type 0 where
+  pub numbers : new.numbers.entries ≡ old.numbers.entries
+  pub most : new.most ≡ old.most
 
 -- the chains are as they were
 pub record SameChains (old new : Groups) : Type 0 where
   pub chains : (tree : ℕ) (bytes : List ℕ) → chain_in tree bytes new ≡ chain_in tree bytes old
   pub totals : new.totals ≡ old.totals
-
--- what stands in the groups is as it was
-pub record StandsAsWas (old new : Groups) : Type 0 where
-  pub chains : SameChains old new
-  pub waiting : waiting_in new ≡ waiting_in old
-
--- what waits is as it was, each content has the number that it had, and as many may have one
-pub record SameWaits (old new : Groups) : Type 0 where
-  pub waiting : waiting_in new ≡ waiting_in old
-  pub numbers : new.numbers.entries ≡ old.numbers.entries
-  pub most : new.most ≡ old.most
 
 -- the group with a number, if there is one, has room for one more place
 abbrev pub HasRoomAt : ℕ → Groups → Type 0

@@ -1,5 +1,5 @@
 -- Contents, each with a number: a tree with the bytes of a page. (own)
-use Rattle.std.specs.Prelude.{List, Option, Some, ℕ, ◌↔◌, ◌≡◌, ◌≢◌}
+use Rattle.std.specs.Prelude.{List, Option, Some, ℕ, ◌≢◌}
 use Rattle.std.specs.declared.cmp.Ordering.{Ordering}
 use Rattle.std.specs.BTreeMap.{is_at}
 use Rattle.std.specs.Map.{lookup}
@@ -19,11 +19,6 @@ content_of tree bytes = record { tree = tree; bytes = bytes }
 -- the number of a tree and bytes, if they have one
 abbrev pub number_of : ℕ → List ℕ → Numbers → Option ℕ
 number_of tree bytes numbers = lookup (is_at (content_order (content_of tree bytes))) numbers
-
--- a content has a number exactly where it stands under it
-abbrev pub AreNumbered : Numbers → (ℕ → Option Content) → Type 0
-AreNumbered numbers stands = (content : Content) (number : ℕ)
-    → (number_of content.tree content.bytes numbers ≡ Some number) ↔ (stands number ≡ Some content)
 
 -- no content has the number
 abbrev pub IsUnused : ℕ → Numbers → Type 0

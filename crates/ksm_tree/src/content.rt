@@ -1,6 +1,6 @@
 //! What groups and waiting pages are found by: a tree and the bytes of a page, in an order of their own. Beside that
 //! the slot in which the number of their group is remembered.
-ghost use Rattle.std.specs.Prelude.{◌<◌};
+ghost use Rattle.std.specs.Prelude.{◌≡◌, ◌<◌};
 ghost use Rattle.ksm_tree.specs.declared.content.TheConstants.{SLOTS as slots};
 
 use ksm_base::PageBytes;
@@ -11,6 +11,19 @@ use ksm_base::PageBytes;
 pub struct Content {
     pub tree: u32,
     pub bytes: PageBytes,
+}
+
+impl Content {
+    /// The content of a tree and bytes.
+    #[inline(always)]
+    pub fn of(tree: u32, bytes: &PageBytes) -> Content
+        ensures { result ≡ record { tree = tree; bytes = bytes.now } }
+    {
+        Content {
+            tree,
+            bytes: *bytes,
+        }
+    }
 }
 
 // How many bits of a product `slot_of` keeps.

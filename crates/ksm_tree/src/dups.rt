@@ -9,20 +9,18 @@
 //! A page that looks for a dup to join walks along its chain, which mostly has one dup. Of a long chain most dups are
 //! full. So while there is a long one in a small table, the open places of all contents are kept, and such a page walks
 //! along these if they are fewer.
-ghost use Rattle.std.specs.Prelude.{◌≡◌, ℕ, List, ◌+◌, ◌^◌, ◌<◌, ◌≤◌, [], ◌∷◌, ◌&&◌, not, true, false, None, Some, count_by, filter, find, length, is_some, option_copied, option_map, slice_get};
-ghost use Rattle.std.specs.Prelude.{if◌then◌else◌, IfErr, IfOk, IsTrue, OnErr, OnOk};
-ghost use Rattle.std.specs.Option.{unwrap_or};
+ghost use Rattle.std.specs.Prelude.{◌≡◌, ℕ, All, List, ◌+◌, ◌^◌, ◌<◌, ◌≤◌, [], ◌∷◌, ◌&&◌, true, false, None, Some, count_by, filter, find, length, is_some, option_copied, option_map, slice_get};
+ghost use Rattle.std.specs.Prelude.{if◌then◌else◌, IfErr, IfNone, IfOk, IsTrue, OnErr, OnOk};
 ghost use Rattle.ksm_base.specs.Counting.{in_chain, leads_group};
 ghost use Rattle.ksm_base.specs.Rows.{same_page};
 ghost use Rattle.ksm_base.specs.declared.limits.TheConstants.{MOST_FRAMES, MOST_REFERENCES};
 ghost use Rattle.ksm_rmap.specs.Items.{has_item, with_item, without_item};
-ghost use Rattle.ksm_tree.specs.Chains.{AreChained, group_places, is_in_use};
+ghost use Rattle.ksm_tree.specs.Chains.{AreChained, group_places, in_group, is_in_use};
 ghost use Rattle.ksm_tree.specs.Choosing.{ArePlacesToJoin, best_of, candidate_of, choice_of, found_at};
 ghost use Rattle.ksm_tree.specs.Dups.{AreDups, MayBecomeDup, change_items, dup_at, dup_of, is_live, is_stale, items_in, items_of, rows_of, stands_at, with_new, without_place};
-ghost use Rattle.ksm_tree.specs.Groups.{HasRoomAt, IsCounted, SameWaits};
+ghost use Rattle.ksm_tree.specs.Groups.{HasRoomAt, IsCounted, SameNumbers};
 ghost use Rattle.ksm_tree.specs.Numbered.{IsUnused, number_of};
 ghost use Rattle.ksm_tree.specs.Reserve.{KeepsReserve};
-ghost use Rattle.ksm_tree.specs.Waits.{IsAdded, IsRemoved, waiting_page};
 ghost use Rattle.ksm_tree.specs.declared.groups.TheConstants.{MOST_SPARE};
 
 use crate::choice::Choice;
@@ -50,7 +48,7 @@ pub const FEW_PLACES: usize = 1_024;
 /// A look-up by number costs a comparison where the place is guessed right, and else a walk over the places. A dup
 /// keeps its place as long as it is there, so whoever remembers the place guesses right.
 /// A look-up by content costs a comparison where the number of its group is remembered by the caller, and for `group`
-/// two where it is remembered here alone; else a search among the contents that are known, in a number of steps in the
+/// and `group_of` two where it is remembered here alone; else a search among the contents that are known, in a number of steps in the
 /// order of the logarithm of how many there are. `best` and `best_of` also walk along the chain, or, where a chain is
 /// long, along the dups of all contents that are not full, if these are fewer.
 /// The counts are kept, so nothing is counted when they are read. A group, a new dup and a new item may want memory.
@@ -83,7 +81,6 @@ impl Dups {
           places = places;
           dups = [];
           next = 0;
-          waiting = [];
           numbers = [];
           most = dups.most;
         }) }
@@ -109,7 +106,19 @@ impl Dups {
         self.best_of(group, limit).map(|best| best.number)
     }
 
-    /// The number of the group of a tree and bytes, which it gets if it has none: then groups in which nothing stands
+    /// The number of the group of a tree and bytes, if it has one. The guess is tried first, then the one that was found
+    /// last in its slot. Nothing changes that is seen.
+    #[inline(always)]
+    pub fn group_of(&mut self, guess: u32, tree: u32, bytes: &PageBytes) -> Option<u32>
+        ensures numbered { result ≡ number_of tree bytes.now self.old.numbers }
+        ensures none { IfNone result (All (λ d. in_group tree bytes.now d.row ≡ false) self.old.dups) }
+        ensures kept { self.new ≡ self.old }
+        ensures lawful { AreDups self.old }
+    {
+        self.groups.known(guess, tree, bytes)
+    }
+
+    /// The number of the group of a tree and bytes, which it gets if it has none: then groups in which no dup stands
     /// may lose theirs. The guess is tried first. The one fault is `Memory`, and then it gets none.
     #[inline(always)]
     pub fn group(&mut self, guess: u32, tree: u32, bytes: &PageBytes) -> Result<u32, Fault>
@@ -170,25 +179,18 @@ impl Dups {
         })
     }
 
-    /// Whether the group with a number is that of a tree and bytes, no page waits there, and none of its dups may be
-    /// joined.
+    /// Whether the group with a number is that of a tree and bytes, and none of its dups may be joined.
     #[inline(always)]
     pub fn is_closed_group(&self, group: u32, tree: u32, bytes: &PageBytes, limit: u32) -> bool
         ensures numbered { IsTrue result → number_of tree bytes.now self.now.numbers ≡ Some group }
         ensures best { IsTrue result → (t : ℕ) (b : List ℕ) → number_of t b self.now.numbers ≡ Some group
             → best_of t b limit self.now.dups ≡ None }
-        ensures waiting { IsTrue result → (t : ℕ) (b : List ℕ) → number_of t b self.now.numbers ≡ Some group
-            → waiting_page t b self.now.waiting ≡ None }
     {
-        // Whether a page waits is told by two words, the content by the bytes of a page, so that comes behind it.
-        self.groups.waiting(group).is_none()
-            && self.groups.is_of(group, tree, bytes)
-            && (self.groups.is_idle(group as usize) || self.is_closed(group, limit))
+        self.groups.is_of(group, tree, bytes) && self.is_closed(group, limit)
     }
 
     // Whether no dup of the group with a number may be joined, as far as a short chain tells: which one is best is not
-    // asked, so counts are enough. A long chain is walked along once, where a page looks for a dup to join. Most groups
-    // that are asked for have no dup, so it stands apart.
+    // asked, so counts are enough. A long chain is walked along once, where a page looks for a dup to join.
     #[inline(never)]
     fn is_closed(&self, group: u32, limit: u32) -> bool
         ensures { IsTrue result → (t : ℕ) (b : List ℕ) → number_of t b self.now.numbers ≡ Some group
@@ -199,60 +201,6 @@ impl Dups {
         };
         let chain = found.places.list.as_slice();
         chain.len() <= SHORT_CHAIN && none_open(limit, self.slots.counts(), chain)
-    }
-
-    /// The page that waits in the group with a number from now on: the one that did, or else this one. Where no group
-    /// has the number, nothing changes.
-    #[inline(always)]
-    pub fn meet(&mut self, group: u32, page: GuestPage) -> GuestPage
-        ensures met { (tree : ℕ) (bytes : List ℕ) → number_of tree bytes self.old.numbers ≡ Some group
-            → result ≡ unwrap_or (waiting_page tree bytes self.old.waiting) page }
-        ensures added { (tree : ℕ) (bytes : List ℕ) → number_of tree bytes self.old.numbers ≡ Some group
-            → IsAdded tree bytes result self.old.waiting self.new.waiting }
-        ensures again { (tree : ℕ) (bytes : List ℕ) → number_of tree bytes self.old.numbers ≡ Some group
-            → is_some (waiting_page tree bytes self.old.waiting) ≡ true → self.new ≡ self.old }
-        ensures alone { IsUnused group self.old.numbers → result ≡ page }
-        ensures none { IsUnused group self.old.numbers → self.new ≡ self.old }
-        ensures kept { self.new ≡ record self.old { waiting = self.new.waiting } }
-    {
-        self.groups.meet(group, page)
-    }
-
-    /// The page that waits in a tree with these bytes, if there is one. Of the dup at the place, if there is one, the
-    /// group is tried first.
-    #[tactic(auto, using(crate::proofs::Standing::none_here))]
-    pub fn waiting_of(&self, place: u32, tree: u32, bytes: &PageBytes) -> Option<GuestPage>
-        ensures { result ≡ waiting_page tree bytes.now self.now.waiting }
-    {
-        let guess = self.slots.group_at(place);
-        let number = self.groups.number(guess, tree, bytes)?;
-        self.groups.waiting(number)
-    }
-
-    /// The page that waits in a tree with these bytes waits no more, if there is one. The guess of the group's number
-    /// is tried first.
-    #[inline(always)]
-    pub fn stop_waiting(&mut self, guess: u32, tree: u32, bytes: &PageBytes)
-        ensures removed { IsRemoved tree bytes.now self.old.waiting self.new.waiting }
-        ensures kept { self.new ≡ record self.old { waiting = self.new.waiting } }
-    {
-        self.groups.stop_waiting(guess, tree, bytes);
-    }
-
-    /// The page that waits in the group with a number waits no more, if there is one.
-    pub fn stop_waiting_in(&mut self, group: u32)
-        ensures removed { (tree : ℕ) (bytes : List ℕ) → number_of tree bytes self.old.numbers ≡ Some group
-            → IsRemoved tree bytes self.old.waiting self.new.waiting }
-        ensures kept { self.new ≡ record self.old { waiting = self.new.waiting } }
-    {
-        self.groups.stop_waiting_in(group as usize);
-    }
-
-    /// No page waits any more.
-    pub fn clear_waiting(&mut self)
-        ensures { self.new ≡ record self.old { waiting = [] } }
-    {
-        self.groups.clear_waiting();
     }
 
     /// Where a new dup goes: the least empty place, or where there is none that of the first stale dup.
@@ -574,7 +522,7 @@ fn vacate(slots: &mut Slots, groups: &mut Groups, place: u32)
       ready = slots.new.ready;
     } }
     ensures ready { slots.old.ready ≡ true → slots.new.ready ≡ true }
-    ensures waits { SameWaits groups.old groups.new }
+    ensures numbers { SameNumbers groups.old groups.new }
     ensures room { (number : ℕ) → HasRoomAt number groups.old → HasRoomAt number groups.new }
 {
     if let Some(dup) = slots.at(place) {

@@ -1,4 +1,4 @@
-//! The trees of the book: groups of dups with their items, and the pages that wait.
+//! The stable trees of the book: groups of dups with their items. Beside them waiting pages, which stand alone.
 #![tactic(auto)]
 
 mod bits;
@@ -19,6 +19,7 @@ mod totals;
 mod waiting;
 
 pub use choice::Choice;
+pub use content::Content;
 pub use dup::Best;
 pub use dups::{Dups, NO_PLACE};
 pub use groups::NO_NUMBER;

@@ -1,31 +1,34 @@
-//! The unstable tree. A page waits in the group of its tree and bytes.
+//! The unstable tree, for users of this library. The book's own is in `ksm_pages`, which has each page's row.
+#![tactic(auto, using(crate::proofs::Waits::steps))]
+
 ghost use Rattle.std.specs.Prelude.{◌≡◌, [], None, IfOk, IfErr, OnErr, is_some, true};
 ghost use Rattle.std.specs.Option.{unwrap_or};
 ghost use Rattle.ksm_tree.specs.Waits.{IsAdded, IsRemoved, waiting_page};
 
-use crate::groups::{Groups, NO_NUMBER};
+use crate::content::Content;
 use ksm_base::{Fault, GuestPage, PageBytes};
 use std::alloc::Global;
+use std::collections::BTreeMap;
+use std::collections::btree_map::Entry;
 use std::marker::Model;
 
 /// The pages that wait for an equal one: at most one of each tree and bytes (mm/ksm, the unstable tree).
 ///
-/// `find`, `find_or_add` and `remove` cost a search among the contents that are known, in a number of steps in the
-/// order of the logarithm of how many there are; nobody can pick contents that cost more. `clear` takes one step.
+/// `find`, `find_or_add` and `remove` cost a search among the contents that wait, in a number of steps in the
+/// order of the logarithm of how many there are; nobody can pick contents that cost more. `clear` drops them all.
 #[derive(Drop)]
 pub struct Waiting {
     alloc: Global,
-    groups: Groups,
+    pages: BTreeMap<Content, GuestPage>,
 }
 
 impl Model for Waiting {
     ghost use Rattle.std.specs.Prelude.{List};
-    ghost use Rattle.ksm_tree.specs.Groups.{waiting_in};
-    ghost use Rattle.ksm_tree.specs.Waits.{WaitingPage};
+    ghost use Rattle.ksm_tree.specs.Waits.{waiting_pages, WaitingPage};
 
     ghost Value = { List WaitingPage };
 
-    ghost view = { λ w. waiting_in w.groups };
+    ghost view = { λ w. waiting_pages w.pages.entries };
 }
 
 impl Waiting {
@@ -35,17 +38,15 @@ impl Waiting {
     {
         Waiting {
             alloc,
-            groups: Groups::new(alloc, 0),
+            pages: BTreeMap::new(alloc),
         }
     }
 
     /// The page that waits in a tree with these bytes.
-    #[tactic(auto, using(crate::proofs::Standing::none_here))]
     pub fn find(&self, tree: u32, bytes: &PageBytes) -> Option<GuestPage>
         ensures { result ≡ waiting_page tree bytes.now self.now }
     {
-        let number = self.groups.number(NO_NUMBER, tree, bytes)?;
-        self.groups.waiting(number)
+        self.pages.get(&Content::of(tree, bytes)).copied()
     }
 
     /// The page that waits in a tree with these bytes from now on: the one that did, or else this one. The one fault is
@@ -63,21 +64,26 @@ impl Waiting {
         ensures refused { OnErr result (self.new ≡ self.old) }
         ensures memory { IfErr result (λ fault. fault ≡ Fault.Memory) }
     {
-        let number = self.groups.numbered(self.alloc, NO_NUMBER, tree, bytes)?;
-        Ok(self.groups.meet(number, page))
+        match self.pages.entry(Content::of(tree, bytes))? {
+            Entry::Occupied(entry) => return Ok(*entry.get()),
+            Entry::Vacant(entry) => {
+                entry.insert(page);
+            }
+        }
+        Ok(page)
     }
 
     /// The page that waits in a tree with these bytes waits no more, if there is one.
     pub fn remove(&mut self, tree: u32, bytes: &PageBytes)
         ensures { IsRemoved tree bytes.now self.old self.new }
     {
-        self.groups.stop_waiting(NO_NUMBER, tree, bytes);
+        self.pages.remove(&Content::of(tree, bytes));
     }
 
     /// No page waits any more.
     pub fn clear(&mut self)
         ensures { self.new ≡ [] }
     {
-        self.groups.clear_waiting();
+        self.pages = BTreeMap::new(self.alloc);
     }
 }

@@ -1,10 +1,13 @@
-use Rattle.ksm_book.proofs.Names.{All, All-map, arith, Done, false, get_or, inr, IsCarried, IsLaid, ne_eqb, no_dup_lives, none_shared, Ok, PagesView, refl, seen, SetAcross, subst, sym, view_of}
+use Rattle.ksm_book.proofs.Names.{All, All-map, arith, Done, false, get_or, inr, IsCarried, IsLaid, ne_eqb, no_dup_lives, none_shared, Ok, PageState, PagesView, refl, seen, SetAcross, settled_state, subst, sym, view_of}
 use Rattle.ksm_book.proofs.Names.{waiting_state, [], ◌≡◌}
 use Rattle.ksm_book.proofs.Laying.{laid_mapped, retuned}
 use Rattle.ksm_book.proofs.Sharing.{settled_lodges}
 use Rattle.ksm_book.proofs.Singles.{book, sound_carried}
-use Rattle.ksm_pages.proofs.Resting.{settled_still}
 use Rattle.ksm_book.proofs.state.State.set_across.Goals as goal
+
+-- a settled state is not Waiting
+settled_still : (state : PageState) → waiting_state (settled_state state) ≡ false
+settled_still state = grind arith
 
 -- no dup had items, so none is left
 none_left : (c : goal.After-set_knobs) → c.settle_all.new.self.dups ≡ []

@@ -1,17 +1,35 @@
-use Rattle.ksm_pages.proofs.Names.{arith, None, refl, Zero}
-use Rattle.ksm_pages.proofs.Turning.{alone_left, HasLeft, held_as, lay, moved}
+use Rattle.ksm_pages.proofs.Names.{beside, change_row, frame_of, lies_on, None, refl, seen, sym, true≢false, Zero, ◌∙◌}
+use Rattle.ksm_pages.proofs.Leaving.{alone_found, alone_there, Comes, held_as, lies}
+use Rattle.ksm_pages.proofs.Joined.{seen_own}
+use Rattle.ksm_pages.proofs.Lone.{not_alone}
+use Rattle.ksm_pages.proofs.Turning.{moved, own_left}
 use Rattle.ksm_pages.proofs.pages.Pages.become_zero.Goals as goal
 
-gone : (c : goal.After-become_zero)
-    → HasLeft c.self.inside c.args.self.now c.args.spot.page c.leave-left.new.dups c.deref.result.now c.leave-left.result
-gone c = grind (arith, alone_left)
+-- the page has no frame
+gone : (c : goal.After-become_zero) → Comes c.self.inside c.become_zero.new.self c.self.inside.dups (record (seen c.args.self.now) {
+  rows = change_row c.args.spot.page (λ r. record r { state = Zero }) c.args.self.now.rows;
+  frame = lies_on c.args.spot.page None (frame_of c.args.self.now.lodgings);
+})
+gone c =
+    moved (own_left c.self.invariant c.self.view_is c.requires) c.become_zero.new.self Zero None beside
+    (λ t is. absurd (true≢false (sym is ∙ not_alone t))) refl (held_as c.become_zero.ensures)
 
 pub invariant_of-self : goal.invariant_of-self
-invariant_of-self c = (moved (gone c) c.become_zero.new.self Zero None refl refl (held_as c.become_zero.ensures)).lawful
+invariant_of-self c = (gone c).lawful
 
 pub returns-clause-left : goal.returns-clause-left
-returns-clause-left c = lay (gone c) c.deref.ensures.value
+returns-clause-left c =
+    c.own_frame-left.ensures
+    ∙ sym (seen_own _ _ _ (alone_found c.self.inside c.self.view_is _ c.in_ok-find.ensures c.requires))
+    ∙ lies c.self.inside c.self.invariant _ c.in_ok-find.ensures c.self.view_is
 
 pub returns-clause-zero : goal.returns-clause-zero
-returns-clause-zero c =
-    grind (arith, (moved (gone c) c.become_zero.new.self Zero None refl refl (held_as c.become_zero.ensures)).told_as)
+returns-clause-zero c = (gone c).told_as
+
+pub returns-in_err-find-clause-left : goal.returns-in_err-find-clause-left
+returns-in_err-find-clause-left c =
+    absurd (true≢false (alone_there c.self.inside c.self.view_is _ c.in_err-find.ensures c.requires))
+
+pub returns-in_err-find-clause-zero : goal.returns-in_err-find-clause-zero
+returns-in_err-find-clause-zero c =
+    absurd (true≢false (alone_there c.self.inside c.self.view_is _ c.in_err-find.ensures c.requires))

@@ -1,7 +1,7 @@
 use Rattle.ksm_pages.proofs.Names.{ap, arith, DupRow, DupsState, elsewhere, filter, frame_of, IsVacant, List, lodging, lodgings_of, PagesValue, rows_of, rows_without, rules, seen, subst, sym}
 use Rattle.ksm_pages.proofs.Names.{tied_pruned, ◌∙◌}
 use Rattle.ksm_tree.specs.Dups.{rows_of as dup_rows}
-use Rattle.ksm_pages.proofs.Dropping.{all_elsewhere, lodged_dropped, stale_there}
+use Rattle.ksm_pages.proofs.Dropping.{all_elsewhere, lodged_dropped, lone_dropped, stale_there}
 use Rattle.ksm_pages.proofs.Paging.{any_at}
 use Rattle.ksm_pages.proofs.Leaving.{view_of}
 use Rattle.ksm_pages.proofs.pages.Pages.drop_stale.Goals as goal
@@ -11,7 +11,15 @@ drop_stale-requires c =
     search (rules, stale_there (rows_of c.self.inside.rows.held) _ c.self.invariant.tied (subst (λ (v : PagesValue). IsVacant c.args.place v.rows v.dups) (sym c.self.view_is) c.requires))
 
 pub invariant_of-self : goal.invariant_of-self
-invariant_of-self c = search (rules, tied_pruned)
+invariant_of-self c = rw c.drop_stale.ensures (record {
+  small = c.self.invariant.small;
+  order = c.self.invariant.order;
+  tied = tied_pruned (rows_of c.self.inside.rows.held) c.self.inside.dups.dups c.args.place c.self.invariant.tied;
+  places = c.self.invariant.places;
+  by_node = c.self.invariant.by_node;
+  alone = lone_dropped c.self.inside.knobs c.self.inside.rows.held c.args.place c.self.inside.dups.dups c.self.invariant.alone;
+  room = c.self.invariant.room;
+})
 
 pub returns-then-is_some : goal.returns-then-is_some
 returns-then-is_some c =

@@ -1,26 +1,39 @@
-use Rattle.ksm_pages.proofs.Names.{ap, arith, found_at, option_map, refl, rules, same_page, same_page_refl, sym, true, ◌≡◌}
-use Rattle.ksm_pages.proofs.Visiting.{asked, finds_gone, finds_waits, IsAsked, waits_then}
+use Rattle.ksm_pages.proofs.Names.{arith, change_row, held_of, None, on_row, refl, rules, seen, Waiting, ◌≡◌}
+use Rattle.ksm_pages.proofs.Leaving.{Comes, held_as}
+use Rattle.ksm_pages.proofs.Partners.{held_led, own_led}
+use Rattle.ksm_pages.proofs.Visiting.{best, finds_gone, finds_waits, IsAsked, lone_none, waits_then}
 use Rattle.ksm_pages.proofs.pages.Pages.glance.Goals as goal
-
--- the row may be changed, and its group is known
-known : (c : goal.After-meet) → IsAsked c.self.inside c.args.self.now c.args.spot.page c.in-Some.entry.now c.in-Some.entry.now.group
-known c = search (rules, asked)
-
-own : (c : goal.After-meet) → same_page c.meet.result c.args.spot.page ≡ true
-own c = search (rules, same_page_refl)
-
-pub invariant_of-self : goal.invariant_of-self
-invariant_of-self c =
-    (waits_then (known c) (λ t b is. sym (ap (option_map found_at) (c.if-not-is_closed_group.ensures.best refl t b is)))
-    c.if-not-entry.false (sym c.if-is_for_zero.ensures) c.meet.ensures.met c.meet.ensures.again (own c) c.meet.ensures.kept c.meet.ensures.added
-    _ c.wait.ensures).lawful
-
-pub returns-clause-waits : goal.returns-clause-waits
-returns-clause-waits c _ =
-    finds_waits (known c) (λ t b is. grind arith)
-    c.if-not-entry.false (grind arith) c.meet.ensures.met c.meet.ensures.again (own c) c.meet.ensures.kept
-    c.meet.ensures.added
-    _ c.wait.ensures
+use Rattle.ksm_pages.proofs.pages.Pages.glance.Goals.{After-wait}
 
 pub returns-then-not-is_restless-clause-gone : goal.returns-then-not-is_restless-clause-gone
 returns-then-not-is_restless-clause-gone c = search (rules, finds_gone)
+
+pub joins_none-requires : goal.joins_none-requires
+joins_none-requires c =
+    let it : IsAsked c.self.inside c.args.self.now c.args.spot.page c.in-Some.entry.now =
+    record { lawful = c.self.invariant; seen_as = c.self.view_is; found = c.in-Some.ensures; restless = grind arith } in
+    rw (c.tree_in-tree.ensures (held_of c.self.inside.rows.pass c.in-Some.entry.now).row refl) (lone_none it)
+
+asked : (c : After-wait) → IsAsked c.self.inside c.args.self.now c.args.spot.page c.in-Some.entry.now
+asked c = record { lawful = c.self.invariant; seen_as = c.self.view_is; found = c.in-Some.ensures; restless = grind arith }
+
+-- the page waits
+waits : (c : After-wait) → Comes c.self.inside c.wait.new.self c.self.inside.dups (record (seen c.args.self.now) {
+  rows = change_row c.args.spot.page (λ r. record r { state = Waiting }) c.args.self.now.rows;
+})
+waits c = waits_then (asked c) (on_row (λ r. record r { state = Waiting })) (λ x. refl) (λ x. refl) (λ lone. lone) (held_as c.wait.ensures)
+
+pub invariant_of-self : goal.invariant_of-self
+invariant_of-self c = (waits (goal.at.invariant_of-self c).After-wait).lawful
+
+pub returns-clause-waits : goal.returns-clause-waits
+returns-clause-waits c _ =
+    let t = (goal.at.returns-clause-waits c).After-wait in
+    let s = t.self.inside in
+    let row = (held_of s.rows.pass t.in-Some.entry.now).row in
+    let none : best (asked t) ≡ None =
+    rw (← t.tree_in-tree.ensures row refl) (grind (arith, t.if-not-joins_none.ensures)) in
+    let led = held_led s.knobs s.rows t.self.invariant.by_node t.are_lawful.ensures.found t.args.spot.page t.in-Some.ensures (grind arith) in
+    finds_waits (asked t) none (grind arith) (grind arith)
+    (own_led s.knobs s.rows t.self.invariant.order t.self.invariant.by_node t.are_lawful.ensures.led t.are_lawful.ensures.found row led)
+    (waits t)

@@ -1,15 +1,15 @@
-use Rattle.ksm_pages.proofs.Names.{fresh_row, Held, refl, rules, seen, Some}
+use Rattle.ksm_pages.proofs.Names.{fresh_row, Held, Not, refl, rules, seen, Some}
 use Rattle.ksm_pages.proofs.Entering.{but_there, either_way, entered, lay_nowhere}
 use Rattle.std.proofs.lemmas.Result.{on_ok_weaker}
 use Rattle.ksm_pages.proofs.Changing.{nothing_held}
-use Rattle.ksm_pages.proofs.Turning.{held_as}
+use Rattle.ksm_pages.proofs.Leaving.{held_as}
 use Rattle.ksm_pages.proofs.pages.Pages.insert.Goals as goal
 
 pub insert-requires : goal.insert-requires
 insert-requires c = search (rules, nothing_held)
 
 abbrev fresh : (c : goal.After-insert) → Held
-fresh c = record { row = fresh_row c.args.page c.args.node c.args.bytes.now; frame = Some 0 }
+fresh c = record { row = fresh_row c.args.page c.args.node c.args.bytes.now; frame = Some 0; in_tree = Not }
 
 pub invariant_of-self : goal.invariant_of-self
 invariant_of-self c =

@@ -1,22 +1,23 @@
-use Rattle.ksm_pages.proofs.Names.{arith, false, refl, Row, settled}
+use Rattle.ksm_pages.proofs.Names.{change_row, on_row, refl, Row, seen, settled, false}
 use Rattle.ksm_base.specs.Apply.{let_go as as_let_go}
+use Rattle.ksm_pages.proofs.Leaving.{Comes, held_as}
 use Rattle.ksm_pages.proofs.Resting.{went}
-use Rattle.ksm_pages.proofs.Turning.{alone_left, HasLeft, held_as, rested}
+use Rattle.ksm_pages.proofs.Turning.{own_left, rested}
 use Rattle.ksm_pages.proofs.pages.Pages.let_go.Goals as goal
 
 abbrev as_gone : Row → Row
 as_gone r = record (settled r) { mergeable = false; unchanged = false }
 
-gone : (c : goal.After-let_go)
-    → HasLeft c.self.inside c.args.self.now c.args.spot.page c.leave.new.dups c.deref.result.now c.leave.result
-gone c = grind (arith, alone_left)
+gone : (c : goal.After-let_go) → Comes c.self.inside c.let_go.new.self c.self.inside.dups (record (seen c.args.self.now) {
+  rows = change_row c.args.spot.page as_let_go c.args.self.now.rows;
+})
+gone c =
+    let left = own_left c.self.invariant c.self.view_is c.requires in
+    rested left c.let_go.new.self (on_row as_gone) as_gone as_let_go
+    (λ x. refl) (λ x. refl) (λ r. refl) refl c.requires (went left.held.row) (λ lone. lone) (held_as c.let_go.ensures)
 
 pub invariant_of-self : goal.invariant_of-self
-invariant_of-self c =
-    (rested (gone c) c.let_go.new.self as_gone as_let_go (λ r. refl) (λ r. refl) c.requires (went (gone c).held.row)
-    (held_as c.let_go.ensures)).lawful
+invariant_of-self c = (gone c).lawful
 
 pub returns : goal.returns
-returns c =
-    (rested (gone c) c.let_go.new.self as_gone as_let_go (λ r. refl) (λ r. refl) c.requires (went (gone c).held.row)
-    (held_as c.let_go.ensures)).told_as
+returns c = (gone c).told_as

@@ -1,5 +1,6 @@
 use Rattle.ksm_pages.proofs.Names.{arith, rules}
-use Rattle.ksm_pages.proofs.Turning.{gone_on, HasLeft, held_as, known_left, lay}
+use Rattle.ksm_pages.proofs.Leaving.{held_as}
+use Rattle.ksm_pages.proofs.Turning.{gone_on, HasLeft, known_left, lay}
 use Rattle.ksm_pages.proofs.pages.Pages.let_go_on.Goals as goal
 
 gone : (c : goal.After-change)

@@ -1,5 +1,6 @@
 use Rattle.ksm_pages.proofs.Names.{arith}
-use Rattle.ksm_pages.proofs.Turning.{HasLeft, held_as, known_left, lay, parted}
+use Rattle.ksm_pages.proofs.Leaving.{held_as}
+use Rattle.ksm_pages.proofs.Turning.{HasLeft, known_left, lay, parted}
 use Rattle.ksm_pages.proofs.pages.Pages.remove.Goals as goal
 
 gone : (c : goal.After-remove)

@@ -1,5 +1,6 @@
 use Rattle.ksm_pages.proofs.Names.{arith, Private, refl, Some, rules}
-use Rattle.ksm_pages.proofs.Turning.{HasLeft, held_as, known_left, lay, moved}
+use Rattle.ksm_pages.proofs.Leaving.{held_as}
+use Rattle.ksm_pages.proofs.Turning.{HasLeft, known_left, lay, moved}
 use Rattle.ksm_pages.proofs.pages.Pages.resettle.Goals as goal
 
 gone : (c : goal.After-change)
@@ -7,7 +8,7 @@ gone : (c : goal.After-change)
 gone c = grind (arith, known_left)
 
 pub invariant_of-self : goal.invariant_of-self
-invariant_of-self c = (moved (gone c) c.change.new.self Private (Some c.args.frame) refl refl
+invariant_of-self c = (moved (gone c) c.change.new.self Private (Some c.args.frame) (λ t. t) (λ t is. is) refl
     (held_as (c.change.ensures _ (search rules)))).lawful
 
 pub returns-clause-left : goal.returns-clause-left
@@ -15,5 +16,5 @@ returns-clause-left c = lay (gone c) c.deref.ensures.value
 
 pub returns-clause-settled : goal.returns-clause-settled
 returns-clause-settled c =
-    (moved (gone c) c.change.new.self Private (Some c.args.frame) refl refl
+    (moved (gone c) c.change.new.self Private (Some c.args.frame) (λ t. t) (λ t is. is) refl
     (held_as (c.change.ensures _ (search rules)))).told_as

@@ -1,19 +1,26 @@
-use Rattle.ksm_pages.proofs.Names.{arith, List, refl, Row, row_at, rules, Some, waits_there, ℕ, ◌≡◌}
-use Rattle.ksm_pages.proofs.Turning.{held_as, stays}
+use Rattle.ksm_pages.proofs.Names.{arith, change_row, on_row, out_of_tree, refl, Row, seen, settled, ℕ}
+use Rattle.ksm_pages.proofs.Leaving.{Comes, held_as}
+use Rattle.ksm_pages.proofs.Turning.{own_left, private_alone, private_left, rested}
 use Rattle.ksm_pages.proofs.pages.Pages.set_home.Goals as goal
 
-abbrev moved : ℕ → Row → Row
-moved node r = record r { home = node }
+abbrev home : ℕ → Row → Row
+home node r = record r { home = node }
 
--- it waits at no home
-alike : (c : goal.After-change) (r : Row) → row_at c.args.spot.page c.args.self.now.rows ≡ Some r → (t : ℕ) (b : List ℕ)
-    → waits_there c.self.inside.knobs t b (Some (moved c.args.node r)) ≡ waits_there c.self.inside.knobs t b (Some r)
-alike c r is t b = grind arith
+-- the page is at home there
+came : (c : goal.After-set_home) → Comes c.self.inside c.set_home.new.self c.self.inside.dups (record (seen c.args.self.now) {
+  rows = change_row c.args.spot.page (home c.args.node) c.args.self.now.rows;
+})
+came c =
+    let alone = private_alone c.args.self.now c.args.spot.page c.requires in
+    let left = own_left c.self.invariant c.self.view_is alone in
+    let private = private_left left c.requires in
+    rested left c.set_home.new.self (λ h. on_row (home c.args.node) (out_of_tree h))
+    (λ r. home c.args.node (settled r)) (home c.args.node)
+    (λ x. refl) (λ x. refl) (λ r. refl) private alone (λ _. grind (arith, private))
+    (λ _ is. cc) (held_as c.set_home.ensures)
 
 pub invariant_of-self : goal.invariant_of-self
-invariant_of-self c =
-    (stays c.self.inside c.self.invariant c.self.view_is _ (moved c.args.node) (λ r. refl) (λ r. refl)
-    (alike c) c.change.new.self (held_as (c.change.ensures _ (search rules)))).lawful
+invariant_of-self c = (came c).lawful
 
 pub returns : goal.returns
-returns c = search (rules, stays, alike, held_as, c.change.ensures)
+returns c = (came c).told_as

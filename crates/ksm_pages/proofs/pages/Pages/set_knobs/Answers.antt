@@ -1,24 +1,21 @@
-use Rattle.ksm_pages.proofs.Names.{All, arith, false, inl, inr, knobs_tuned, PagesValue, rules, subst, sym, waiting_state, ◌≡◌}
-use Rattle.ksm_pages.proofs.Paging.{knobs_free}
+use Rattle.ksm_pages.proofs.Names.{All, arith, false, PagesValue, seen, subst, sym, waiting_state, ◌≡◌, ◌⊎◌}
+use Rattle.ksm_pages.proofs.Leaving.{AreLawful, view_of}
+use Rattle.ksm_pages.proofs.Turning.{tuned}
 use Rattle.ksm_pages.proofs.pages.Pages.set_knobs.Goals as goal
+use Rattle.ksm_pages.proofs.pages.Pages.set_knobs.Goals.{After-set_by_node}
+
+came : (c : After-set_by_node)
+    → let s = c.self.inside in
+    let now = record s { rows = c.set_by_node.new.self; knobs = c.args.knobs } in
+    AreLawful now × (seen (view_of now) ≡ record (seen (view_of s)) { knobs = c.args.knobs })
+came c =
+    let s = c.self.inside in
+    tuned s c.self.invariant c.args.knobs (grind arith) c.set_by_node.new.self c.set_by_node.ensures
+    (subst (λ (v : PagesValue). (c.args.knobs.merge_across_nodes ≡ v.knobs.merge_across_nodes)
+    ⊎ All (λ r. waiting_state r.state ≡ false) v.rows) (sym c.self.view_is) c.requires)
 
 pub invariant_of-self : goal.invariant_of-self
-invariant_of-self c =
-    let s = c.self.inside in
-    rw c.set_limit.ensures
-    (record {
-      small = c.self.invariant.small;
-      order = c.self.invariant.order;
-      tied = c.self.invariant.tied;
-      places = c.self.invariant.places;
-      waits = elim c.requires [
-        | inl same ↦ knobs_tuned s.knobs _ _ c.self.invariant.waits c.args.knobs
-            (grind arith)
-        | inr still ↦ knobs_free s.knobs c.args.knobs _ _ c.self.invariant.waits
-            (subst (λ (v : PagesValue). All (λ r. waiting_state r.state ≡ false) v.rows) (sym c.self.view_is) still)
-      ];
-      room = c.self.invariant.room;
-    })
+invariant_of-self c = rw c.set_limit.ensures (came (goal.at.invariant_of-self c).After-set_by_node).0
 
 pub returns : goal.returns
-returns c = rw (← c.self.view_is) (search rules)
+returns c = rw (c.set_limit.ensures, ← c.self.view_is) (came (goal.at.returns c).After-set_by_node).1

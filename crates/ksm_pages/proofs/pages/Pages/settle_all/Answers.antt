@@ -1,11 +1,15 @@
-use Rattle.ksm_pages.proofs.Names.{arith, refl}
-use Rattle.ksm_pages.proofs.Turning.{held_as, rest_all}
+use Rattle.ksm_pages.proofs.Names.{map, seen, settled}
+use Rattle.ksm_pages.proofs.Leaving.{Comes}
+use Rattle.ksm_pages.proofs.Turning.{settle_then}
 use Rattle.ksm_pages.proofs.pages.Pages.settle_all.Goals as goal
 
+came : (c : goal.After-make_room) → Comes c.self.inside c.make_room.new.self c.self.inside.dups (record (seen c.args.self.now) {
+  rows = map settled c.args.self.now.rows;
+})
+came c = settle_then c.self.inside c.self.invariant c.self.view_is c.settle_all.ensures c.make_room.ensures
+
 pub invariant_of-self : goal.invariant_of-self
-invariant_of-self c =
-    (rest_all c.self.inside c.self.invariant c.self.view_is _ (λ r. refl) (λ r. refl) c.settle_all.new.self
-    (held_as c.settle_all.ensures) c.clear_waiting.ensures).lawful
+invariant_of-self c = (came c).lawful
 
 pub returns : goal.returns
-returns c = grind (arith, rest_all, held_as)
+returns c = (came c).told_as

@@ -1,16 +1,22 @@
-use Rattle.ksm_pages.proofs.Resting.{rests}
+use Rattle.ksm_pages.proofs.Resting.{rests, settled_again}
 use Rattle.ksm_tree.proofs.Alike.{map_alike}
-use Rattle.ksm_pages.proofs.Names.{ap, arith, refl, seen, ◌∙◌}
-use Rattle.ksm_pages.proofs.Turning.{held_as, rest_all}
+use Rattle.ksm_pages.proofs.Names.{ap, arith, false, map, on_row, refl, Row, seen, settled, ◌∙◌}
+use Rattle.ksm_pages.proofs.Leaving.{Comes, held_as}
+use Rattle.ksm_pages.proofs.Turning.{still}
 use Rattle.ksm_pages.proofs.pages.Pages.unshare_all.Goals as goal
 
+abbrev at_rest : Row → Row
+at_rest r = record (settled r) { unchanged = false }
+
+came : (c : goal.After-unshare_all) → Comes c.self.inside c.unshare_all.new.self c.self.inside.dups (record (seen c.args.self.now) {
+  rows = map at_rest c.args.self.now.rows;
+})
+came c =
+    still c.self.inside c.self.invariant c.self.view_is (on_row at_rest) at_rest (λ x. refl) (λ x. refl) (λ r. refl)
+    (λ r. settled_again r.state) (λ x lone. lone) c.unshare_all.new.self (held_as c.unshare_all.ensures)
+
 pub invariant_of-self : goal.invariant_of-self
-invariant_of-self c =
-    (rest_all c.self.inside c.self.invariant c.self.view_is _ (λ r. refl) (λ r. refl) c.unshare_all.new.self
-    (held_as c.unshare_all.ensures) c.clear_waiting.ensures).lawful
+invariant_of-self c = (came c).lawful
 
 pub returns : goal.returns
-returns c =
-    (rest_all c.self.inside c.self.invariant c.self.view_is _ (λ r. refl) (λ r. refl) c.unshare_all.new.self
-    (held_as c.unshare_all.ensures) c.clear_waiting.ensures).told_as
-    ∙ ap (λ rows. record (seen c.args.self.now) { rows = rows }) (grind (arith, map_alike, rests))
+returns c = (came c).told_as ∙ ap (λ rows. record (seen c.args.self.now) { rows = rows }) (grind (arith, map_alike, rests))

@@ -1,12 +1,12 @@
-use Rattle.ksm_pages.proofs.Gathering.{restless_as}
-use Rattle.ksm_pages.proofs.Names.{arith, held_at, held_of, Private, refl, Row, rules, seen, settled, Some, sym, true, ◌∙◌, ◌≡◌}
-use Rattle.ksm_pages.specs.Paged.{visited}
-use Rattle.ksm_pages.proofs.Leaving.{alone_found, Comes, row_seen, view_of}
-use Rattle.ksm_pages.proofs.Turning.{found_left, held_as, rested}
+use Rattle.ksm_pages.proofs.Names.{ap, arith, best_of, false, found_at, held_of, on_row, option_map, out_of_tree, Private, refl, Row, rules, same_page, same_page_eq, seen, settled, Some, sym, true, ◌∙◌, ◌≡◌}
 use Rattle.ksm_tree.proofs.Numbers.{on_err}
-use Rattle.ksm_pages.proofs.Visiting.{asked, finds_changed, finds_dup, finds_gone, finds_partner, finds_waits, finds_zero, is_alone, IsAsked, waits_then}
+use Rattle.ksm_pages.specs.Paged.{visited}
+use Rattle.ksm_pages.proofs.Leaving.{Comes, held_as, row_seen, view_of}
+use Rattle.ksm_pages.proofs.Turning.{own_left, rested}
+use Rattle.ksm_pages.proofs.Visiting.{asked, entered_not, entered_then, entered_waits, enters_alone, enters_for, enters_free, enters_none, enters_own, enters_restless, finds_changed, finds_dup, finds_gone, finds_partner, finds_zero}
+use Rattle.ksm_pages.proofs.Visiting.{is_alone, IsAsked, lone_none, MayEnter, met, none_told, not_other}
 use Rattle.ksm_pages.proofs.pages.Pages.visit.Goals as goal
-use Rattle.ksm_pages.proofs.pages.Pages.visit.Goals.{After-best_of}
+use Rattle.ksm_pages.proofs.pages.Pages.visit.Goals.{After-enter-arg-1, in-Some-in_tree+then-ne+else-waits, in-Some-in_tree+else-ne, in_default-in_tree}
 
 pub returns-in_default-clause-found : goal.returns-in_default-clause-found
 returns-in_default-clause-found c = grind (arith, row_seen)
@@ -14,14 +14,21 @@ returns-in_default-clause-found c = grind (arith, row_seen)
 pub returns-then-not-is_restless-clause-found : goal.returns-then-not-is_restless-clause-found
 returns-then-not-is_restless-clause-found c = search (rules, finds_gone)
 
--- a visit may change the row, and its group has a number
-known : (c : After-best_of)
-    → IsAsked (record c.self.inside { dups = c.group.new.self }) c.args.self.now c.args.spot.page c.in-Some.entry.now c.in_ok-group.group
-known c = search (rules, asked)
+pub group_with_best-group-requires : goal.group_with_best-group-requires
+group_with_best-group-requires c =
+    let it : IsAsked c.self.inside c.args.self.now c.args.spot.page c.in-Some.entry.now =
+    record { lawful = c.self.invariant; seen_as = c.self.view_is; found = c.in-Some.ensures; restless = grind arith } in
+    rw (c.tree_in-tree.ensures (held_of c.self.inside.rows.pass c.in-Some.entry.now).row refl) (lone_none it)
 
-pub returns-in-Some-best_of-clause-found : goal.returns-in-Some-best_of-clause-found
-returns-in-Some-best_of-clause-found c =
-    finds_dup (known (goal.at.returns-in-Some-best_of-clause-found c).After-best_of) c.in-Some-best_of.best c.in-Some-best_of.ensures.best
+pub returns-in-Some-best-clause-found : goal.returns-in-Some-best-clause-found
+returns-in-Some-best-clause-found c =
+    let s = c.self.inside in
+    let e = c.in-Some.entry.now in
+    let tree_is = c.tree_in-tree.ensures (held_of s.rows.pass e).row refl in
+    rw c.group_with_best-group.ensures.kept
+    (finds_dup (asked c.self.inside c.self.invariant c.self.view_is c.in-Some.entry.now c.in-Some.ensures (grind arith)) c.in-Some-best.best
+    (sym c.in-Some-best.is ∙ c.group_with_best-group.ensures.best
+    ∙ (λ i. option_map found_at (best_of (tree_is i) e.bytes s.knobs.max_page_sharing s.dups.dups))))
 
 abbrev kept : Row → Row
 kept r = record (settled r) { unchanged = true }
@@ -30,50 +37,90 @@ abbrev found : Row → Row
 found r = record r { unchanged = true; state = Private }
 
 -- the page of a row that was not unchanged rests, and is unchanged
-went : (c : goal.After-change)
-    → IsAsked (record c.self.inside { dups = c.group.new.self }) c.args.self.now c.args.spot.page c.in-Some.entry.now c.in_ok-group.group
-    → let s = record c.self.inside { dups = c.group.new.self } in
-    Comes s c.change.new.self c.left_group.new.dups (visited c.args.spot.page found (seen (view_of s)))
-went c it =
-    let s = record c.self.inside { dups = c.group.new.self } in
-    let held : held_at c.args.spot.page s.rows.held ≡ Some (held_of c.pass.result c.in-Some.entry.now) = rw c.pass.ensures it.found in
-    let alone = is_alone s it.lawful c.args.spot.page c.in-Some.entry.now it.found it.restless in
-    let left = found_left {s = s} {p = view_of s} it.lawful refl held
-    (c.left_group.ensures s.knobs s.frames.items (alone_found s {p = view_of s} refl _ held alone) it.numbered) in
-    let now = rested left c.change.new.self kept found (λ r. refl) (λ r. refl)
-    alone (λ own. grind (arith, own)) (held_as (c.change.ensures _ (search rules))) in
-    grind arith
+went : (c : goal.After-change) → Comes c.self.inside c.change.new.self c.self.inside.dups (visited c.args.spot.page found (seen (view_of c.self.inside)))
+went c =
+    let s = c.self.inside in
+    let alone = is_alone s c.self.invariant c.args.spot.page c.in-Some.entry.now c.in-Some.ensures (grind arith) in
+    rested (own_left {p = view_of s} c.self.invariant refl alone) c.change.new.self (on_row kept) kept found (λ x. refl) (λ x. refl)
+    (λ r. refl) refl alone (λ own. grind (arith, own)) (λ lone. lone) (held_as (c.change.ensures _ (search rules)))
 
 pub invariant_of-self-then-not-entry : goal.invariant_of-self-then-not-entry
-invariant_of-self-then-not-entry c = search (rules, went, known)
+invariant_of-self-then-not-entry c = rw c.group_with_best-group.ensures.kept (went c).lawful
 
 pub returns-then-not-entry-clause-found : goal.returns-then-not-entry-clause-found
 returns-then-not-entry-clause-found c =
-    let it = known (goal.at.returns-then-not-entry-clause-found c).After-best_of in
-    finds_changed it c.in_default-best_of.ensures.best c.if-not-entry.true (went c it).told_as
+    let it = asked c.self.inside c.self.invariant c.self.view_is c.in-Some.entry.now c.in-Some.ensures (grind arith) in
+    let tree_is = c.tree_in-tree.ensures (held_of c.self.inside.rows.pass c.in-Some.entry.now).row refl in
+    rw c.group_with_best-group.ensures.kept
+    (finds_changed it (none_told it tree_is c.group_with_best-group.ensures.best c.in_default-best.is) c.if-not-entry.true (went c).told_as)
 
 pub returns-then-is_for_zero-clause-found : goal.returns-then-is_for_zero-clause-found
 returns-then-is_for_zero-clause-found c =
-    search (rules, finds_zero (known (goal.at.returns-then-is_for_zero-clause-found c).After-best_of))
+    let it = asked c.self.inside c.self.invariant c.self.view_is c.in-Some.entry.now c.in-Some.ensures (grind arith) in
+    let tree_is = c.tree_in-tree.ensures (held_of c.self.inside.rows.pass c.in-Some.entry.now).row refl in
+    rw c.group_with_best-group.ensures.kept
+    (finds_zero it (none_told it tree_is c.group_with_best-group.ensures.best c.in_default-best.is) c.if-not-entry.false
+    (sym c.is_for_zero.ensures ∙ c.if-is_for_zero.true))
 
-pub invariant_of-self-then-eq : goal.invariant_of-self-then-eq
-invariant_of-self-then-eq c =
-    (waits_then (known (goal.at.invariant_of-self-then-eq c).After-best_of) c.in_default-best_of.ensures.best
-    c.if-not-entry.false
-    (sym c.if-is_for_zero.ensures) c.meet-other.ensures.met c.meet-other.ensures.again (sym c.if-eq.ensures)
-    c.meet-other.ensures.kept c.meet-other.ensures.added c.remember.new.rows
-    (c.remember.ensures ∙ c.wait.ensures)).lawful
+pub returns-then-waits-clause-found : goal.returns-then-waits-clause-found
+returns-then-waits-clause-found c =
+    let it = asked c.self.inside c.self.invariant c.self.view_is c.in-Some.entry.now c.in-Some.ensures (grind arith) in
+    let tree_is = c.tree_in-tree.ensures (held_of c.self.inside.rows.pass c.in-Some.entry.now).row refl in
+    let apart : same_page c.in-Some-in_tree.other.page c.args.spot.page ≡ false = grind arith in
+    rw c.group_with_best-group.ensures.kept
+    (finds_partner it (none_told it tree_is c.group_with_best-group.ensures.best c.in_default-best.is) c.if-not-entry.false
+    (sym c.is_for_zero.ensures ∙ c.if-is_for_zero.false) c.in-Some-in_tree.other.page
+    (met it c.are_lawful.ensures.led c.are_lawful.ensures.found tree_is (sym c.in-Some-in_tree.ensures) apart c.waits.ensures c.if-waits.true))
 
-pub returns-then-eq-clause-found : goal.returns-then-eq-clause-found
-returns-then-eq-clause-found c =
-    finds_waits (known (goal.at.returns-then-eq-clause-found c).After-best_of) c.in_default-best_of.ensures.best c.if-not-entry.false
-    (sym c.if-is_for_zero.ensures) c.meet-other.ensures.met c.meet-other.ensures.again (sym c.if-eq.ensures)
-    c.meet-other.ensures.kept c.meet-other.ensures.added c.remember.new.rows (c.remember.ensures ∙ c.wait.ensures)
+-- the row may enter the tree
+way : (c : After-enter-arg-1)
+    → MayEnter c.match-in_tree.self-inside c.args.self.now c.args.spot.page c.in-Some.entry.now c.group_with_best-group.result.0
+way c =
+    let s = c.self.inside in
+    let it = asked c.self.inside c.self.invariant c.self.view_is c.in-Some.entry.now c.in-Some.ensures (grind arith) in
+    let tree_is = c.tree_in-tree.ensures (held_of s.rows.pass c.in-Some.entry.now).row refl in
+    let none = none_told it tree_is c.group_with_best-group.ensures.best c.in_default-best.is in
+    let not_zero = sym c.is_for_zero.ensures ∙ c.if-is_for_zero.false in
+    let kept_dups = c.group_with_best-group.ensures.kept in
+    elim c.match-in_tree.branch [
+      | in-Some-in_tree+then-ne+else-waits w ↦
+          let apart : same_page w.in-Some-in_tree.other.page c.args.spot.page ≡ false = grind arith in
+          rw (w.self-inside-is, kept_dups, w.leave_tree.ensures)
+          (enters_for it c.are_lawful.ensures.led c.are_lawful.ensures.found tree_is none not_zero c.group_with_best-group.result.0 c.group_with_best-group.ensures.none
+          (sym w.in-Some-in_tree.ensures) apart w.waits.ensures w.if-waits.false)
+      | in-Some-in_tree+else-ne w ↦
+          let own = same_page_eq w.in-Some-in_tree.other.page c.args.spot.page (not_other _ w.if-ne.ensures) in
+          rw (w.self-inside-is, kept_dups)
+          (enters_own it c.are_lawful.ensures.led c.are_lawful.ensures.found tree_is none not_zero c.group_with_best-group.result.0 c.group_with_best-group.ensures.none
+          (sym w.in-Some-in_tree.ensures ∙ ap Some own))
+      | in_default-in_tree w ↦
+          rw (w.self-inside-is, kept_dups)
+          (enters_none it c.are_lawful.ensures.led c.are_lawful.ensures.found tree_is none not_zero c.group_with_best-group.result.0 c.group_with_best-group.ensures.none
+          (grind arith))
+    ]
+
+pub enter-requires-clause-own : goal.enter-requires-clause-own
+enter-requires-clause-own c = enters_alone (way c)
+
+pub enter-requires-clause-free : goal.enter-requires-clause-free
+enter-requires-clause-free c = enters_free (way c)
+
+pub invariant_of-self-in_err-enter : goal.invariant_of-self-in_err-enter
+invariant_of-self-in_err-enter c =
+    rw c.in_err-enter.ensures.kept (way (goal.at.invariant_of-self-in_err-enter c).After-enter-arg-1).asked.lawful
+
+pub returns-in_err-enter-clause-refused : goal.returns-in_err-enter-clause-refused
+returns-in_err-enter-clause-refused c =
+    on_err c.from_residual.result
+    (entered_not (way (goal.at.returns-in_err-enter-clause-refused c).After-enter-arg-1) c.in_err-enter.ensures.kept)
+
+pub returns-in_err-enter-clause-restless : goal.returns-in_err-enter-clause-restless
+returns-in_err-enter-clause-restless c =
+    on_err c.from_residual.result (enters_restless (way (goal.at.returns-in_err-enter-clause-restless c).After-enter-arg-1))
+
+pub invariant_of-self-2 : goal.invariant_of-self-2
+invariant_of-self-2 c = (entered_then (way (goal.at.invariant_of-self-2 c).After-enter-arg-1) c.in_ok-enter.ensures.waits).lawful
 
 pub returns-clause-found : goal.returns-clause-found
 returns-clause-found c =
-    finds_partner (known (goal.at.returns-clause-found c).After-best_of) c.in_default-best_of.ensures.best c.if-not-entry.false
-    (grind arith) c.meet-other.ensures.met c.meet-other.ensures.again (sym c.if-eq.ensures)
-
-pub returns-in_err-group-clause-restless : goal.returns-in_err-group-clause-restless
-returns-in_err-group-clause-restless c = grind (arith, on_err, row_seen, restless_as)
+    entered_waits (way (goal.at.returns-clause-found c).After-enter-arg-1) c.if-not-entry.false c.in_ok-enter.ensures.waits

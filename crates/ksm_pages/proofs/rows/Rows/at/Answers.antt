@@ -9,5 +9,5 @@ returns-in-Some c =
     let e = c.in-Some.entry.now in
     let there : IsUnder s.entries page c.args.spot.key = grind (arith, same_page_eq) in
     (λ i. held_at page (sym c.self.view_is i).held)
-    ∙ row_there s c.self.invariant there (sym c.in-Some.ensures)
+    ∙ row_there s c.self.invariant.0 there (sym c.in-Some.ensures)
     ∙ (λ i. Some (held_of (c.self.view_is i).pass e))

@@ -1,5 +1,7 @@
 use Rattle.std.specs.Fn.{FnOnceReturnsAtMut}
-use Rattle.ksm_pages.proofs.Names.{arith, inl, inr, IsAddedTo, is_restless, IsRows, Listing, marked, refl, rules, true, with_value, ◌≡◌, ◌⊎◌}
+use Rattle.ksm_pages.proofs.Led.{led_still, stay_written}
+use Rattle.ksm_pages.specs.Unstable.{AreLed}
+use Rattle.ksm_pages.proofs.Names.{ap, arith, inl, inr, is_some, Updates-with_value, IsAddedTo, is_restless, IsRows, Listing, marked, refl, rules, true, with_value, ◌≡◌, ◌⊎◌}
 use Rattle.ksm_pages.proofs.Writing.{can_be, kept_mark, nothing, still, view_of, viewed}
 use Rattle.ksm_pages.specs.Filed.{IsMade}
 use Rattle.ksm_pages.proofs.rows.Rows.change.Goals as goal
@@ -9,7 +11,7 @@ pub returns-in_default : goal.returns-in_default
 returns-in_default g c f is = search (rules, nothing)
 
 pub follow-requires : goal.follow-requires
-follow-requires g c = search (rules, can_be c.self.inside c.self.invariant c.in-Some.ensures.there)
+follow-requires g c = search (rules, can_be c.self.inside c.self.invariant.0 c.in-Some.ensures.there)
 
 -- the entry is made anew, its page marked as it says, and its state counted
 told : (g : _) (c : After-len-rows g) → c.if-is-was.self-inside ≡ record c.self.inside {
@@ -20,7 +22,7 @@ told : (g : _) (c : After-len-rows g) → c.if-is-was.self-inside ≡ record c.s
 told g c = elim c.if-is-was.branch [
   | then-is-was w ↦ grind (arith, w.self-inside-is, w.mark.ensures)
   | else-is-was w ↦
-      let here = kept_mark c.self.inside c.self.invariant c.in-Some.ensures.there c.index_mut-entry.ensures.value in
+      let here = kept_mark c.self.inside c.self.invariant.0 c.in-Some.ensures.there c.index_mut-entry.ensures.value in
       grind (arith, w.self-inside-is, here)
 ]
 
@@ -35,18 +37,28 @@ lawful : (g : _) (c : After-len-rows g) {now : Listing}
     → let s = c.if-is-was.self-inside in IsRows s.entries s.order now s.tally s.pass
 lawful g c either =
     rw (told g c)
-    (still c.self.inside c.self.invariant c.in-Some.ensures.there c.index_mut-entry.ensures.value c.self.view_is _ refl
-    (c.requires.kept _ _ (made g c)) refl refl c.follow.ensures either)
+    (still c.self.inside c.self.invariant.0 c.in-Some.ensures.there c.index_mut-entry.ensures.value c.self.view_is _ refl
+    (let kept = c.requires.kept _ _ (made g c) in (kept.0, kept.1)) refl refl c.follow.ensures either)
+
+-- the unstable tree leads as it did
+led : (g : _) (c : After-len-rows g) → let s = c.if-is-was.self-inside in AreLed s.by_node s.entries s.unstable
+led g c =
+    rw (told g c)
+    (led_still c.self.inside.by_node c.self.inside.entries (with_value c.self.inside.entries c.in-Some.key c.make.new.arg2)
+    (stay_written c.self.inside.entries (with_value c.self.inside.entries c.in-Some.key c.make.new.arg2) c.in-Some.key
+    c.index_mut-entry.ensures.value
+    (Updates-with_value _ _ _ (ap is_some c.index_mut-entry.ensures.value)) (c.requires.kept _ _ (made g c)).2)
+    c.self.inside.unstable c.self.invariant.1)
 
 pub invariant_of-self : goal.invariant_of-self
 invariant_of-self g c =
     let l = (goal.at.invariant_of-self g c).After-len-rows in
-    lawful g l (inl (rw (told g l) at c.add.ensures.added))
+    (lawful g l (inl (rw (told g l) at c.add.ensures.added)), led g l)
 
 pub invariant_of-self-else-not-listed : goal.invariant_of-self-else-not-listed
 invariant_of-self-else-not-listed g c =
     let l = (goal.at.invariant_of-self-else-not-listed g c).After-len-rows in
-    lawful g l (inr ((λ i. (told g l i).restless), λ may. grind arith))
+    (lawful g l (inr ((λ i. (told g l i).restless), λ may. grind arith)), led g l)
 
 -- the rows are seen so, whatever is listed
 seen : (g : _) (c : After-len-rows g)
@@ -54,8 +66,8 @@ seen : (g : _) (c : After-len-rows g)
     (view_of c.if-is-was.self-inside)
 seen g c f is =
     rw (told g c)
-    (viewed c.self.inside c.self.invariant c.in-Some.ensures.there c.index_mut-entry.ensures.value c.self.view_is _ refl
-    (c.requires.kept _ _ (made g c)) f (is _ _ (made g c)))
+    (viewed c.self.inside c.self.invariant.0 c.in-Some.ensures.there c.index_mut-entry.ensures.value c.self.view_is _ refl
+    (let kept = c.requires.kept _ _ (made g c) in (kept.0, kept.1)) f (is _ _ (made g c)))
 
 pub returns-then-not-listed : goal.returns-then-not-listed
 returns-then-not-listed g c = seen g (goal.at.returns-then-not-listed g c).After-len-rows

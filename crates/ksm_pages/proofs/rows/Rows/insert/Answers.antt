@@ -1,7 +1,9 @@
-use Rattle.ksm_pages.proofs.Names.{arith, Entry, false, get, None, rules, Some, true, ◌≡◌}
+use Rattle.ksm_pages.proofs.Names.{arith, Entry, false, get, None, refl, rules, Some, true, ◌≡◌}
 use Rattle.slab.specs.Slab.{Updates as Fills}
+use Rattle.ksm_pages.specs.declared.row.InTree.TheVariants.{Not}
 use Rattle.ksm_pages.specs.declared.row.Kind.TheVariants as kinds
-use Rattle.ksm_pages.proofs.Writing.{no_name, rests_now, still_put, viewed_put}
+use Rattle.ksm_pages.proofs.Led.{led_still, stay_put, stay_room}
+use Rattle.ksm_pages.proofs.Writing.{filled, no_name, rests_now, still_put, viewed_put}
 use Rattle.ksm_pages.proofs.rows.Rows.insert.Goals as goal
 
 pub insert-requires : goal.insert-requires
@@ -16,6 +18,7 @@ fresh c = record {
   home = c.args.home;
   group = 4294967295;
   kind = kinds.Own;
+  in_tree = Not;
   mergeable = true;
   unchanged = false;
 }
@@ -29,13 +32,28 @@ came c =
 
 pub invariant_of-self-2 : goal.invariant_of-self-2
 invariant_of-self-2 c =
-    rw c.in_ok-insert.ensures.added
-    (still_put c.self.inside c.self.invariant c.self.view_is c.reserve_one.ensures.rest (came c).0 c.requires.absent
-    (came c).1
-    (rests_now _ c.self.invariant.counting) (omega arith) c.add.ensures.added)
+    rw c.in_ok-insert.ensures.added (
+      still_put c.self.inside c.self.invariant.0 c.self.view_is c.reserve_one.ensures.rest (came c).0 c.requires.absent
+          (came c).1
+          (rests_now _ (fresh c) c.self.invariant.0.counting refl refl) (omega arith) c.add.ensures.added,
+      led_still c.self.inside.by_node c.self.inside.entries c.insert_reserved.new.self (stay_put c.self.inside.entries c.insert_reserved.new.self c.in-Ok.key (filled c.self.inside c.self.invariant.0 c.self.view_is c.reserve_one.ensures.rest (came c).0 c.requires.absent (came c).1) refl) c.self.inside.unstable c.self.invariant.1,
+    )
+
+-- the unstable tree leads as it did where there is room for an entry
+pub invariant_of-self : goal.invariant_of-self
+invariant_of-self c =
+    (search rules, led_still c.self.inside.by_node c.self.inside.entries c.reserve_one.new.slab (stay_room c.self.inside.entries c.reserve_one.new.slab c.reserve_one.ensures.rest) c.self.inside.unstable c.self.invariant.1)
+
+pub invariant_of-self-in_default : goal.invariant_of-self-in_default
+invariant_of-self-in_default c =
+    (search rules, led_still c.self.inside.by_node c.self.inside.entries c.reserve_one.new.slab (stay_room c.self.inside.entries c.reserve_one.new.slab c.reserve_one.ensures.rest) c.self.inside.unstable c.self.invariant.1)
+
+pub invariant_of-self-in_err-insert : goal.invariant_of-self-in_err-insert
+invariant_of-self-in_err-insert c =
+    (search rules, led_still c.self.inside.by_node c.self.inside.entries c.reserve_one.new.slab (stay_room c.self.inside.entries c.reserve_one.new.slab c.reserve_one.ensures.rest) c.self.inside.unstable c.self.invariant.1)
 
 pub returns-clause-added : goal.returns-clause-added
 returns-clause-added c =
-    let now = viewed_put c.self.inside c.self.invariant c.self.view_is c.reserve_one.ensures.rest (came c).0
+    let now = viewed_put c.self.inside c.self.invariant.0 c.self.view_is c.reserve_one.ensures.rest (came c).0
     c.requires.absent (came c).1 in
-    grind (arith, now, c.in_ok-insert.ensures.added, rests_now c.self.inside.pass c.self.invariant.counting)
+    grind (arith, now, c.in_ok-insert.ensures.added, rests_now c.self.inside.pass (fresh c) c.self.invariant.0.counting refl refl)

@@ -4,7 +4,7 @@ use Rattle.ksm_pages.proofs.Writing.{row_there}
 use Rattle.ksm_pages.proofs.rows.Rows.look_up_anew.Goals as goal
 
 pub index-requires : goal.index-requires
-index-requires c = ap is_some (under c.self.inside.entries _ c.self.invariant.filed (sym c.in_ok-key.ensures)).stands
+index-requires c = ap is_some (under c.self.inside.entries _ c.self.invariant.0.filed (sym c.in_ok-key.ensures)).stands
 
 pub returns-in_err-key : goal.returns-in_err-key
 returns-in_err-key c = search (rules, held_nowhere)
@@ -13,6 +13,6 @@ pub returns : goal.returns
 returns c = (
   refl,
   (λ i. held_at c.args.page (sym c.self.view_is i).held)
-      ∙ row_there c.self.inside c.self.invariant (under _ _ c.self.invariant.filed (sym c.in_ok-key.ensures)) c.index.ensures
+      ∙ row_there c.self.inside c.self.invariant.0 (under _ _ c.self.invariant.0.filed (sym c.in_ok-key.ensures)) c.index.ensures
       ∙ (λ i. Some (held_of (c.self.view_is i).pass c.index.result.now)),
 )

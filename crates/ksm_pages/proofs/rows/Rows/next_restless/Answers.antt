@@ -8,11 +8,11 @@ returns-then-is_known-clause-next c =
     let s = c.self.inside in
     let known = sym c.is_known.ensures ∙ c.if-is_known.true in
     rw (← c.self.view_is)
-    (listed_next s.entries _ c.self.invariant.ascending c.self.invariant.filed _ _ _ (c.self.invariant.listed known) _ c.after.ensures.none c.after.ensures.next)
+    (listed_next s.entries _ c.self.invariant.0.ascending c.self.invariant.0.filed _ _ _ (c.self.invariant.0.listed known) _ c.after.ensures.none c.after.ensures.next)
 
 pub returns-else-is_known-clause-next : goal.returns-else-is_known-clause-next
 returns-else-is_known-clause-next c =
     let s = c.self.inside in
     let rise : InPageOrder (rows_of c.args.self.now.held) =
-    rw (← c.self.view_is) (rows_rise s.entries _ c.self.invariant.ascending c.self.invariant.filed _) in
+    rw (← c.self.view_is) (rows_rise s.entries _ c.self.invariant.0.ascending c.self.invariant.0.filed _) in
     rw c.after-else-is_known.ensures (found_next c.args.cursor (rows_of c.args.self.now.held) rise _ refl)

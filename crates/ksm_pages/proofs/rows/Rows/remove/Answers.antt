@@ -1,4 +1,5 @@
 use Rattle.ksm_pages.proofs.Names.{rules}
+use Rattle.ksm_pages.proofs.Led.{led_still, stay_gone}
 use Rattle.ksm_pages.proofs.Writing.{can_be, nothing_gone, still_gone, viewed_gone}
 use Rattle.ksm_pages.proofs.Options.{some_mapped}
 use Rattle.ksm_pages.proofs.rows.Rows.remove.Goals as goal
@@ -7,15 +8,19 @@ pub returns-in_default : goal.returns-in_default
 returns-in_default c = search (rules, nothing_gone)
 
 pub change-requires : goal.change-requires
-change-requires c = search (rules, can_be c.self.inside c.self.invariant c.in-Some.ensures.there)
+change-requires c = search (rules, can_be c.self.inside c.self.invariant.0 c.in-Some.ensures.there)
 
 pub remove-requires : goal.remove-requires
 remove-requires c = search (rules, some_mapped)
 
 pub invariant_of-self : goal.invariant_of-self
 invariant_of-self c =
-    rw c.lose_row.ensures (rw c.remove.ensures (still_gone c.self.inside c.self.invariant c.in-Some.ensures.there c.remove-gone.ensures.value
-    c.remove-gone.ensures.updates c.state.ensures c.change.ensures))
+    let s = c.self.inside in (
+      rw c.lose_row.ensures (rw c.remove.ensures (still_gone s c.self.invariant.0 c.in-Some.ensures.there c.remove-gone.ensures.value
+          c.remove-gone.ensures.updates c.state.ensures c.change.ensures)),
+      led_still s.by_node s.entries c.remove-gone.new.self
+          (stay_gone s.entries c.remove-gone.new.self c.in-Some.key c.remove-gone.ensures.updates) s.unstable c.self.invariant.1,
+    )
 
 pub returns : goal.returns
 returns c = search (rules, viewed_gone)

@@ -1,6 +1,8 @@
-use Rattle.ksm_pages.proofs.Names.{arith, inr, refl, rules, sym}
-use Rattle.ksm_pages.proofs.Writing.{can_be, kept_mark, nothing, own_there, still, viewed, waits_now}
+use Rattle.ksm_pages.proofs.Names.{ap, arith, Entry, inr, is_some, refl, rules, sym, Updates-with_value, with_value}
+use Rattle.ksm_pages.proofs.Led.{led_still, stay_written}
+use Rattle.ksm_pages.proofs.Writing.{can_be, kept_mark, led_there, nothing, own_there, still, viewed, waits_now}
 use Rattle.ksm_pages.proofs.rows.Rows.wait.Goals as goal
+use Rattle.ksm_pages.proofs.rows.Rows.wait.Goals.{After-change}
 
 pub returns-in_default : goal.returns-in_default
 returns-in_default c = search (rules, nothing)
@@ -9,22 +11,33 @@ pub state_alone-old-requires : goal.state_alone-old-requires
 state_alone-old-requires c = search (rules, own_there)
 
 pub change-requires : goal.change-requires
-change-requires c = search (rules, can_be c.self.inside c.self.invariant c.in-Some.ensures.there)
+change-requires c = search (rules, can_be c.self.inside c.self.invariant.0 c.in-Some.ensures.there)
+
+-- the entry, of the pass that goes on
+abbrev later : After-change → Entry
+later c = record c.index_mut-entry.result.now { number = c.self.inside.pass }
 
 pub invariant_of-self : goal.invariant_of-self
 invariant_of-self c =
     let s = c.self.inside in
     let there = c.in-Some.ensures.there in
     let stood = c.index_mut-entry.ensures.value in
-    let own = own_there s c.self.invariant there stood c.self.view_is c.requires.own in
-    still s c.self.invariant there stood c.self.view_is _ (kept_mark s c.self.invariant there stood _ refl)
-    (refl, λ _ own. grind arith) c.state_alone-old.ensures (sym (waits_now _ own)) c.change.ensures (inr (refl, λ may. may))
+    let own = own_there s c.self.invariant.0 there stood c.self.view_is c.requires.own in
+    let led = led_there s c.self.invariant.0 there stood c.self.view_is c.requires.led in (
+      still s c.self.invariant.0 there stood c.self.view_is (later c) (kept_mark s c.self.invariant.0 there stood _ refl)
+          (refl, λ _ own. grind arith) c.state_alone-old.ensures
+          (sym (waits_now s.pass (later c) own refl led)) c.change.ensures (inr (refl, λ may. may)),
+      led_still s.by_node s.entries (with_value s.entries c.in-Some.key (later c))
+          (stay_written s.entries (with_value s.entries c.in-Some.key (later c)) c.in-Some.key stood
+          (Updates-with_value _ _ _ (ap is_some stood)) (λ led. (led, refl, refl))) s.unstable c.self.invariant.1,
+    )
 
 pub returns : goal.returns
 returns c =
     let s = c.self.inside in
     let there = c.in-Some.ensures.there in
     let stood = c.index_mut-entry.ensures.value in
-    let own = own_there s c.self.invariant there stood c.self.view_is c.requires.own in
-    viewed s c.self.invariant there stood c.self.view_is _ (kept_mark s c.self.invariant there stood _ refl)
-    (refl, λ _ own. grind arith) _ (λ _. grind (arith, waits_now))
+    let own = own_there s c.self.invariant.0 there stood c.self.view_is c.requires.own in
+    let led = led_there s c.self.invariant.0 there stood c.self.view_is c.requires.led in
+    viewed s c.self.invariant.0 there stood c.self.view_is (later c) (kept_mark s c.self.invariant.0 there stood _ refl)
+    (refl, λ _ own. grind arith) _ (λ _. grind (arith, waits_now s.pass (later c) own refl led))

@@ -15,7 +15,7 @@ pub best_in-requires : goal.best_in-requires
 best_in-requires c =
     let s = c.self.inside in
     let g = c.in_ok-found.found.now in
-    let own = (s.groups.lawful.numbered g.content c.args.group).1 (ap content_in (sym c.in_ok-found.ensures)) in
+    let own = (s.groups.lawful g.content c.args.group).1 (ap content_in (sym c.in_ok-found.ensures)) in
     rw (← c.self.view_is) (c.as_slice-chain.ensures ∙ group_here c.self.invariant _ _ own c.in_ok-found.ensures)
 
 pub returns-clause-best : goal.returns-clause-best

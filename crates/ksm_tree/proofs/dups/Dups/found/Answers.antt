@@ -17,7 +17,7 @@ vacant : (c : After-vacate) → AreChained c.vacate.new.slots c.self.inside.next
 vacant c = c.vacate.ensures.chained _ (room_chained c.self.invariant c.reserve.ensures.kept c.reserve-2.ensures.chains)
 
 seen : (c : After-vacate) → dups_seen c.vacate.new.slots c.self.inside.next c.vacate.new.groups ≡ record c.args.self.now { dups = without_place c.args.place c.args.self.now.dups }
-seen c = grind (arith, c.self.view_is, c.reserve.ensures.kept, c.reserve-2.ensures.waits, c.vacate.ensures.gone, c.vacate.ensures.waits)
+seen c = grind (arith, c.self.view_is, c.reserve.ensures.kept, c.reserve-2.ensures.numbers, c.vacate.ensures.gone, c.vacate.ensures.numbers)
 
 pub add-requires-clause-counted : goal.add-requires-clause-counted
 add-requires-clause-counted c = told (vacant (goal.at.add-requires-clause-counted c).After-vacate)
@@ -39,5 +39,5 @@ returns-clause-made c =
     let dup : ℕ → Dup = λ n. record { row = record { number = n; place = c.args.place; tree = c.args.tree; bytes = c.args.bytes.now }; items = with_item c.args.second (c.args.first ∷ []) } in
     let again = new_again (dup c.args.self.now.next) c.args.self.now.dups in
     c.keep_open.ensures ∙ rw (c.put.ensures, c.in_ok-items.ensures.both)
-    (seen_made c.vacate.new.slots c.self.inside.next c.vacate.new.groups c.add.new.self dup c.put.new.self.ready view c.add.ensures.waits
+    (seen_made c.vacate.new.slots c.self.inside.next c.vacate.new.groups c.add.new.self dup c.put.new.self.ready view c.add.ensures.numbers
     ∙ (λ i. record c.args.self.now { dups = again i; next = c.args.self.now.next + 1 }))

@@ -7,7 +7,7 @@ pub none_open-requires : goal.none_open-requires
 none_open-requires c k d within =
     let s = c.self.inside in
     let g = c.in-Some.found.now in
-    let own = (s.groups.lawful.numbered g.content c.args.group).1 (ap content_in (sym c.in-Some.ensures)) in
+    let own = (s.groups.lawful g.content c.args.group).1 (ap content_in (sym c.in-Some.ensures)) in
     let chain = c.as_slice-chain.ensures ∙ group_here c.self.invariant _ _ own c.in-Some.ensures in
     let below : All (λ p. p < s.slots.places) c.as_slice-chain.result.now =
     candidates_within _ _ c.args.limit s.slots.dups _ true chain _ c.self.invariant.lawful.places_below in

@@ -6,13 +6,11 @@ use Rattle.ksm_tree.proofs.groups.Groups.drop_idle.Goals.{After-remove}
 gone : (c : After-remove) → Keeps c.args.self.now c.try_remove.new.self c.remove.new.self
 gone c =
     went c.args.self.now c.remove.new.self _ c.remove.ensures.updates c.try_remove.ensures.updates
-    (c.if-not-is_idle.ensures.idle refl) (refl, refl)
-    (ap content_in (sym c.in-Some.ensures.value)) refl refl
+    (c.if-not-is_idle.ensures.idle refl) refl (ap content_in (sym c.in-Some.ensures.value)) refl refl
 
 pub invariant_of-self-clause-lawful : goal.invariant_of-self-clause-lawful
 invariant_of-self-clause-lawful c = (gone (goal.at.invariant_of-self-clause-lawful c).After-remove).lawful
 
-pub returns-in-Some-clause-stands : goal.returns-in-Some-clause-stands
-returns-in-Some-clause-stands c =
-    let left = gone (goal.at.returns-in-Some-clause-stands c).After-remove in
-    record { chains = record { chains = left.chains; totals = refl }; waiting = left.waiting }
+pub returns-in-Some-clause-chains : goal.returns-in-Some-clause-chains
+returns-in-Some-clause-chains c =
+    record { chains = (gone (goal.at.returns-in-Some-clause-chains c).After-remove).chains; totals = refl }

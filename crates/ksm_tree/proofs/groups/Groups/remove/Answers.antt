@@ -1,15 +1,11 @@
-use Rattle.ksm_tree.proofs.Names.{refl, sym, without}
-use Rattle.ksm_tree.proofs.Standing.{rechained, rewritten, same_waiting}
+use Rattle.ksm_tree.proofs.Names.{sym, without}
+use Rattle.ksm_tree.proofs.Standing.{rechained, rewritten}
 use Rattle.ksm_tree.proofs.groups.Groups.remove.Goals as goal
 
 pub invariant_of-self-clause-lawful : goal.invariant_of-self-clause-lawful
-invariant_of-self-clause-lawful c = rewritten c.args.self.now _ _ _ c.in-Some-get_mut.ensures.value refl (λ same. same)
+invariant_of-self-clause-lawful c = rewritten c.args.self.now _ _ _ c.in-Some-get_mut.ensures.value
 
 pub returns-in-Some-get_mut-clause-removed : goal.returns-in-Some-get_mut-clause-removed
 returns-in-Some-get_mut-clause-removed c =
-    rechained c.args.self.now _ _ _ c.in-Some-get_mut.ensures.value refl
+    rechained c.args.self.now _ _ _ c.in-Some-get_mut.ensures.value
     (without c.args.place) c.remove.ensures.without _ _ (sym c.in-Some.ensures)
-
-pub returns-in-Some-get_mut-clause-waits : goal.returns-in-Some-get_mut-clause-waits
-returns-in-Some-get_mut-clause-waits c =
-    record { waiting = same_waiting c.args.self.now _ _ _ c.in-Some-get_mut.ensures.value refl refl; numbers = refl; most = refl }

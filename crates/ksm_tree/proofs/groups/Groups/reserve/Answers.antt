@@ -1,10 +1,5 @@
-use Rattle.ksm_tree.proofs.Names.{refl}
-use Rattle.ksm_tree.proofs.Standing.{rewritten, same_waiting}
+use Rattle.ksm_tree.proofs.Standing.{rewritten}
 use Rattle.ksm_tree.proofs.groups.Groups.reserve.Goals as goal
 
 pub invariant_of-self-clause-lawful : goal.invariant_of-self-clause-lawful
-invariant_of-self-clause-lawful c = rewritten c.args.self.now _ _ _ c.in-Some.ensures.value refl (λ same. same)
-
-pub returns-in-Some-clause-waits : goal.returns-in-Some-clause-waits
-returns-in-Some-clause-waits c =
-    record { waiting = same_waiting c.args.self.now _ _ _ c.in-Some.ensures.value refl refl; numbers = refl; most = refl }
+invariant_of-self-clause-lawful c = rewritten c.args.self.now _ _ _ c.in-Some.ensures.value

@@ -14,7 +14,7 @@ entered : (c : After-insert_reserved) → Keeps c.make_room.new.self c.insert_re
 entered c =
     let g = c.make_room.new.self in
     let k = content_of c.args.tree c.args.bytes.now in
-    let fresh : Group = record { content = k; page = record { guest = 0; page = 0 }; pass = 0; places = c.new.result } in
+    let fresh : Group = record { content = k; places = c.new.result } in
     let key : c.insert_reserved.result ≡ c.in-Ok.number = search rules in
     let room = λ (n : ℕ). ap (λ s. get s n) c.reserve_one.ensures.rest in
     let vacant = sym (room c.in-Ok.number) ∙ ap (get c.reserve_one.new.slab) (sym key) ∙
@@ -22,24 +22,20 @@ entered c =
     let fills = subst (λ n. Fills c.reserve_one.new.slab c.insert_reserved.new.self n (Some fresh)) key c.insert_reserved.ensures.updates in
     came g _ k (c.in_ok-entry.ensures.update.0 c.in-Ok.number)
     (record { changed = fills.changed; others = λ n apart. fills.others n apart ∙ room n })
-    (rw vacant (refl, refl)) (c.new.ensures.none, grind (arith, g.lawful.begun)) (absent c) vacant refl refl
-    (grind arith)
+    (rw vacant refl) c.new.ensures.none (absent c) vacant refl refl
 
 pub invariant_of-self-in-Vacant : goal.invariant_of-self-in-Vacant
 invariant_of-self-in-Vacant c = record { lawful = search (rules, (entered c).lawful, c.insert-number.ensures.writes_back); bounded = c.make_room.new.self.bounded }
 
-pub returns-in-Ok-clause-stands : goal.returns-in-Ok-clause-stands
-returns-in-Ok-clause-stands c =
-    let e = entered ((goal.at.returns-in-Ok-clause-stands c).After-insert_reserved) in
-    let was = c.make_room.ensures.stands in
-    record {
-      chains = record { chains = λ t b. (search (rules, e.chains)) ∙ was.chains.chains t b; totals = was.chains.totals };
-      waiting = e.waiting ∙ was.waiting;
-    }
+pub returns-in-Ok-clause-chains : goal.returns-in-Ok-clause-chains
+returns-in-Ok-clause-chains c =
+    let e = entered ((goal.at.returns-in-Ok-clause-chains c).After-insert_reserved) in
+    let was = c.make_room.ensures.chains in
+    record { chains = λ t b. (search (rules, e.chains)) ∙ was.chains t b; totals = was.totals }
 
 pub returns-in-Ok-clause-reserve : goal.returns-in-Ok-clause-reserve
 returns-in-Ok-clause-reserve c =
     let e = entered ((goal.at.returns-in-Ok-clause-reserve c).After-insert_reserved) in
     let more = one_more c.make_room.new.self.numbers (map_with_value c.in_ok-entry.field-0 c.in-Ok.number) c.args.tree c.args.bytes.now c.in-Ok.number
     (absent ((goal.at.returns-in-Ok-clause-reserve c).After-insert_reserved)) c.in_ok-entry.ensures.value (c.in_ok-entry.ensures.len c.in-Ok.number) (c.in_ok-entry.ensures.update.0 c.in-Ok.number) in
-    grind (arith, more, e.chains, e.waiting)
+    grind (arith, more, e.chains)

@@ -1,0 +1,306 @@
+-- Each entry in the unstable tree is found there: what one entry that came, went or changed leaves, and what the rows show of it.
+use Rattle.ksm_pages.proofs.Names.{All, ap, AreAscending, AreFiled, arith, Bool, cases_Bool, Entry, false, find, find_all, find_none, find_nothing, find_passes, get, get_or, held_at}
+use Rattle.ksm_pages.proofs.Names.{held_in, held_of, holds, inl, inr, List, map, Named, nat_tests, None, Option, option_map, refl, RowsView, same_page_eq, same_Some, Slab, Some, sym, true, true≢false, waiting_state}
+use Rattle.ksm_pages.proofs.Names.{ℕ, [], ◌==◌, ◌∙◌, ◌∷◌, ◌≡◌, ◌≢◌, ◌⊎◌, is_some}
+use Rattle.ksm_pages.proofs.Options.{mapped_some}
+use Rattle.std.proofs.Math.ListN.{get_or-map}
+use Rattle.std.specs.Prelude.{if◌then◌else◌, nat_lt}
+use Rattle.std.specs.List.{list_any}
+use Rattle.ksm_tree.specs.Numbered.{number_of}
+use Rattle.ksm_pages.specs.declared.unstable.TheConstants.{GONE, NO_KEY}
+use Rattle.std.proofs.lemmas.Slice.Eq.{bytes_eq-Decides}
+use Rattle.slab.specs.Slab.{Updates as Fills}
+use Rattle.ksm_pages.specs.Filed.{StaysLed}
+use Rattle.ksm_pages.specs.Held.{AreInTree, has_content, Held, in_tree_by, IsFree, is_in, page_in_tree, tree_by}
+use Rattle.ksm_pages.specs.Unstable.{AreLed, found_or, holder, if_stands, in_place, Keeps, keys_at, LeadsTo, stands_under}
+use Rattle.ksm_pages.specs.declared.unstable.UnstableTree.{UnstableTree}
+use Rattle.ksm_pages.proofs.Filing.{differ_by, held_found, named_under, one_key}
+use Rattle.ksm_pages.proofs.Gathering.{rows_all}
+
+none_some : {X : Type 0} (x : X) → None ≡ Some x → ⊥
+none_some x is = true≢false (sym (ap is_some is))
+
+-- a search by a test that lets less through finds what was found before, if that passes still
+find_less : {X : Type 0} (p q : X → Bool) (xs : List X) (x : X) → ((y : X) → q y ≡ true → p y ≡ true) → find p xs ≡ Some x
+    → q x ≡ true → find q xs ≡ Some x
+find_less p q [] x less found passes = grind arith
+find_less p q (y ∷ ys) x less found passes = grind (arith, less y, find_less p q ys x)
+
+-- and none where none was found
+none_less : {X : Type 0} (p q : X → Bool) (xs : List X) → ((y : X) → q y ≡ true → p y ≡ true) → find p xs ≡ None → find q xs ≡ None
+none_less p q [] less none = refl
+none_less p q (y ∷ ys) less none = grind (arith, less y, none_less p q ys less)
+
+module _ (by_node : Bool) (slab : Slab Entry) (u : UnstableTree) (t : ℕ) (b : List ℕ) {key : ℕ} (is : holder by_node slab u t b ≡ Some key) where
+  -- the entry to which the tree leads stands there
+  pub holder_stands : stands_under by_node slab t b key ≡ true
+  holder_stands = grind (arith, find_passes)
+
+module _ (by_node : Bool) (slab later : Slab Entry) (t : ℕ) (b : List ℕ) (key : ℕ)
+    (less : (k : ℕ) → stands_under by_node later t b k ≡ true → stands_under by_node slab t b k ≡ true)
+    (stands : stands_under by_node later t b key ≡ true) where
+  other_less : (o : Option ℕ) → if_stands by_node slab t b o ≡ Some key → if_stands by_node later t b o ≡ Some key
+  other_less None is = grind arith
+  other_less (Some k) is = elim (cases_Bool (stands_under by_node slab t b k)) [
+    | inl there ↦
+        let same : k ≡ key = grind arith in
+        (λ i. if stands_under by_node later t b (same i) then Some (same i) else None)
+        ∙ (λ i. if stands i then Some key else None)
+    | inr none ↦ grind arith
+  ]
+
+  found_less : (keys : List ℕ) (o : Option ℕ) (r : Option ℕ) → find (stands_under by_node slab t b) keys ≡ r
+      → found_or r keys (if_stands by_node slab t b o) ≡ Some key
+      → found_or (find (stands_under by_node later t b) keys) keys (if_stands by_node later t b o) ≡ Some key
+  found_less keys o (Some k) is got =
+      (λ i. found_or (find_less (stands_under by_node slab t b) (stands_under by_node later t b) keys key less (is ∙ got) stands i) keys (if_stands by_node later t b o))
+  found_less keys o None is got =
+      (λ i. found_or (none_less (stands_under by_node slab t b) (stands_under by_node later t b) keys less is i) keys (if_stands by_node later t b o))
+      ∙ free (list_any (λ k. k == NO_KEY) keys) got
+    where
+      free : (full : Bool) → (if full then None else if_stands by_node slab t b o) ≡ Some key
+          → (if full then None else if_stands by_node later t b o) ≡ Some key
+      free true is = grind arith
+      free false is = other_less o is
+
+  -- in a later slab in which no more entries stand with a tree and bytes the tree leads to the same one, if it stands still
+  pub place_less : (p : Option (List ℕ)) (o : Option ℕ) → in_place by_node slab t b p (if_stands by_node slab t b o) ≡ Some key
+      → in_place by_node later t b p (if_stands by_node later t b o) ≡ Some key
+  place_less None o is = other_less o is
+  place_less (Some keys) o is = found_less keys o _ refl is
+
+-- the tree leads to the same entry in such a slab
+pub holder_less : (by_node : Bool) (slab : Slab Entry) (u : UnstableTree) (t : ℕ) (b : List ℕ) {key : ℕ} → holder by_node slab u t b ≡ Some key
+    → (later : Slab Entry) → ((k : ℕ) → stands_under by_node later t b k ≡ true → stands_under by_node slab t b k ≡ true)
+    → stands_under by_node later t b key ≡ true → holder by_node later u t b ≡ Some key
+holder_less by_node slab u t b {key} is later less stands =
+    place_less by_node slab later t b key less stands (keys_at u t b) (number_of t b u.others.entries) is
+
+-- each entry of a later slab to which the tree leads stood before, with the same home and bytes
+abbrev pub StayIn : Slab Entry → Slab Entry → Type 0
+StayIn slab later = (k : ℕ) (e : Entry) → get later k ≡ Some e → is_in e.in_tree ≡ true
+    → (d : Entry) × (get slab k ≡ Some d) × (is_in d.in_tree ≡ true) × (e.home ≡ d.home) × (e.bytes ≡ d.bytes)
+
+module _ (by_node : Bool) (slab later : Slab Entry) (stay : StayIn slab later) where
+  -- no more entries stand with a tree and bytes than before
+  stand_less : (t : ℕ) (b : List ℕ) (k : ℕ) → stands_under by_node later t b k ≡ true → stands_under by_node slab t b k ≡ true
+  stand_less t b k stands = go _ refl
+    where
+      go : (o : Option Entry) → get later k ≡ o → stands_under by_node slab t b k ≡ true
+      go None none = grind arith
+      go (Some e) is = grind (arith, stay k e is)
+
+  -- where the tree leads, in the slab before, to each entry that is in it later, it leads to these in the later slab
+  pub led_by : (u : UnstableTree)
+      → ((k : ℕ) (e : Entry) → get later k ≡ Some e → is_in e.in_tree ≡ true → holder by_node slab u (tree_by by_node e.home) e.bytes ≡ Some k)
+      → AreLed by_node later u
+  led_by u led k e is in_tree =
+      let before = led k e is in_tree in
+      let stood = holder_stands by_node slab u (tree_by by_node e.home) e.bytes before in
+      holder_less by_node slab u (tree_by by_node e.home) e.bytes before later (stand_less (tree_by by_node e.home) e.bytes)
+      (grind (arith, bytes_eq-Decides e.bytes e.bytes))
+
+  -- where the tree led to all entries that are in it, it does so later
+  pub led_still : (u : UnstableTree) → AreLed by_node slab u → AreLed by_node later u
+  led_still u led = led_by u (λ k e is in_tree. grind (arith, stay k e is in_tree, led k))
+
+-- entries stay in the tree where the slab has another capacity
+pub stay_room : (slab room : Slab Entry) → room ≡ record slab { capacity = room.capacity } → StayIn slab room
+stay_room slab room rest k f is in_tree = (f, (λ i. get (sym rest i) k) ∙ is, in_tree, refl, refl)
+
+-- two numbers are one, or differ
+pub same_or_apart : (m n : ℕ) → (m ≡ n) ⊎ (m ≢ n)
+same_or_apart m n = elim (cases_Bool (m == n)) [ inl same ↦ inl (grind (arith, nat_tests)) | inr other ↦ inr (differ_by other) ]
+
+module _ (slab later : Slab Entry) (key : ℕ) where
+  -- entries stay in the tree where one is written anew that is in it only as before
+  pub stay_written : {d e : Entry} → get slab key ≡ Some d → Fills slab later key (Some e) → StaysLed d e → StayIn slab later
+  stay_written {d} {e} stood fills stays k f is in_tree = elim (same_or_apart k key) [
+    | inl same ↦
+        let at = same_Some f e (sym is ∙ ap (get later) same ∙ fills.changed) in
+        let kept = stays (ap (λ (x : Entry). is_in x.in_tree) (sym at) ∙ in_tree) in (
+          d,
+          ap (get slab) same ∙ stood,
+          kept.0,
+          ap (λ (x : Entry). x.home) at ∙ kept.1,
+          ap (λ (x : Entry). x.bytes) at ∙ kept.2,
+        )
+    | inr apart ↦ (f, sym (fills.others k apart) ∙ is, in_tree, refl, refl)
+  ]
+
+  -- so do all others where one comes that is not in it
+  pub stay_put : {e : Entry} → Fills slab later key (Some e) → is_in e.in_tree ≡ false → StayIn slab later
+  stay_put {e} fills out k f is in_tree = elim (same_or_apart k key) [
+    | inl same ↦ absurd (grind (arith, fills.changed))
+    | inr apart ↦ (f, sym (fills.others k apart) ∙ is, in_tree, refl, refl)
+  ]
+
+  -- and where one goes
+  pub stay_gone : Fills slab later key None → StayIn slab later
+  stay_gone fills k f is in_tree = elim (same_or_apart k key) [
+    | inl same ↦ absurd (grind (arith, fills.changed))
+    | inr apart ↦ (f, sym (fills.others k apart) ∙ is, in_tree, refl, refl)
+  ]
+
+module _ (slab later : Slab Entry) (g : Entry → Entry) (slots : later.slots ≡ map (option_map g) slab.slots) where
+  each_mapped : (k : ℕ) → get later k ≡ option_map g (get slab k)
+  each_mapped k = ap (λ xs. get_or xs k None) slots ∙ get_or-map (option_map g) slab.slots k None
+
+  -- entries stay in the tree where each is changed but for its home, its bytes and the tree
+  pub stay_mapped : ((e : Entry) → (g e).in_tree ≡ e.in_tree) → ((e : Entry) → (g e).home ≡ e.home) → ((e : Entry) → (g e).bytes ≡ e.bytes)
+      → StayIn slab later
+  stay_mapped in_same home_same bytes_same k f is in_tree =
+      let at = mapped_some _ _ (sym (each_mapped k) ∙ is) in (
+        at.0,
+        at.1,
+        ap is_in (sym (in_same at.0)) ∙ ap (λ (x : Entry). is_in x.in_tree) at.2 ∙ in_tree,
+        ap (λ (x : Entry). x.home) (sym at.2) ∙ home_same at.0,
+        ap (λ (x : Entry). x.bytes) (sym at.2) ∙ bytes_same at.0,
+      )
+
+  -- once no entry is in the tree, it leads to all that are
+  pub none_led : ((e : Entry) → is_in (g e).in_tree ≡ false) → (by_node : Bool) (u : UnstableTree) → AreLed by_node later u
+  none_led out by_node u k f is in_tree =
+      let at = mapped_some _ _ (sym (each_mapped k) ∙ is) in
+      absurd (true≢false (sym in_tree ∙ ap (λ (x : Entry). is_in x.in_tree) (sym at.2) ∙ out at.0))
+
+module _ (by_node : Bool) (slab later : Slab Entry) (key : ℕ) (d e : Entry) (stood : get slab key ≡ Some d)
+    (fills : Fills slab later key (Some e)) (old new : UnstableTree) (led : AreLed by_node slab old) where
+  -- another entry than that under the key stood before
+  stood_before : {k : ℕ} {f : Entry} → get later k ≡ Some f → k ≢ key → get slab k ≡ Some f
+  stood_before is apart = sym (fills.others _ apart) ∙ is
+
+  -- where an entry came to be in the tree, and that leads to it, and to all others as before, it leads to all that are in it
+  pub led_entered : holder by_node slab old (tree_by by_node d.home) d.bytes ≡ None → e.home ≡ d.home → e.bytes ≡ d.bytes
+      → is_in e.in_tree ≡ true → nat_lt key GONE ≡ true
+      → Keeps by_node slab old new → LeadsTo slab old new (tree_by by_node d.home) d.bytes key
+      → AreLed by_node later new
+  led_entered none home bytes in_tree below keeps leads k f is in_f = elim (same_or_apart k key) [
+    | inl same ↦
+        let at = same_Some f e (sym is ∙ ap (get later) same ∙ fills.changed) in
+        let there = leads by_node later none fills.others
+        (grind (arith, fills.changed, home, bytes, in_tree, below, bytes_eq-Decides e.bytes d.bytes)) in
+        (λ i. holder by_node later new (tree_by by_node ((ap (λ (x : Entry). x.home) at ∙ home) i)) ((ap (λ (x : Entry). x.bytes) at ∙ bytes) i))
+        ∙ there ∙ ap Some (sym same)
+    | inr apart ↦
+        let was = led k f (stood_before is apart) in_f in
+        let kept = keeps (tree_by by_node f.home) f.bytes k was in
+        holder_less by_node slab new (tree_by by_node f.home) f.bytes kept later (less (tree_by by_node f.home) f.bytes k was)
+        (grind (arith, holder_stands by_node slab new (tree_by by_node f.home) f.bytes kept, fills.others k apart))
+  ]
+    where
+      less : (t : ℕ) (b : List ℕ) (l : ℕ) → holder by_node slab old t b ≡ Some l → (m : ℕ) → stands_under by_node later t b m ≡ true
+          → stands_under by_node slab t b m ≡ true
+      less t b l was m stands = elim (same_or_apart m key) [
+        | inl same ↦
+            let content : (tree_by by_node d.home ≡ t) × (d.bytes ≡ b) =
+            grind (arith, fills.changed, home, bytes, bytes_eq-Decides e.bytes b, nat_tests) in
+            absurd (none_some _ (sym none ∙ (λ i. holder by_node slab old (content.0 i) (content.1 i)) ∙ was))
+        | inr other ↦ grind (arith, fills.others m other)
+      ]
+
+-- where the tree leads to each entry to which it led, it leads to all that are in it
+pub led_kept : (by_node : Bool) (slab : Slab Entry) (old new : UnstableTree) → AreLed by_node slab old → Keeps by_node slab old new
+    → AreLed by_node slab new
+led_kept by_node slab old new led keeps k e is in_tree = keeps (tree_by by_node e.home) e.bytes k (led k e is in_tree)
+
+-- a row that comes to stand in the tree is in it
+pub led_by_group : (group : Option ℕ) → is_in (in_tree_by group) ≡ true
+led_by_group None = refl
+led_by_group (Some group) = refl
+
+-- an entry stands under a key where one stands there with a tree and bytes
+pub stands_some : (by_node : Bool) (slab : Slab Entry) (t : ℕ) (b : List ℕ) (key : ℕ) → stands_under by_node slab t b key ≡ true
+    → is_some (get slab key) ≡ true
+stands_some by_node slab t b key stands = go _ refl
+  where
+    go : (o : Option Entry) → get slab key ≡ o → is_some (get slab key) ≡ true
+    go None none = absurd (true≢false (sym stands ∙ grind (arith, none)))
+    go (Some e) is = ap is_some is
+
+-- ---------------------------------------------------------------- what the rows show
+
+module _ (slab : Slab Entry) (order : List Named) (rise : AreAscending order) (filed : AreFiled slab order) (pass : ℕ) where
+  -- a row that waits is in the tree
+  pub rows_led : All (λ h. waiting_state h.row.state ≡ true → is_in h.in_tree ≡ true) (held_in pass slab order)
+  rows_led = rows_all slab order rise filed pass (λ h. waiting_state h.row.state ≡ true → is_in h.in_tree ≡ true) (λ k e stands. grind arith)
+
+  module _ (by_node : Bool) (u : UnstableTree) (led : AreLed by_node slab u) where
+    abbrev seen : RowsView
+    seen = record { held = held_in pass slab order; pass = pass; by_node = by_node }
+
+    -- the tree leads to each entry with a tree and bytes from these
+    held_by_content : (t : ℕ) (b : List ℕ) (k : ℕ) (f : Entry) → get slab k ≡ Some f → has_content by_node t b (held_of pass f) ≡ true
+        → holder by_node slab u t b ≡ Some k
+    held_by_content t b k f stands has =
+        let content : (t ≡ tree_by by_node f.home) × (b ≡ f.bytes) = grind (arith, bytes_eq-Decides f.bytes b, nat_tests) in
+        (λ i. holder by_node slab u (content.0 i) (content.1 i)) ∙ led k f stands (grind arith)
+
+    -- the row found with a tree and bytes is of the page of each entry in the tree that has these
+    pub page_found : (t : ℕ) (b : List ℕ) (key : ℕ) (e : Entry) → get slab key ≡ Some e → has_content by_node t b (held_of pass e) ≡ true
+        → page_in_tree seen t b ≡ Some e.page
+    page_found t b key e stands has = go _ refl
+      where
+        same : All (λ h. has_content by_node t b h ≡ true → h.row.page ≡ e.page) (held_in pass slab order)
+        same = rows_all slab order rise filed pass (λ h. has_content by_node t b h ≡ true → h.row.page ≡ e.page) (λ k f there also.
+            let one = same_Some k key (sym (held_by_content t b k f there also) ∙ held_by_content t b key e stands has) in
+            ap (λ (x : Entry). x.page) (same_Some f e (sym there ∙ ap (get slab) one ∙ stands)))
+
+        go : (o : Option Held) → find (has_content by_node t b) (held_in pass slab order) ≡ o
+            → option_map (λ (h : Held). h.row.page) (find (has_content by_node t b) (held_in pass slab order)) ≡ Some e.page
+        go (Some h) is =
+            ap (option_map (λ (h : Held). h.row.page)) is
+            ∙ ap Some (find_all (has_content by_node t b) (λ h. has_content by_node t b h ≡ true → h.row.page ≡ e.page) (held_in pass slab order) h is same (find_passes (has_content by_node t b) (held_in pass slab order) h is))
+        go None is =
+            let here = held_found slab order rise filed pass e.page in
+            absurd (grind (
+              arith,
+              here,
+              named_under slab order filed key e stands,
+              find_none (has_content by_node t b) (held_in pass slab order) is,
+              find_all (holds e.page) (λ h. has_content by_node t b h ≡ false) (held_in pass slab order) (held_of pass e),
+            ))
+
+    -- each row in the tree is found by its tree and bytes
+    pub rows_found : AreInTree seen
+    rows_found =
+        rows_all slab order rise filed pass (λ h. is_in h.in_tree ≡ true → page_in_tree seen (tree_by by_node h.row.home) h.row.bytes ≡ Some h.row.page)
+        (λ k e stands in_tree. page_found _ _ k e stands (grind (arith, bytes_eq-Decides e.bytes e.bytes)))
+
+    -- where the tree leads to no entry from a tree and bytes, no row is found with these
+    pub none_found : (t : ℕ) (b : List ℕ) → holder by_node slab u t b ≡ None → find (has_content by_node t b) (held_in pass slab order) ≡ None
+    none_found t b none =
+        find_nothing _ _ (rows_all slab order rise filed pass (λ h. has_content by_node t b h ≡ false) (λ k e stands.
+        elim (cases_Bool (has_content by_node t b (held_of pass e))) [
+          | inl has ↦ absurd (none_some _ (sym none ∙ held_by_content t b k e stands has))
+          | inr not ↦ not
+        ]))
+
+    -- the tree leads to no entry from the tree and bytes of one that is not in it, where no other row has these
+    pub free_none : (key : ℕ) (e : Entry) → get slab key ≡ Some e → is_in e.in_tree ≡ false → IsFree seen e.page (held_of pass e)
+        → holder by_node slab u (tree_by by_node e.home) e.bytes ≡ None
+    free_none key e stands out free = go _ refl
+      where
+        go : (o : Option ℕ) → holder by_node slab u (tree_by by_node e.home) e.bytes ≡ o → o ≡ None
+        go None is = refl
+        go (Some k) is = absurd (at _ refl)
+          where
+            there : stands_under by_node slab (tree_by by_node e.home) e.bytes k ≡ true
+            there = holder_stands by_node slab u (tree_by by_node e.home) e.bytes is
+
+            at : (o : Option Entry) → get slab k ≡ o → ⊥
+            at None none = true≢false (sym there ∙ grind (arith, none))
+            at (Some f) stood = elim (cases_Bool (holds e.page (held_of pass f))) [
+              | inl same ↦
+                  let key_is = one_key slab order filed stood stands (same_page_eq f.page e.page same) in
+                  let it = same_Some f e (sym stood ∙ ap (get slab) key_is ∙ stands) in
+                  let in_tree : is_in f.in_tree ≡ true = grind (arith, there, stood) in
+                  true≢false (sym in_tree ∙ ap (λ (x : Entry). is_in x.in_tree) it ∙ out)
+              | inr other ↦
+                  let here : held_at f.page (held_in pass slab order) ≡ Some (held_of pass f) =
+                  grind (arith, held_found slab order rise filed pass f.page, named_under slab order filed k f stood) in
+                  let none = find_all (holds f.page)
+                  (λ g. holds e.page g ≡ false → has_content by_node (tree_by by_node e.home) e.bytes g ≡ false)
+                  (held_in pass slab order) (held_of pass f) here free other in
+                  true≢false (sym there ∙ grind (arith, stood, none))
+            ]

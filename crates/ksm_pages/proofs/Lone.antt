@@ -1,0 +1,69 @@
+-- Rows that are said to be alone: no dup has their content, once rows or dups changed.
+use Rattle.ksm_pages.proofs.Names.{All, All-append, All-cons, All-filter, All-map, AllPairs, ap₂, AreAlone, arith, beside, change_held, comes_before, cond_both, DupRow, false, filter, find_all}
+use Rattle.ksm_pages.proofs.Names.{get_or, GuestPage, Held, held_at, holds, in_group, InPageOrder, InTree, Knobs, length-map, List, map, out_of_tree, PageState, Row, rows_of, same_page_eq, shares, Some, subst, sym, tree_of, true, true≢false}
+use Rattle.ksm_pages.proofs.Names.{with_held, without_held, written, ℕ, ◌∙◌, ◌≡◌}
+use Rattle.std.proofs.Math.ListN.{get_or-map}
+use Rattle.ksm_pages.specs.Held.{is_alone}
+use Rattle.ksm_pages.proofs.Found.{each_found}
+
+-- no dup has the tree and bytes of a row, if it is said to be alone
+abbrev pub IsLone : Knobs → List DupRow → Held → Type 0
+IsLone knobs dups h = is_alone h.in_tree ≡ true → All (λ d. in_group (tree_of knobs h.row) h.row.bytes d ≡ false) dups
+
+-- a row that may have dups of its content is not said to be alone
+pub not_alone : (t : InTree) → is_alone (beside t) ≡ false
+not_alone t = grind arith
+
+-- a row that shares a frame is not said to be alone
+pub shared_lone : (knobs : Knobs) (dups : List DupRow) (state : PageState) (h : Held) → IsLone knobs dups (shares state h)
+shared_lone knobs dups state h is = absurd (true≢false (sym is ∙ not_alone h.in_tree))
+
+-- a row to which the tree does not lead is not said to be alone
+pub out_lone : (knobs : Knobs) (dups : List DupRow) (h : Held) → IsLone knobs dups (out_of_tree h)
+out_lone knobs dups h is = cc
+
+-- a row that gets bytes is not said to be alone
+pub written_lone : (knobs : Knobs) (dups : List DupRow) (bytes : List ℕ) (h : Held) → IsLone knobs dups (written bytes h)
+written_lone knobs dups bytes h is = cc
+
+-- what is kept of rows in order is in order
+pub held_rise : (held : List Held) → InPageOrder (rows_of held) → AllPairs (λ h g. comes_before h.row.page g.row.page ≡ true) held
+held_rise held rise i j d less lt =
+    let row : Held → Row = λ h. h.row in
+    ap₂ (λ (r s : Row). comes_before r.page s.page) (sym (get_or-map row held i d)) (sym (get_or-map row held j d))
+    ∙ rise i j d.row less (omega (arith, lt, length-map held row))
+
+-- of rows in order each is found at its page
+pub each_held : (held : List Held) → InPageOrder (rows_of held) → All (λ h. held_at h.row.page held ≡ Some h) held
+each_held held rise = each_found (λ (h : Held). h.row.page) held (held_rise held rise)
+
+module _ (knobs : Knobs) (dups : List DupRow) where
+  -- where a change leaves each row alone that it says to be so, all are
+  pub lone_mapped : (f : Held → Held) → ((h : Held) → IsLone knobs dups h → IsLone knobs dups (f h)) → (held : List Held)
+      → AreAlone knobs held dups → AreAlone knobs (map f held) dups
+  lone_mapped f keeps held are = All-map (IsLone knobs dups) f held (λ k d lt. keeps _ (are k d lt))
+
+  -- the same where the row of a page changes
+  pub lone_changed : (page : GuestPage) (f : Held → Held) (held : List Held) {h : Held} → InPageOrder (rows_of held)
+      → held_at page held ≡ Some h → (IsLone knobs dups h → IsLone knobs dups (f h)) → AreAlone knobs held dups
+      → AreAlone knobs (change_held page f held) dups
+  lone_changed page f held {h} rise found keeps are = All-map (IsLone knobs dups) _ held (λ k d lt.
+      let g = get_or held k d in
+      cond_both _ _ _ (IsLone knobs dups)
+      (λ at. subst (λ x. IsLone knobs dups (f x)) (it at (each_held held rise k d lt))
+      (keeps (find_all (holds page) (IsLone knobs dups) held h found are)))
+      (λ _. are k d lt))
+    where
+      it : {g : Held} → holds page g ≡ true → held_at g.row.page held ≡ Some g → h ≡ g
+      it {g} at there = grind (arith, same_page_eq g.row.page page at)
+
+  -- the same where the row of a page is gone
+  pub lone_without : (page : GuestPage) (held : List Held) → AreAlone knobs held dups → AreAlone knobs (without_held page held) dups
+  lone_without page held are = All-filter _ (IsLone knobs dups) held are
+
+  -- the same with one more
+  pub lone_with : (h : Held) (held : List Held) → IsLone knobs dups h → AreAlone knobs held dups → AreAlone knobs (with_held h held) dups
+  lone_with h held lone are =
+      All-append (IsLone knobs dups) (filter (λ g. comes_before g.row.page h.row.page) held) _
+      (All-filter _ (IsLone knobs dups) held are)
+      (All-cons (IsLone knobs dups) h _ lone (All-filter _ (IsLone knobs dups) held are))

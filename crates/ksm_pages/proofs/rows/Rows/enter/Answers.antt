@@ -1,0 +1,61 @@
+use Rattle.ksm_pages.proofs.Names.{ap, arith, Entry, held_at, held_of, IfSome, inr, is_some, Option, refl, rules, same_Some, subst, sym, Updates-with_value, with_value, ◌∙◌}
+use Rattle.ksm_pages.specs.Held.{Held, in_tree_by, IsFree, is_in, RowsView, waiting_in}
+use Rattle.ksm_pages.proofs.Led.{free_none, led_by_group}
+use Rattle.ksm_pages.proofs.Writing.{can_be, kept_mark, nothing, own_there, row_there, still, view_of, viewed, waits_now}
+use Rattle.ksm_pages.proofs.rows.Rows.enter.Goals as goal
+use Rattle.ksm_pages.proofs.rows.Rows.enter.Goals.{After-change}
+
+pub returns-in_default-clause-waits : goal.returns-in_default-clause-waits
+returns-in_default-clause-waits c = search (rules, nothing)
+
+pub state_alone-old-requires : goal.state_alone-old-requires
+state_alone-old-requires c = search (rules, own_there)
+
+pub change-requires : goal.change-requires
+change-requires c = search (rules, can_be c.self.inside c.self.invariant.0 c.in-Some.ensures.there)
+
+pub lead_to-requires-clause-free : goal.lead_to-requires-clause-free
+lead_to-requires-clause-free c d stood out =
+    let s = c.self.inside in
+    let are = c.self.invariant.0 in
+    let under = c.in-Some.ensures.there in
+    let there = row_there s are under stood in
+    let page_is = ap (λ (x : Entry). x.page) (same_Some d under.entry (sym stood ∙ under.stands)) ∙ under.of_page in
+    let free = subst (λ (v : RowsView). IfSome (held_at c.args.spot.page v.held) (λ h. IsFree v c.args.spot.page h)) (sym c.self.view_is)
+    c.requires.free in
+    let here = subst (λ (o : Option Held). IfSome o (λ h. IsFree (view_of s) c.args.spot.page h)) there free in
+    free_none s.entries s.order are.ascending are.filed s.pass s.by_node s.unstable c.self.invariant.1 c.in-Some.key d stood out
+    (subst (λ p. IsFree (view_of s) p (held_of s.pass d)) (sym page_is) here)
+
+-- the entry, which waits
+abbrev later : After-change → Entry
+later c = record c.index_mut-entry.result.now {
+  number = c.self.inside.pass;
+  in_tree = c.in_tree_by-entry.result;
+  group = c.unwrap_or-entry.result;
+}
+
+pub invariant_of-self-2 : goal.invariant_of-self-2
+invariant_of-self-2 c =
+    let s = c.self.inside in
+    let there = c.in-Some.ensures.there in
+    let stood = c.index_mut-entry.ensures.value in
+    let own = own_there s c.self.invariant.0 there stood c.self.view_is c.requires.own in
+    let led = ap is_in c.in_tree_by-entry.ensures ∙ led_by_group c.args.group in (
+      still s c.self.invariant.0 there stood c.self.view_is (later c) (kept_mark s c.self.invariant.0 there stood _ refl)
+          (refl, λ _ own. grind arith) c.state_alone-old.ensures (sym (waits_now s.pass (later c) own refl led)) c.change.ensures
+          (inr (refl, λ may. may)),
+      c.in_ok-lead_to.ensures.leads c.index_mut-entry.result.now (later c) (with_value s.entries c.in-Some.key (later c)) stood
+          (Updates-with_value _ _ _ (ap is_some stood)) refl refl led,
+    )
+
+pub returns-clause-waits : goal.returns-clause-waits
+returns-clause-waits c =
+    let s = c.self.inside in
+    let there = c.in-Some.ensures.there in
+    let stood = c.index_mut-entry.ensures.value in
+    let own = own_there s c.self.invariant.0 there stood c.self.view_is c.requires.own in
+    let led = ap is_in c.in_tree_by-entry.ensures ∙ led_by_group c.args.group in
+    viewed s c.self.invariant.0 there stood c.self.view_is (later c) (kept_mark s c.self.invariant.0 there stood _ refl)
+    (refl, λ _ own. grind arith) (waiting_in (in_tree_by c.args.group))
+    (λ _. grind (arith, waits_now s.pass (later c) own refl led, c.in_tree_by-entry.ensures))

@@ -1,0 +1,46 @@
+use Rattle.ksm_pages.proofs.Names.{ap, arith, Entry, false, nat_tests, None, same_Some, subst, sym, true, ◌∙◌, ◌≡◌}
+use Rattle.std.proofs.lemmas.Result.{on_ok_weaker}
+use Rattle.ksm_pages.specs.Held.{is_in, tree_by}
+use Rattle.ksm_pages.specs.Unstable.{holder, Keeps, LeadsTo}
+use Rattle.ksm_pages.proofs.Led.{led_entered, led_kept, led_still, stay_written}
+use Rattle.ksm_pages.proofs.rows.lead_to.Goals as goal
+use Rattle.ksm_pages.proofs.rows.lead_to.Goals.{After-lead}
+
+pub returns-then-is_in-clause-leads : goal.returns-then-is_in-clause-leads
+returns-then-is_in-clause-leads c d e later stood fills home bytes in_tree =
+    let was : is_in d.in_tree ≡ true = grind (arith, stood, c.index-entry.ensures, c.is_in.ensures, c.if-is_in.true) in
+    led_still c.args.by_node c.args.entries.now later (stay_written c.args.entries.now later c.args.key stood fills (λ _. (was, home, bytes)))
+    c.args.unstable.now c.requires.led
+
+-- the entry is not in the tree
+out : (c : After-lead) → is_in c.index-entry.result.now.in_tree ≡ false
+out c = grind (arith, c.is_in.ensures, c.if-is_in.false)
+
+-- the key fits the number that the tree has
+number_is : (c : After-lead) → c.unwrap_or-number.result ≡ c.args.key
+number_is c = grind (arith, nat_tests, c.try_from.ensures, c.unwrap_or-number.ensures, c.if-number-ge-GONE.false)
+
+-- the tree led to no row from the entry's content
+none : (c : After-lead) → holder c.args.by_node c.args.entries.now c.args.unstable.now (tree_by c.args.by_node c.index-entry.result.now.home)
+    c.index-entry.result.now.bytes ≡ None
+none c = c.requires.free c.index-entry.result.now c.index-entry.ensures (out c)
+
+kept : (c : After-lead) → Keeps c.args.by_node c.args.entries.now c.args.unstable.now c.lead.new.self
+kept c = c.lead.ensures.kept c.args.by_node
+    (ap (λ t. holder c.args.by_node c.args.entries.now c.args.unstable.now t c.index-entry.result.now.bytes) c.tree_by-tree.ensures ∙ none c)
+
+pub returns-clause-leads : goal.returns-clause-leads
+returns-clause-leads c =
+    on_ok_weaker c.lead.result (λ leads d e later stood fills home bytes in_tree.
+    let it = same_Some c.index-entry.result.now d (sym c.index-entry.ensures ∙ stood) in
+    let gone : is_in d.in_tree ≡ false = subst (λ (x : Entry). is_in x.in_tree ≡ false) it (out c) in
+    let leads_to = subst (λ (x : Entry). LeadsTo c.args.entries.now c.args.unstable.now c.lead.new.self (tree_by c.args.by_node x.home) x.bytes c.args.key) it
+    (subst (λ n. LeadsTo c.args.entries.now c.args.unstable.now c.lead.new.self (tree_by c.args.by_node c.index-entry.result.now.home) c.index-entry.result.now.bytes n) (number_is c)
+    (subst (λ t. LeadsTo c.args.entries.now c.args.unstable.now c.lead.new.self t c.index-entry.result.now.bytes c.unwrap_or-number.result) c.tree_by-tree.ensures leads)) in
+    led_entered c.args.by_node c.args.entries.now later c.args.key d e stood fills c.args.unstable.now c.lead.new.self c.requires.led
+    (c.requires.free d stood gone) home bytes in_tree
+    (grind (arith, nat_tests, number_is c, c.if-number-ge-GONE.false)) (kept c) leads_to) c.lead.ensures.leads
+
+pub returns-clause-kept : goal.returns-clause-kept
+returns-clause-kept c =
+    led_kept c.args.by_node c.args.entries.now c.args.unstable.now c.lead.new.self c.requires.led (kept c)

@@ -1,0 +1,7 @@
+use Rattle.std.proofs.Common.{◌≡◌, drop}
+use Rattle.ksm_pages.specs.Unstable.{digest}
+use Rattle.ksm_pages.proofs.unstable.place_of.Given as goal
+
+-- the number so far becomes, by the words that are left, that of all words
+abbrev pub invariant-loop-word : goal.invariant-loop-word
+invariant-loop-word l = digest l.digest (drop l.word-index l.bytes) ≡ digest l.tree l.fn.bytes

@@ -1,0 +1,95 @@
+-- The unstable tree: to which row it leads from a tree and bytes (mm/ksm; how it is kept is own).
+use Rattle.std.specs.Prelude.{◌≡◌, ◌≢◌, ℕ, ◌+◌, ◌*◌, ◌/◌, ◌%◌, ◌^◌, Bool, true, false, length, nat_lt, slice_get, ◌&&◌, ◌==◌, bytes_eq, List, [], ◌∷◌, find, Option, None, Some, if◌then◌else◌}
+use Rattle.std.specs.List.{list_any}
+use Rattle.slab.specs.Slab.{Slab, Updates, get}
+use Rattle.ksm_tree.specs.Numbered.{number_of}
+use Rattle.ksm_pages.specs.declared.row.Entry.{Entry}
+use Rattle.ksm_pages.specs.declared.unstable.TheConstants.{GONE, NO_KEY, SPREAD}
+use Rattle.ksm_pages.specs.declared.unstable.UnstableTree.{UnstableTree}
+use Rattle.ksm_pages.specs.Held.{is_in, tree_by}
+
+-- a number of 64 bits with its halves in each other's place
+abbrev pub turned : ℕ → ℕ
+turned number = (number * 2 ^ 32 % 2 ^ 64 + number / 2 ^ 32) % 2 ^ 64
+
+-- a number that hangs on a tree and on each word
+abbrev pub digest : ℕ → List ℕ → ℕ
+digest tree [] = tree
+digest tree (word ∷ bytes) = digest ((turned tree + word) % 2 ^ 64 * SPREAD % 2 ^ 64) bytes
+
+-- the number of the place of a tree and bytes, in a table of so many
+abbrev pub place : ℕ → ℕ → List ℕ → ℕ
+place places tree bytes = turned (digest tree bytes) * SPREAD % 2 ^ 64 / 2 ^ 32 * places % 2 ^ 64 / 2 ^ 32
+
+-- the keys that stand in that place, if there is one
+abbrev pub keys_at : UnstableTree → ℕ → List ℕ → Option (List ℕ)
+keys_at u tree bytes = slice_get u.places.items (place (length u.places.items) tree bytes)
+
+-- whether there is an entry, and it is said that the tree leads to it
+abbrev pub is_in_tree : Option Entry → Bool
+is_in_tree None = false
+is_in_tree (Some e) = is_in e.in_tree
+
+-- whether the entry under a key is such a one
+abbrev pub is_led : Slab Entry → ℕ → Bool
+is_led slab key = nat_lt key GONE && is_in_tree (get slab key)
+
+-- whether there is an entry to which the tree leads, with a tree and bytes
+abbrev pub stands_as : Bool → ℕ → List ℕ → Option Entry → Bool
+stands_as by_node tree bytes None = false
+stands_as by_node tree bytes (Some e) = is_in e.in_tree && (tree_by by_node e.home == tree && bytes_eq e.bytes bytes)
+
+-- whether such an entry is under a key
+abbrev pub stands_under : Bool → Slab Entry → ℕ → List ℕ → ℕ → Bool
+stands_under by_node slab tree bytes key = nat_lt key GONE && stands_as by_node tree bytes (get slab key)
+
+-- a key, if such an entry is under it
+abbrev pub if_stands : Bool → Slab Entry → ℕ → List ℕ → Option ℕ → Option ℕ
+if_stands by_node slab tree bytes None = None
+if_stands by_node slab tree bytes (Some key) = if stands_under by_node slab tree bytes key then Some key else None
+
+-- the key of the row, where it does not stand in its place
+abbrev pub other_holder : Bool → Slab Entry → UnstableTree → ℕ → List ℕ → Option ℕ
+other_holder by_node slab u tree bytes = if_stands by_node slab tree bytes (number_of tree bytes u.others.entries)
+
+-- the key that was found in a place, or else the other one, unless a key of the place was never taken
+abbrev pub found_or : Option ℕ → List ℕ → Option ℕ → Option ℕ
+found_or (Some key) keys other = Some key
+found_or None keys other = if list_any (λ k. k == NO_KEY) keys then None else other
+
+-- the key that stands in a place with a tree and bytes, or else the other one
+abbrev pub in_place : Bool → Slab Entry → ℕ → List ℕ → Option (List ℕ) → Option ℕ → Option ℕ
+in_place by_node slab tree bytes None other = other
+in_place by_node slab tree bytes (Some keys) other =
+    found_or (find (stands_under by_node slab tree bytes) keys) keys other
+
+-- the key of the row to which the tree leads from a tree and bytes
+abbrev pub holder : Bool → Slab Entry → UnstableTree → ℕ → List ℕ → Option ℕ
+holder by_node slab u tree bytes =
+    in_place by_node slab tree bytes (keys_at u tree bytes) (other_holder by_node slab u tree bytes)
+
+-- each entry to which the tree is said to lead is found there
+abbrev pub AreLed : Bool → Slab Entry → UnstableTree → Type 0
+AreLed by_node slab u = (key : ℕ) (e : Entry) → get slab key ≡ Some e → is_in e.in_tree ≡ true
+    → holder by_node slab u (tree_by by_node e.home) e.bytes ≡ Some key
+
+-- the tree leads to each entry to which it led
+abbrev pub Keeps : Bool → Slab Entry → UnstableTree → UnstableTree → Type 0
+Keeps by_node slab old new =
+    (t : ℕ) (b : List ℕ) (key : ℕ) → holder by_node slab old t b ≡ Some key → holder by_node slab new t b ≡ Some key
+
+-- once the entry under a key has a tree and bytes, from which the tree led to none, the tree leads to it
+abbrev pub LeadsTo : Slab Entry → UnstableTree → UnstableTree → ℕ → List ℕ → ℕ → Type 0
+LeadsTo slab old new tree bytes key = (by_node : Bool) (later : Slab Entry) → holder by_node slab old tree bytes ≡ None
+    → ((k : ℕ) → k ≢ key → get later k ≡ get slab k) → stands_under by_node later tree bytes key ≡ true
+    → holder by_node later new tree bytes ≡ Some key
+
+-- the tree leads to no entry from the tree and bytes of the one under a key, if that is not in the tree
+abbrev pub IsFreeAt : Bool → Slab Entry → UnstableTree → ℕ → Type 0
+IsFreeAt by_node slab u key = (d : Entry) → get slab key ≡ Some d → is_in d.in_tree ≡ false
+    → holder by_node slab u (tree_by by_node d.home) d.bytes ≡ None
+
+-- once the entry under a key is in the tree, with its home and its bytes, the tree leads to all that are in it
+abbrev pub LeadsAt : Bool → Slab Entry → UnstableTree → ℕ → Type 0
+LeadsAt by_node slab u key = (d e : Entry) (later : Slab Entry) → get slab key ≡ Some d → Updates slab later key (Some e)
+    → e.home ≡ d.home → e.bytes ≡ d.bytes → is_in e.in_tree ≡ true → AreLed by_node later u
