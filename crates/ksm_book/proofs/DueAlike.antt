@@ -186,19 +186,12 @@ module _ (b : BookState) (r : Row) where
       own_alike (λ x. record x { unchanged = true; state = Private }) (λ x. refl) (λ x. refl),
     )
 
-    deed_alike : (frame : Frames) → row_visiting covered frame (settled r) ≡ row_visiting b frame r
-    deed_alike frame = grind (
-      arith,
-      best_kept is_on b r,
-      partner_alike,
-      dup_frame_kept is_on b frame,
-      place_kept is_on b,
-    )
-
     -- its visit does the same where the rows from it on are veiled; after it its own is not
     visit_alike : (deed : Deed) → visited doing (covered, deed) (Some (settled r))
         ≡ (veiled (comes_before r.page) (visited doing (b, deed) (Some r)).0, (visited doing (b, deed) (Some r)).1)
-    visit_alike deed = grind (arith, best_kept is_on b r, handled_alike, deed_alike)
+    visit_alike deed =
+        let frames = dup_frame_kept is_on b deed.frame in
+        grind (arith, best_kept is_on b r, handled_alike, partner_alike, frames, place_kept is_on b)
 
 -- ---------------------------------------------------------------- a row takes over
 

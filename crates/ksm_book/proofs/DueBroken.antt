@@ -5,7 +5,7 @@ use Rattle.ksm_book.proofs.Names.{count_without_page, Drop, dup_of_item, DupRow,
 use Rattle.ksm_book.proofs.Names.{IsSound, item_count, List, MatchOption, merged_into, merged_state, nat_tests, None, Ok, Option, partner, refl, Register, Row, row_at, same_page, same_page_refl}
 use Rattle.ksm_book.proofs.Names.{same_page_sym, shared_state, Some, stored, sym, tree_of, true, waiting_state, waits_for, waits_on, with_row, without_page, ℕ, ◌&&◌, ◌==◌, ◌||◌, ◌≡◌}
 use Rattle.ksm_book.proofs.DueKept.{count_kept, more_due, on_still, WaitsElse, own_due}
-use Rattle.ksm_pages.specs.Paged.{IsKnown, page_beside}
+use Rattle.ksm_pages.specs.Paged.{page_beside}
 use Rattle.ksm_book.specs.Due.{names}
 use Rattle.ksm_book.proofs.ByPage.{found_page, row_of_page}
 use Rattle.ksm_book.proofs.DueAlike.{one_waits}
@@ -116,10 +116,6 @@ module _ (b : BookState) (page : GuestPage) (old new : List GuestPage)
       grind (arith, none i x lt_x, count_with_row (λ s. merged_into number s.state) fresh b.rows absent))
       (added_due k d lt restless out))
 
--- a page that has a row has one
-pub known_row : (rows : List Row) (page : GuestPage) → IsKnown page rows → (row : Row) × (row_at page rows ≡ Some row)
-known_row rows page known = grind arith
-
 -- ---------------------------------------------------------------- a command that is answered with a reply
 
 -- where a page was to be registered, what is due is so after it
@@ -136,14 +132,14 @@ pub gone_due : (v w : BookView) (page : GuestPage) (answer : Answer) (pages : Li
     → ((row : Row) → row_at page v.state.rows ≡ Some row → AreDue (record v.state { rows = without_page page v.state.rows }) pages)
     → AreDue w.state pages
 gone_due v w page (Ok reply) pages carried kept gone =
-    let at = known_row v.state.rows page (grind arith) in
+    let at : (row : Row) × (row_at page v.state.rows ≡ Some row) = grind arith in
     rw carried.state (gone at.0 at.1)
 gone_due v w page (Err fault) pages carried kept gone = rw carried.state kept
 
 -- ---------------------------------------------------------------- a page with a frame of its own is stored to
 
 -- where the page is due, if its row waits, what is due stays so
-stored_due : (b : BookState) (page : GuestPage) (bytes : List ℕ) (pages : List GuestPage) → InPageOrder b.rows
+pub stored_due : (b : BookState) (page : GuestPage) (bytes : List ℕ) (pages : List GuestPage) → InPageOrder b.rows
     → IsAlone page b.rows
     → AreDue b pages → MatchOption (row_at page b.rows) (true ≡ false)
     (λ r. waiting_state r.state ≡ true → has_item page pages ≡ true)
@@ -153,18 +149,3 @@ stored_due b page bytes pages rise alone was waits =
     let on = find_all (λ r. same_page r.page page) (WaitsElse b pages) b.rows own.0 own.1 was in
     own_due b page (stored bytes) own.0 rise own.1 (own_not_merged _ own.2, refl) pages pages
     (λ restless out. grind (arith, on, found_page page b.rows own.0 own.1, own, waits)) (λ p _ is. is) was
-
--- where the page does not wait, what is due stays so
-pub stored_calm : (b : BookState) (page : GuestPage) (pages : List GuestPage) (waits : Bool) → InPageOrder b.rows → IsAlone page b.rows
-    → AreDue b pages → MatchOption (row_at page b.rows) (waits ≡ false) (λ r. waits ≡ waiting_state r.state) → waits ≡ false
-    → (bytes : List ℕ) → AreDue (record b { rows = change_row page (stored bytes) b.rows }) pages
-stored_calm b page pages waits rise alone was told none bytes =
-    stored_due b page bytes pages rise alone was (grind arith)
-
--- where the page is due beside what was, that is so once bytes are stored to it
-pub stored_added : (b : BookState) (page : GuestPage) (old new : List GuestPage) → InPageOrder b.rows → IsAlone page b.rows
-    → AreDue b old → ((p : GuestPage) → has_item p new ≡ (same_page page p || has_item p old))
-    → (bytes : List ℕ) → AreDue (record b { rows = change_row page (stored bytes) b.rows }) new
-stored_added b page old new rise alone was added bytes =
-    stored_due b page bytes new rise alone (more_due b old new (λ p is. grind arith) was)
-    (grind (arith, same_page_refl))

@@ -1,14 +1,14 @@
 -- The visit of a page that is due, by what was found of it: it takes over from none, but where a row further on waits
 -- for it; and which pages are due then.
-use Rattle.ksm_book.proofs.Names.{apart, AreDue, arith, best_dup, BookState, BookValue, BookView, Bool, Comes, comes_before, did, doing, due_visited, Dup, false, Find, find_passes, FindsAt}
-use Rattle.ksm_book.proofs.Names.{GuestPage, has_item, InPageOrder, is_restless, IsDueNoMore, KeeperView, List, None, not_both, one_before, Option, page, PagesView, Partner, partner, refl}
-use Rattle.ksm_book.proofs.Names.{restless_at, Row, row_at, row_visited, Some, state_of, subst, sym, takes_over, TakesOver, true, true≢false, view_of, VisitsPage, waits_for, waits_tells}
-use Rattle.ksm_book.proofs.Names.{Zero, ℕ, ◌∷◌, ◌≡◌}
+use Rattle.ksm_book.proofs.Names.{ap, AreDue, arith, best_dup, BookState, BookValue, BookView, Bool, Comes, comes_before, doing, due_visited, Dup, false, Find, find_passes, FindsAt}
+use Rattle.ksm_book.proofs.Names.{GuestPage, has_item, is_restless, IsDueNoMore, KeeperView, List, None, not_both, one_before, Option, page, PagesView, Partner, partner, refl}
+use Rattle.ksm_book.proofs.Names.{restless_at, Row, row_visited, state_of, subst, sym, takes_over, TakesOver, true, true≢false, view_of, VisitsPage, waits_for, waits_tells}
+use Rattle.ksm_book.proofs.Names.{IsLaid, IsSound, ℕ, ◌∙◌, ◌∷◌, ◌≡◌}
 use Rattle.ksm_base.specs.declared.row.PageState.TheVariants.{Private}
 use Rattle.ksm_pages.specs.Paged.{Finds}
 use Rattle.ksm_book.proofs.DueKept.{own_due, row_undue}
 use Rattle.ksm_book.proofs.DueAlike.{at_own_page}
-use Rattle.ksm_book.proofs.PageVisits.{shared_comes}
+use Rattle.ksm_book.proofs.PageVisits.{finds_it, shared_comes}
 use Rattle.ksm_book.proofs.RowVisits.{filled_by, Meets, page_is, restless_own, there_is}
 use Rattle.ksm_book.proofs.Singles.{book}
 use Rattle.ksm_pages.proofs.Joined.{own_not_merged}
@@ -31,12 +31,16 @@ pub waits_due : {p q : PagesView} {k : KeeperView} {cursor : Option GuestPage} {
 waits_due {q = q} {cursor = cursor} {passes} at = visited_undue at at.so.0 (λ _. at.so.2) (state_of q cursor passes) (grind (arith, at.so))
 
 -- a page found gone is not due
-pub gone_due : (p q : PagesView) (cursor : Option GuestPage) (passes : ℕ) (page : GuestPage) → InPageOrder p.rows
-    → Finds p q page finds.Gone → IsDueNoMore page (state_of p cursor passes) (state_of q cursor passes)
-gone_due p q cursor passes page rise is =
+pub gone_due : {p : PagesView} {k : KeeperView} {cursor : Option GuestPage} {passes : ℕ} {v : BookView} (q : PagesView)
+    (gone : GuestPage)
+    → IsSound (state_of p cursor passes) × IsLaid p k → book p k cursor passes ≡ v → Finds p q gone finds.Gone
+    → IsDueNoMore gone v.state (state_of q cursor passes)
+gone_due {p} {cursor = cursor} {passes} q gone lawful told is =
     let same : q ≡ p = grind arith in
-    let calm : restless_at page p.rows ≡ false = grind arith in
-    rw same (λ pages was k d lt restless out. was k d lt restless (grind (arith, at_own_page page p.rows rise k d lt)))
+    let calm : restless_at gone p.rows ≡ false = grind arith in
+    let rests : IsDueNoMore gone (state_of p cursor passes) (state_of q cursor passes) =
+    rw same (λ pages was k d lt restless out. was k d lt restless (grind (arith, at_own_page gone p.rows lawful.0.rows_rise k d lt))) in
+    subst (λ (x : BookView). IsDueNoMore gone x.state (state_of q cursor passes)) told rests
 
 -- ---------------------------------------------------------------- a page that shares a frame from now on
 
@@ -58,21 +62,21 @@ shared_by _ p q cursor passes row is so = absurd (true≢false (sym is))
 
 module _ (f : Find) (q : PagesView) {p : PagesView} {k : KeeperView} {cursor : Option GuestPage} {passes : ℕ}
     (v w : BookValue)
-    {page : GuestPage} (is : shares page f ≡ true)
-    (at : Meets (λ _ r. FindsAt p q r f) p k cursor passes (view_of v) page)
+    (page : GuestPage) (is : shares page f ≡ true) (lawful : IsSound (state_of p cursor passes) × IsLaid p k)
+    (told : book p k cursor passes ≡ view_of v) (found : Finds p q page f)
     (did : VisitsPage (book q k cursor passes) (view_of w) page) where
+  at : Meets (λ _ r. FindsAt p q r f) p k cursor passes (view_of v) page
+  at = finds_it f (λ gone. true≢false (sym is ∙ ap (shares page) gone)) lawful told q page refl found
+
   by : (is_restless at.row ≡ true) × (q ≡ p) × (takes_over (state_of p cursor passes) at.row ≡ false)
       × (best_dup p.knobs p.rows p.dups at.row ≡ None → at.row.unchanged ≡ true)
   by = shared_by f p q cursor passes at.row (rw (page_is at) is) at.so
 
-  none : (r : Row) → row_at page v.state.rows ≡ Some r → takes_over v.state r ≡ false
-  none = grind (arith, by)
-
   -- where the row was visited in the book as it was, that is the visit of what is due, and the page is due no longer
   pub shared_due : Comes v w (λ s. due_visited doing s page) × IsDueNoMore page v.state w.state
   shared_due = (
-    λ from s before. grind (arith, none, shared_comes v w at by.0 q by.1 did from s before),
-    visited_undue at by.0 by.3 w.state (grind arith),
+    λ from s before. grind (arith, by, at.found, at.is, shared_comes v w at by.0 q by.1 did from s before),
+    visited_undue at by.0 by.3 w.state (grind (arith, by, at.found, at.is)),
   )
 
 -- ---------------------------------------------------------------- by what was found
@@ -105,9 +109,3 @@ module _ {p q : PagesView} {k : KeeperView} {cursor : Option GuestPage} {passes 
       (there_is at) (own_not_merged _ (restless_own at.row at.so.0), refl) due due (grind (arith, page_is at))
       (λ g _ is. is)
       (grind (arith, at.is)))
-
--- what was found of a page where the search changed nothing
-abbrev pub is_still : Find → Bool
-is_still finds.Changed = false
-is_still finds.Waits = false
-is_still _ = true

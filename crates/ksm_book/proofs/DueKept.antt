@@ -174,9 +174,6 @@ module _ (b : BookState) (sound : IsSound b) (row : Row) (found : row_at row.pag
         of_page : Row → Bool
         of_page r = same_page r.page row.page
 
-        joins_it : may_join b.knobs b.rows row dup ≡ true
-        joins_it = grind (arith, find_passes)
-
         same_number : (e : DupRow) → (e.number == dup.number) ≡ true → item_count b.rows e ≡ item_count b.rows dup
         same_number e same = ap (λ n. count_by (λ r. merged_into n r.state) b.rows) (eqb-true _ _ same)
 
@@ -184,7 +181,7 @@ module _ (b : BookState) (sound : IsSound b) (row : Row) (found : row_at row.pag
             → may_join b.knobs (change_rows of_page (merge dup.number) b.rows) r e ≡ false
         each r e none = grind (
           arith,
-          joins_it,
+          find_passes,
           same_number e,
           other_count of_page dup.number (λ k d lt same. rw (only k d lt same) unmerged) e,
         )

@@ -1,5 +1,5 @@
 -- A pass over what is due comes to what the pass of the definitions comes to.
-use Rattle.ksm_book.proofs.Names.{after_cursor, All, AllPairs-filter, ap, AreAscending, AreDue, arith, BookState, BookValue, Bool, Comes, comes_before, Deed, doing, due_visited, due_visits}
+use Rattle.ksm_book.proofs.Names.{after_cursor, All, AllPairs-filter, ap, AreAscending, AreDue, arith, BookState, BookValue, Bool, comes_before, Deed, doing, due_visited, due_visits}
 use Rattle.ksm_book.proofs.Names.{false, GuestPage, has_item, hidden_from, if◌then◌else◌, is_none, IsSound, IsStill, List, mergeable_pages, None, not, Option, page, pages_ahead}
 use Rattle.ksm_book.proofs.Names.{pages_visited, part_before, part_visited, pass_begun, Reached, ReachedBefore, refl, restless_at, Some, StaysBefore, StopsInPart, subst, sym, true}
 use Rattle.ksm_book.proofs.Names.{true≢false, view_of, with_none_waiting, [], ◌&&◌, ◌∙◌, ◌≡◌}
@@ -26,18 +26,11 @@ visits_due = record {
 -- a walk has reached a book in which some pages are due
 module _ {old mid : BookValue} {last : Option GuestPage} (due : List GuestPage)
     (w : IsWalking (due_visited doing) None old mid last) (are : AreDue mid.state due) where
-  -- where none of them is behind the page reached, visits of pages behind it do nothing
-  pub rests_behind : All (λ p. after_cursor last p ≡ false) due → (q : GuestPage) → after_cursor last q ≡ true
-      → up_to None q ≡ true → Rests (due_visited doing) mid.state q
-  rests_behind none q after inside = undue_rests mid.state due w.sound are q
-      (grind (arith, all_has (λ p. after_cursor last p ≡ false) due none q))
-
-  module _ (page : GuestPage) (first : FindsFirst last due (Some page)) where
-    -- nor do those of pages before the first of them
-    pub rests_between : (q : GuestPage) → after_cursor last q ≡ true → comes_before q page ≡ true
-        → Rests (due_visited doing) mid.state q
-    rests_between q after low = undue_rests mid.state due w.sound are q
-        (grind (arith, all_has (λ p. after_cursor last p ≡ true → comes_before p page ≡ false) due first.2 q))
+  -- where none of them behind the page reached passes a test, visits of pages there that pass it do nothing
+  pub rests_due : (test : GuestPage → Bool) → All (λ p. after_cursor last p ≡ true → test p ≡ false) due → (q : GuestPage)
+      → after_cursor last q ≡ true → test q ≡ true → Rests (due_visited doing) mid.state q
+  rests_due test none q after passes = undue_rests mid.state due w.sound are q
+      (grind (arith, all_has (λ p. after_cursor last p ≡ true → test p ≡ false) due none q))
 
 -- ---------------------------------------------------------------- the visits of the definitions
 
@@ -62,8 +55,8 @@ module _ (b : BookState) (deed : Deed) (sound : IsSound b) (start : b.cursor ≡
       ∙ along e up pages None (b, deed) sound
       (record { rise = rise; are = λ q. grind (arith, are q, mergeable); behind = λ q is. refl })
 
-  -- the visits of all pages
-  whole_part : due_visits doing (b, deed) (ahead_up_to None b) ≡ part_visited None (b, deed)
+  -- the visits of all pages that are due are those of the whole pass
+  pub whole_part : due_visits doing (b, deed) (ahead_up_to None b) ≡ part_visited None (b, deed)
   whole_part =
       let pages = ahead_up_to None b in
       grind (
@@ -87,10 +80,6 @@ module _ (b : BookState) (deed : Deed) (sound : IsSound b) (start : b.cursor ≡
 
 -- a pass begins at a book
 module _ (old : BookValue) (sound : IsSound old.state) (start : old.state.cursor ≡ None) where
-  -- where all that is due was visited, the whole pass was made
-  pub whole_comes : (new : BookValue) → Comes old new (λ s. due_visits doing s (ahead_up_to None s.0)) → Comes old new (part_visited None)
-  whole_comes new = comes_as new (agrees old (λ _ deed _. whole_part old.state deed sound start))
-
   -- where nothing is due, the whole pass changes nothing but which rows wait
   pub whole_still : AreDue old.state [] → StaysStill old (part_visited None)
   whole_still are from s before =
@@ -106,9 +95,9 @@ pub part_stops : {old mid : BookValue} (next new : BookValue) {last : Option Gue
     → view_of new ≡ record (view_of next) { state = hidden_from page next.state } → StopsInPart old new None page
 part_stops {old} next new due w are page first start stays restless hides = record {
   within = refl;
-  ahead = is_ahead visits_due w page first.1 (rests_between due w are page first) restless;
+  ahead = is_ahead visits_due w page first.1 (rests_due due w are (λ q. comes_before q page) first.2) restless;
   comes = comes_as new (agrees old (λ _ deed _. before_part old.state deed w.began start page)) (λ from s before.
-      let there = subst (ReachedBefore page from next) ((before_it visits_due w page first.1 (rests_between due w are page first)).same from s before)
+      let there = subst (ReachedBefore page from next) ((before_it visits_due w page first.1 (rests_due due w are (λ q. comes_before q page) first.2)).same from s before)
       (stays from _ (w.comes from s before)) in
       subst (λ (b : BookState). Reached from new (b, (due_visits doing s (ahead_before page s.0)).1)) there.0
       (changed_comes next new (hidden_from page) hides from (next.state, (due_visits doing s (ahead_before page s.0)).1) (refl, there.1)));

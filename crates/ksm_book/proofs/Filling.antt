@@ -1,7 +1,7 @@
 -- Frames written, read, found and filled, and a dup's place that comes to name another frame.
 use Rattle.ksm_book.proofs.Names.{Add, added, ap, arith, blank, did, Dying, Finds, frame_at, frames_of, Free, get_or-set_other, get_or-set_same, HasNewFrame, holding, IsLawful, KeeperView, Keeps}
 use Rattle.ksm_book.proofs.Names.{Ledger, length, length-set, List, loads, MakesSteps, mounting, None, Note, Open, opened, PAGE_WORDS, Placed, Provides, Publish, puts, Raise, raised, refl, replicate}
-use Rattle.ksm_book.proofs.Names.{replicate-append-replicate, set-get_or, set-set, Shape, Some, stepped, suc, with_frame, with_more, zero, ℕ, ◌+◌, ◌-◌, ◌<◌, ◌∙◌, ◌≡◌}
+use Rattle.ksm_book.proofs.Names.{set-get_or, set-set, Shape, Some, stepped, suc, with_frame, with_more, zero, ℕ, ◌-◌, ◌<◌, ◌∙◌, ◌≡◌}
 use Rattle.ksm_book.proofs.Keeping.{searched_placed, searched_spends, spent_kept}
 use Rattle.ksm_book.proofs.Made.{first_made, made_one, made_part, made_then, none_made}
 use Rattle.ksm_book.proofs.Noted.{noted}
@@ -65,10 +65,6 @@ module _ {v w : KeeperView} {shape : Shape} {node : ℕ} {bytes : List ℕ} {g :
       grind (arith, found_inside same less l h.finds)
 
 -- ---------------------------------------------------------------- a place comes to name another frame
-
--- n references that came to a frame, and one more, are n + 1 steps of the keeper
-pub add_more : (v w w' : KeeperView) (f n found : ℕ) → MakesSteps v w (replicate n (Add f)) → w' ≡ did w (Add f) found → MakesSteps v w' (replicate (n + 1) (Add f))
-add_more v w w' f n found so_far is = grind (arith, replicate-append-replicate n 1 (Add f), made_then)
 
 -- n references that came to a frame change its note alone
 pub adds_ledger : (n : ℕ) {v w : KeeperView} (f : ℕ) → f < length v.ledger.frames → MakesSteps v w (replicate n (Add f))

@@ -4,7 +4,7 @@ use Rattle.ksm_book.proofs.Names.{filter_all, find_all, find_passes, get_or_from
 use Rattle.ksm_book.proofs.Names.{map_mapped, mergeable_pages, next_row, next_visited, None, not-true, Option, option_map, page_visited, pages_ahead, pages_visited, pairs_mapped, pass_ended_at_last}
 use Rattle.ksm_book.proofs.Names.{refl, restless_at, restless_row, Row, row_at, row_visited, rowwise_visits, settled, slice_get, slice_get-get_or, slice_get_within, Some, subst, suc, sym, take, take-append-drop}
 use Rattle.ksm_book.proofs.Names.{then_doing, true, visit, visit_begun, visit_of, visits, visits_beside, zero, ℕ, [], ⊤, ◌++◌, ◌+◌, ◌∙◌, ◌∷◌, ◌≡◌}
-use Rattle.ksm_book.proofs.Going.{begun_goes, elsewhere, Goes, goes_on, goes_same, mergeable_kept, visited_goes}
+use Rattle.ksm_book.proofs.Going.{begun_goes, elsewhere, Goes, goes_same, mergeable_kept, visited_goes}
 use Rattle.ksm_book.proofs.PagesAhead.{Before, behind_first}
 use Rattle.ksm_pages.proofs.Options.{mapped_some, none_mapped}
 use Rattle.ksm_pages.proofs.Ranked.{last_of_take}
@@ -109,7 +109,7 @@ module _ {X : Type 0} (step : BookState → X → Row → X) where
   pages_go [] s rise = goes_same
   pages_go (page ∷ pages) s rise =
       let first = page_goes s page rise in grind
-      (arith, goes_on, first, pages_go pages (page_visited step s page) (first.order rise))
+      (arith, first, pages_go pages (page_visited step s page) (first.order rise))
 
   module _ (beside : IsBeside step) where
     -- the visit of the next row is that of its page

@@ -26,10 +26,6 @@ pub record Goes (old new : List Row) : Type 0 where
 pub goes_same : {rows : List Row} → Goes rows rows
 goes_same = grind arith
 
--- two changes that keep the order and which pages scans visit, and make no page restless, are one such change
-pub goes_on : {first second third : List Row} → Goes first second → Goes second third → Goes first third
-goes_on f g = grind arith
-
 -- a row keeps its page and whether scans visit it
 abbrev pub KeepsPage : (Row → Row) → Type 0
 KeepsPage change = (r : Row) → ((change r).page ≡ r.page) × ((change r).mergeable ≡ r.mergeable)

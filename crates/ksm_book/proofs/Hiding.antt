@@ -1,10 +1,10 @@
 -- Rows that wait no more: that of a page with a frame of its own, and those from a page on, one after another.
 use Rattle.ksm_book.proofs.DueAlike.{at_own_page}
-use Rattle.ksm_book.proofs.Names.{after_cursor, ap, arith, BookValue, BookView, change_row, comes_before, every_row, false, find, find_passes, GuestPage, if◌then◌else◌, InPageOrder, is_next}
+use Rattle.ksm_book.proofs.Names.{ap, arith, BookValue, BookView, change_row, comes_before, every_row, false, find, GuestPage, if◌then◌else◌, InPageOrder, is_next}
 use Rattle.ksm_book.proofs.Names.{IsAlone, List, map_alike, None, not, on_its_own, Option, option_map, ordered_change, page, Row, row_at, same_page, same_page_eq, same_page_sym, settled}
 use Rattle.ksm_book.proofs.Names.{shared_state, Some, sym, true, view_of, ◌∙◌, ◌≡◌, ◌⊎◌}
 use Rattle.ksm_book.specs.Due.{hidden_from}
-use Rattle.ksm_book.proofs.Along.{along, along_end, along_next, along_none, IsAlong, passed}
+use Rattle.ksm_book.proofs.Along.{along, along_end, along_next, IsAlong, passed}
 use Rattle.ksm_book.proofs.ByPage.{found_page, row_of_page}
 use Rattle.ksm_book.specs.DuePass.{with_rows}
 use Rattle.ksm_book.proofs.Singles.{change_still}
@@ -27,15 +27,6 @@ hide page r = if not (comes_before r.page page) then settled r else r
 -- up to a cursor, no row from a page on waits
 pub record Hides (page : GuestPage) (old now : BookValue) (last : Option GuestPage) : Type 0 where
   pub are : view_of now ≡ with_rows (view_of old) (along every_row (hide page) last old.state.rows)
-
--- at first all rows are as they were
-pub hides_none : (page : GuestPage) (v : BookValue) → Hides page v v None
-hides_none page v = record { are = ap (with_rows (view_of v)) (along_none every_row (hide page) v.state.rows).are }
-
--- the next page is behind the cursor
-pub next_after : (last : Option GuestPage) (rows : List Row) (at : GuestPage)
-    → option_map (λ r. r.page) (find (is_next None last) rows) ≡ Some at → after_cursor last at ≡ true
-next_after last rows at told = grind (arith, find_passes)
 
 module _ {page : GuestPage} {old now : BookValue} {last : Option GuestPage} (h : Hides page old now last) where
   so_far : IsAlong every_row (hide page) old.state.rows now.state.rows last

@@ -5,7 +5,7 @@ use Rattle.ksm_book.proofs.Names.{PagesView, Placed, refl, Row, row_at, Shape, s
 use Rattle.ksm_base.specs.declared.row.PageState.TheVariants.{Private as OwnPage}
 use Rattle.ksm_book.proofs.ByPage.{found_page, row_of_page}
 use Rattle.std.proofs.lemmas.List.{get_or-replicate}
-use Rattle.ksm_book.proofs.Moves.{framed, inserted, remapped, Serves, swapped}
+use Rattle.ksm_book.proofs.Moves.{inserted, remapped, Serves, swapped}
 
 module _ {sh : Shape} {across : ℕ} (v : KeeperView) {rows : List Row} {frame : Frames} {dups : List DupRow} {hand : Option ℕ} (same : v.table.shape ≡ sh) where
   -- a placement that is lawful before a call is lawful after it, where the call keeps every lawful placement
@@ -51,10 +51,6 @@ module _ {p : PagesView} {k : KeeperView} (h : IsLaid p k) where
   abbrev sh : Shape
   sh = p.shape
 
-  -- pages that lie lawfully do so after a call that keeps every lawful placement and spends no fewer lives
-  pub laid_kept : (w : KeeperView) → w.table ≡ k.table → Keeps k w None None → spent k.ledger ≤ spent w.ledger → IsLaid p w
-  laid_kept w e keeps more = let placed = kept k h.same w None keeps h.placed in grind arith
-
   -- pages lie lawfully with other rows and frames that are placed lawfully beside the same dups
   pub laid_rows : {rows : List Row} {frame : Frames} (w : KeeperView) → w.table ≡ k.table → spent k.ledger ≤ spent w.ledger → Placed sh across w.ledger rows frame p.dups None
       → IsLaid (record p { rows = rows; frame = frame }) w
@@ -72,10 +68,6 @@ module _ {p : PagesView} {k : KeeperView} (h : IsLaid p k) where
       laid_mapped _ (grind arith)
       (λ i d lt. let r = get_or p.rows i d in cond_both _ (c r) r (λ x. LodgesAs x r)
       (grind (arith, row_of_page)) (λ _. (refl, refl, inl refl)))
-
-  -- a row that is not shared lies on a frame that serves it
-  pub has_frame : {page : GuestPage} {row : Row} → row_at page p.rows ≡ Some row → shared_state row.state ≡ false → (f : ℕ) × (p.frame page ≡ Some f) × Serves sh k.ledger p.dups row f
-  has_frame {row = row} found alone = framed sh _ _ row _ (grind arith) (served_at h.placed _ row found)
 
 -- pages lie lawfully with other knobs, where merge_across_nodes stays as it is or there are no dups
 pub retuned : {p : PagesView} {tuned : Knobs} {k : KeeperView} → (tuned.merge_across_nodes ≡ p.knobs.merge_across_nodes) ⊎ (p.dups ≡ []) → IsLaid p k → IsLaid (record p { knobs = tuned }) k

@@ -3,7 +3,7 @@ use Rattle.ksm_book.proofs.Names.{Add, All, All-contains_itself, arith, BookStat
 use Rattle.ksm_book.proofs.Names.{each_at_page, eq-eqb, false, find_all, find_changed_other, find_passes, frames_of, GuestPage, IfSome, if◌then◌else◌, InPageOrder, IsFree, IsLaid, IsVacant}
 use Rattle.ksm_book.proofs.Names.{joined_count, KeeperView, leaving, lies_on, list_any, MakesSteps, May, MayLeave, MayPair, MeetsPage, Merged, merged_into}
 use Rattle.ksm_book.proofs.Names.{new_place, new_place_free, next_is_new, Option, ordered_change, PagesView, partner, place_count, Publish, refl, Row, row_at}
-use Rattle.ksm_book.proofs.Names.{shared_state, Some, state_of, Sub, subst, sym, true, waits_for, waits_tells, WaitsFor, with_dup, Withdraw, withdrawing, ℕ, [], ◌+◌, ◌-◌, ◌<◌, ◌==◌, ◌∙◌, ◌∷◌, ◌≡◌}
+use Rattle.ksm_book.proofs.Names.{shared_state, Some, state_of, Sub, subst, sym, true, waits_for, waits_tells, WaitsFor, with_dup, Withdraw, withdrawing, ℕ, [], ◌+◌, ◌<◌, ◌==◌, ◌∙◌, ◌∷◌, ◌≡◌}
 use Rattle.ksm_pages.specs.Paged.{HasRow, paired as are_paired}
 use Rattle.ksm_pages.proofs.Paired.{both_changed}
 use Rattle.ksm_book.proofs.Made.{made_one, made_then}

@@ -73,9 +73,6 @@ module _ (b : BookState) (k : Ledger) (s : IsSound b) (frame : Frames) (p : Plac
       let kept = All-filter (has_items b.rows) (λ d. has_items b.rows d ≡ true → Live d) b.dups dup_lives in
       grind (arith, filter_passes, kept)
 
-  shown_kinds : All (λ f. (frame_at k f).kind ≡ Stable) shown
-  shown_kinds = All-map (λ f. (frame_at k f).kind ≡ Stable) _ _ (λ i d lt. (live_kept i d lt).kind)
-
   shown_distinct : AllPairs (λ f g. f ≢ g) shown
   shown_distinct =
       let Apart : DupRow → DupRow → Type 0 = λ d e. Live d → Live e → place_frame k d.place ≢ place_frame k e.place in
@@ -85,7 +82,7 @@ module _ (b : BookState) (k : Ledger) (s : IsSound b) (frame : Frames) (p : Plac
   all_distinct : AllPairs (λ f g. f ≢ g) (own ++ shown)
   all_distinct = pairs_append (λ f g. f ≢ g) own shown own_distinct shown_distinct (λ i f lt j g l same.
       let private' = own_kinds i f lt in
-      let stable = shown_kinds j g l in
+      let stable = All-map (λ f. (frame_at k f).kind ≡ Stable) _ _ (λ i d lt. (live_kept i d lt).kind) j g l in
       cc)
 
   -- the frame of a row is listed

@@ -8,12 +8,6 @@ use Rattle.ksm_base.proofs.Orders.{Lower}
 use Rattle.ksm_book.proofs.Sharing.{inside_of, laid_cleared, vacant_loose}
 use Rattle.ksm_book.proofs.Made.{made_one, made_then}
 
--- the place of the first stale dup has no other dup
-pub stale_vacant : (rows : List Row) (dups : List DupRow) (d : DupRow) → InPlaceOrder dups → find (is_stale rows) dups ≡ Some d → IsVacant d.place rows dups
-stale_vacant rows dups d rise found =
-    let once = find_all (is_stale rows) (λ e. All (λ y. (y.place == e.place) ≡ true → y ≡ e) dups) dups d found (one_of_each_place dups rise) in
-    grind (arith, eqb-true, eq-eqb, find_passes (is_stale rows) dups d found)
-
 -- where no stale dup is found, all dups have items
 pub none_stale : (rows : List Row) (dups : List DupRow) → find (is_stale rows) dups ≡ None → filter (has_items rows) dups ≡ dups
 none_stale rows dups none = filter_all _ _ (λ k x lt. grind (arith, find_none _ _ none k x lt))
@@ -65,7 +59,10 @@ module _ {p q : PagesView} {k l : KeeperView} {count : ℕ} (h : Drops p q k l c
 
   -- no dup with items stands at the place of the first stale dup
   pub drop_vacant : IsVacant place q.rows q.dups
-  drop_vacant = grind (arith, stale, stale_vacant)
+  drop_vacant =
+      let once = find_all (is_stale q.rows) (λ e. All (λ y. (y.place == e.place) ≡ true → y ≡ e) q.dups) q.dups
+      stale.0 stale.1 (one_of_each_place q.dups h.rise) in
+      grind (arith, eqb-true, eq-eqb, find_passes (is_stale q.rows) q.dups stale.0 stale.1, stale)
 
   inside : place < frames_of q.shape
   inside = rw (← stale.2) (find_all _ (λ d. d.place < frames_of q.shape) _ _ stale.1 (λ n d lt. (h.laid.placed.each_dup n d lt).place))
@@ -91,7 +88,7 @@ module _ {p q : PagesView} {k l : KeeperView} {count : ℕ} (h : Drops p q k l c
   drop_few first before =
       let frames = few_from 0 _ _ (omega arith) first (λ n d lt. (omega arith, (before.placed.each_dup n d lt).place)) in
       let all = simp (length-filter, length-append) at (ap length h.all) in
-      omega (arith, count_by-le-length (is_stale p.rows) p.dups, next, frames_at_most p.shape before.small)
+      omega (arith, count_by-le-length (is_stale p.rows) p.dups, frames_at_most p.shape before.small)
 
   -- where the place of the first stale dup is withdrawn and that dup goes, one stale dup more went
   pub drops_more : (q' : PagesView) (l' : KeeperView) → l' ≡ did l (Withdraw place) 0 → q' ≡ record q { dups = filter (elsewhere place) q.dups } → Drops p q' k l' (count + 1)

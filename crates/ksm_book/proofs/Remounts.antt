@@ -44,9 +44,6 @@ module _ {sh : Shape} {across : ℕ} {k : Ledger} {rows : List Row} {frame : Fra
     new_differs : g ≢ left
     new_differs e = cc
 
-    unused : uses g frame rows ≡ 0
-    unused = grind arith
-
     -- the notes of the frame that comes, of the one that is left, and of any other
     at_new : frame_at next g ≡ mounted
     at_new = grind (arith, length-set, get_or-set_same)
@@ -71,9 +68,6 @@ module _ {sh : Shape} {across : ℕ} {k : Ledger} {rows : List Row} {frame : Fra
     serves r f far h =
         dite (ℕ_discrete f left) (λ e. grind (arith, eq-eqb, at_new, moved_agrees)) (λ ne. grind (arith, ne_eqb, named_off, notes, get_or-set_same))
 
-    fits_still : (e : DupRow) → DupFits sh across k e → DupFits sh across next e
-    fits_still e m = grind (arith, notes, named_off, get_or-set_same)
-
     -- rows and dups lie lawfully once a dup has moved from its Stable frame to a free one, with all of its items
     remounted : Placed sh across next rows (instead left g frame) dups None
     remounted = record {
@@ -82,9 +76,9 @@ module _ {sh : Shape} {across : ℕ} {k : Ledger} {rows : List Row} {frame : Fra
       widths = grind (arith, notes);
       lives = grind (arith, notes);
       each_row = grind (arith, serves);
-      each_dup = λ m x l. fits_still _ (p.each_dup m x l);
+      each_dup = λ m x l. grind (arith, p.each_dup m x l, notes, named_off, get_or-set_same);
       bases = λ h. dite (ℕ_discrete h g)
-          (λ e. rw (e, at_new, uses_new left g frame rows unused) (p.bases left))
+          (λ e. rw (e, at_new, uses_new left g frame rows (grind arith)) (p.bases left))
           (λ ng. dite (ℕ_discrete h left)
           (λ e. rw (e, at_left, uses_old left g frame rows new_differs) refl)
           (λ nl. rw (at_rest h ng nl, uses_still left g frame rows h nl ng) (p.bases h)));
@@ -213,9 +207,6 @@ module _ {v : PagesView} {k : KeeperView} {dup : DupRow} {node g : ℕ} (may : M
             (does : MakesSteps u x (mounting g f dup.place items (frame_at u.ledger g).content))
             (knows : x.ledger ≡ once_mounted u.ledger g f dup.place items)
             (q : PagesView) (goes : q ≡ record v { frame = items_on dup.number f v.rows v.frame }) where
-          goes_there : q.frame ≡ instead g f v.frame
-          goes_there = rw goes (items_go f)
-
           ledger_is : x.ledger ≡ next p dup among g f on_frame
           ledger_is = grind (arith, exchanged, at_other f apart, at_g)
 
@@ -230,7 +221,7 @@ module _ {v : PagesView} {k : KeeperView} {dup : DupRow} {node g : ℕ} (may : M
 
           -- once the new frame is mounted and the items lie there, the dup has moved to a frame of the node
           pub has_remounted : (before : KeeperView) × (x ≡ did before (Publish dup.place f) 0) → HasRemounted v q k x dup node (Ok Done)
-          has_remounted shows = grind (arith, laid_moved_dup, item_lies, known, may_mount, base, at_g, goes_there)
+          has_remounted shows = grind (arith, laid_moved_dup, item_lies, known, may_mount, base, at_g, goes, items_go f)
 
 -- where a dup is to move from a place, a dup stands at that place
 pub taken_place : {v : PagesView} {k : KeeperView} {dup : DupRow} {node : ℕ} → MayMove v k dup node

@@ -4,19 +4,12 @@ use Rattle.ksm_book.proofs.Names.{on_its_own, Option, PagesView, Placed, Provide
 use Rattle.ksm_base.specs.declared.row.PageState.TheVariants.{Private}
 use Rattle.ksm_book.proofs.Shown.{provides_does}
 use Rattle.ksm_book.proofs.Keeping.{left_placed, left_spends, may_leave, searched_placed, searched_spends}
-use Rattle.ksm_book.proofs.Laying.{laid_kept, moved_there}
-
--- a row at home on the node, with these bytes and a frame of its own
-abbrev pub housed : ℕ → List ℕ → Row → Row
-housed node bytes r = record r { home = node; bytes = bytes; state = Private }
+use Rattle.ksm_book.proofs.Laying.{kept, moved_there}
 
 module _ {p : PagesView} {k w : KeeperView} (h : IsLaid p k) (rise : InPageOrder p.rows) (page : GuestPage) (known : IsKnown page p.rows) {node : ℕ} {bytes : List ℕ} {g : ℕ}
     (provides : Provides k w node bytes g) (taken : HasNewFrame k w node bytes g) where
   abbrev across : ℕ
   across = p.knobs.merge_across_nodes
-
-  houses : Houses (housed node bytes) page node bytes p.rows
-  houses = grind arith
 
   same : w.table.shape ≡ p.shape
   same = rw (provides_does provides).1.table h.same
@@ -28,7 +21,7 @@ module _ {p : PagesView} {k w : KeeperView} (h : IsLaid p k) (rise : InPageOrder
   module _ (left : Option ℕ) (was : left ≡ p.frame page) where
     -- once a page has a new frame in hand, the frame that it had, if it had one, may be left
     pub may_left : IfSome left (MayLeave w)
-    may_left = rw was (may_leave w same _ (in_hand houses))
+    may_left = rw was (may_leave w same _ (in_hand {change = λ r. record r { home = node; bytes = bytes; state = Private }} (grind arith)))
 
     -- a page that took a frame with its bytes on a node, and left the one that it had, is resettled there
     pub resettled : (q : PagesView) (u : KeeperView) → q ≡ record p { rows = change_row page on_its_own p.rows; frame = lies_on page (Some g) p.frame }
@@ -45,6 +38,7 @@ module _ {p : PagesView} {k w : KeeperView} (h : IsLaid p k) (rise : InPageOrder
 
 -- where no frame of a node was found, pages that lie lawfully are turned away, and no page changed
 pub turned : {p : PagesView} {k w : KeeperView} {node : ℕ} → IsLaid p k → FindsNone k w node → TurnedAway p p k w node
-turned {w = w} h none =
-    let laid = laid_kept h w (rw none.reaped.after) (searched_placed _ none.reaped) (searched_spends _ none.reaped) in
+turned {k = k} {w} h none =
+    let placed = kept k h.same w _ (searched_placed _ none.reaped) h.placed in
+    let spends = searched_spends _ none.reaped in
     grind arith

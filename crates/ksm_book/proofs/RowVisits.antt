@@ -1,8 +1,8 @@
 -- The visit of a row, by what is found: what becomes of the book, and what is done to the frames.
-use Rattle.ksm_book.proofs.Names.{Add, All, All-contains_itself, arith, Best, best_dup, best_dup_has_room, BookState, BookView, Bool, change_row, Contains, DupRow}
-use Rattle.ksm_book.proofs.Names.{each_at_page, emptying, false, find_all, find_passes, Frames, GuestPage, handled, handling, HasRoom, HasStayed, IfSome, if◌then◌else◌, is_best, is_restless, IsDupOf}
+use Rattle.ksm_book.proofs.Names.{Add, All, All-contains_itself, arith, Best, best_dup, best_dup_has_room, BookState, BookView, change_row, Contains, DupRow}
+use Rattle.ksm_book.proofs.Names.{each_at_page, false, find_all, find_passes, GuestPage, HasRoom, IfSome, is_best, is_restless, IsDupOf}
 use Rattle.ksm_book.proofs.Names.{IsForZero, IsJoined, IsLaid, IsSound, item_count, KeeperStep, KeeperView, leaving, lies_on, lying, MakesSteps, MatchOption, May, MayJoin, MayLeave, Merged}
-use Rattle.ksm_book.proofs.Names.{merged_into, merged_state, MOST_REFERENCES, None, Option, PagesView, paired, pairing, partner, Performs, Placed, refl, Row, row_at, row_visited}
+use Rattle.ksm_book.proofs.Names.{merged_into, merged_state, MOST_REFERENCES, None, Option, PagesView, Performs, Placed, refl, Row, row_at, row_visited}
 use Rattle.ksm_book.proofs.Names.{row_visiting, shared_state, Some, sound_row_visited, state_of, Sub, subst, sym, true, VisitsPage, Zero, ℕ, [], ◌-◌, ◌∷◌, ◌≡◌, ◌≤◌}
 use Rattle.frame_table.specs.Kept.{Did}
 use Rattle.ksm_pages.specs.Paged.{HasRow, ItemsLieOn}
@@ -22,19 +22,6 @@ filled_by P told = grind arith
 -- a row that a visit may change has a frame of its own
 pub restless_own : (row : Row) → is_restless row ≡ true → shared_state row.state ≡ false
 restless_own row is = grind arith
-
--- to the book and to the frames the visit of a row that a visit may change does what its handling does, by the dup that it may join
-pub visited_by : (b : BookState) (frame : Frames) (row : Row) (o : Option DupRow) → is_restless row ≡ true
-    → best_dup b.knobs b.rows b.dups row ≡ o
-    → (row_visited b row ≡ handled o b row) × (row_visiting b frame row ≡ handling o b frame row)
-visited_by b frame row o is best = grind arith
-
--- the visit of a row whose bytes have stayed makes it Zero where its zeroes are to merge, and else pairs it
-pub stayed_is : (b : BookState) (frame : Frames) (row : Row) (zeroes : Bool) → HasStayed b zeroes row
-    → (row_visited b row ≡ (if zeroes then record b { rows = change_row row.page (λ r. record r { state = Zero }) b.rows } else
-    paired (partner b.knobs b.rows row) b row))
-    × (row_visiting b frame row ≡ (if zeroes then emptying frame row.page else pairing (partner b.knobs b.rows row) b frame row))
-stayed_is b frame row zeroes stays = grind arith
 
 -- ---------------------------------------------------------------- what the visit of a page comes to
 
@@ -182,13 +169,12 @@ module _ (best : Best) {p : PagesView} {k : KeeperView} {cursor : Option GuestPa
     -- once the page is an item of the dup and lies on the dup's frame, the book is what the visit leads to
     pub joined_leads : Leads v q l cursor passes page
     joined_leads =
-        let does = visited_by (state_of p cursor passes) p.frame row (Some dup) at.so.0 told.1 in
         leads at q l at.so.0
         (rw q_is
         (laid_joined at.laid at.sound.rows_rise _ row _ at.found found_item g there
         item_merged _ (λ r. refl) state_is same_bytes l steps))
-        (grind (arith, q_is, page_is at, told.2.0))
-        (grind (arith, page_is at, live.first, there, steps, frame_is))
+        (grind (arith, q_is, page_is at, told, at.so))
+        (grind (arith, page_is at, live.first, there, steps, frame_is, told, at.so))
 
 -- ---------------------------------------------------------------- a page becomes Zero
 
@@ -210,7 +196,6 @@ module _ {p : PagesView} {k : KeeperView} {cursor : Option GuestPage} {passes : 
       → q ≡ record p { rows = change_row page zeroed p.rows; frame = lies_on page None p.frame } → Leads v q l cursor passes page
   zero_leads q {l} was made goes =
       let leaves = subst (λ o. MakesSteps k l (leaving o)) was made in
-      let does = stayed_is (state_of p cursor passes) p.frame at.row true at.so in
       leads at q l at.so.restless
       (rw goes (laid_rows at.laid l (rw leaves.after) (left_spends _ leaves) (left_placed _ leaves zero_hand)))
-      (grind (arith, goes, page_is at)) (grind (arith, goes, page_is at))
+      (grind (arith, goes, page_is at, at.so)) (grind (arith, goes, page_is at, at.so))

@@ -1,6 +1,6 @@
 -- A scan carried out: what its visits come to is what the command promises.
 use Rattle.ksm_book.proofs.Names.{arith, BookValue, Comes, doing, Fault, filter, IsCarried, IsScanned, length, length-filter, length-map, List, list_any, mergeable_count, mergeable_pages}
-use Rattle.ksm_book.proofs.Names.{Ok, Option, page, Row, Scan, scan_stopped, Scanned, true, view_of, visits_beside, [], ℕ, ◌∙◌, ◌∷◌, ◌≡◌, ◌≤◌}
+use Rattle.ksm_book.proofs.Names.{Ok, Option, Row, Scan, scan_stopped, Scanned, true, view_of, visits_beside, [], ℕ, ◌∙◌, ◌∷◌, ◌≡◌, ◌≤◌}
 use Rattle.ksm_book.proofs.Folded.{beside_state}
 use Rattle.ksm_book.proofs.Reached.{begins, first}
 

@@ -3,11 +3,11 @@ use Rattle.frame_core.specs.Ledger.{named_anew}
 use Rattle.ksm_base.specs.declared.limits.TheConstants.{MOST_FRAMES, MOST_LIVES, MOST_REFERENCES}
 use Rattle.ksm_book.proofs.Names.{Add, All, All-filter, ap, arith, blank, Bool, change_row, Contains, count_by, count_none, did, DupRow, elsewhere, eq-eqb, false, filter, filter_passes, find}
 use Rattle.ksm_book.proofs.Names.{find_all, find_none, find_passes, frame_at, Frames, frames_of, get_or-set_same, get_or_default, GuestPage, IfSome, if◌then◌else◌, InPageOrder, IsInLife, IsLaid}
-use Rattle.ksm_book.proofs.Names.{IsLoose, IsVacant, item_count, KeeperView, leaving, Ledger, length, lies_on, Life, life_or, List, list_any, MakesSteps, May, MayLeave, Merged, merged_into}
-use Rattle.ksm_book.proofs.Names.{merged_state, named_at, None, none_found, Note, Option, PageState, PagesView, place_frame, Placed, Private, Publish, refl, Row, row_at, RowFits, set-get_or, settled}
+use Rattle.ksm_book.proofs.Names.{IsLoose, IsVacant, item_count, KeeperView, leaving, Ledger, length, lies_on, List, list_any, MakesSteps, May, MayLeave, Merged, merged_into}
+use Rattle.ksm_book.proofs.Names.{merged_state, named_at, None, none_found, Note, Option, PageState, PagesView, place_frame, Placed, Private, Publish, refl, Row, row_at, RowFits, set-get_or}
 use Rattle.ksm_book.proofs.Names.{Shape, shared_state, Some, spent, spent_on, Stable, suc, sum_by-le, sym, true, with_dup, Withdraw, withdrawing, ℕ, [], ◌*◌, ◌+◌, ◌-◌, ◌<◌, ◌==◌, ◌∙◌, ◌∷◌, ◌≡◌, ◌≤◌}
 use Rattle.ksm_book.proofs.Moves.{base_is_items, emptied, joined, published, Serves, stale_is_loose, withdrawn}
-use Rattle.ksm_book.proofs.Laying.{laid_rows, LodgesAs, serves_at}
+use Rattle.ksm_book.proofs.Laying.{laid_rows, serves_at}
 use Rattle.ksm_book.proofs.Keeping.{added_placed, added_spends, left_placed, left_spends, may_leave, spent_set}
 use Rattle.ksm_book.proofs.Made.{none_made, parts_made, step_made}
 
@@ -58,12 +58,6 @@ module _ {p : PagesView} {k : KeeperView} (h : IsLaid p k) (rise : InPageOrder p
         laid_rows h u (rw m.after) (omega (arith, added_spends parts.1, left_spends _ parts.2))
         (left_placed _ parts.2 (joined_hand _ parts.1))
 
--- a place where no dup with items stands may be named anew, or not at all
-loose_named : (k : Ledger) (o : Option Life) → ((frame_at k (life_or o).frame).generation ≡ (life_or o).generation
-    → ¬ ((frame_at k (life_or o).frame).kind ≡ Stable)) → IsLoose k o
-loose_named k None h = tt
-loose_named k (Some life) h = h
-
 -- a place where no dup with items stands names no frame that is Stable in the life named
 pub vacant_loose : {sh : Shape} {across : ℕ} {k : Ledger} {rows : List Row} {frame : Frames} {dups : List DupRow} (place : ℕ)
     → Placed sh across k rows frame dups None → IsVacant place rows dups → IsLoose k (named_at k place)
@@ -75,7 +69,7 @@ vacant_loose {k = k} {dups = dups} place p vacant = by _ refl
         let stale = find_all (λ e. e.place == place)
         (λ e. e.place ≡ place → IsInLife k e.place → ¬ ((frame_at k (place_frame k e.place)).kind ≡ Stable))
         dups d found (λ n x lt same. stale_is_loose p n x lt (vacant n x lt same)) in
-        loose_named k _ (grind (arith, find_passes (λ e. e.place == place) dups d found))
+        grind (arith, stale, find_passes (λ e. e.place == place) dups d found)
 
 -- what a vacant place names is withdrawn, and then it names nothing
 module _ {p : PagesView} {k : KeeperView} (w : KeeperView) (h : IsLaid p k) (place : ℕ) (inside : place < frames_of p.shape)
@@ -121,10 +115,6 @@ spent_most {v} {k} h =
     let note = frame_at k.ledger i in
     grind (arith, get_or_default k.ledger.frames i d blank lt)) in
     grind (arith, h.spent)
-
--- a row that waits no more may stand on its frame in the stead of the row as it was
-pub settled_lodges : (r : Row) → LodgesAs (settled r) r
-settled_lodges r = grind arith
 
 -- a new dup stands on the frame of a row, which is its first item
 module _ {p : PagesView} {k : KeeperView} (h : IsLaid p k) (rise : InPageOrder p.rows) (page : GuestPage) (row : Row) (f : ℕ)

@@ -47,12 +47,7 @@ quiet_leaving (Some f) = (refl, tt)
 
 -- a part of the log whose steps give no frame gave none
 pub part_did : (v w : KeeperView) {part : Log} → w ≡ stepped v part → GivesNone (steps_of part) → Allocates v w [] part
-part_did v w {part} is quiet = record {
-  table = rw is;
-  log = rw is;
-  ledger = rw is;
-  gives = by _ _ quiet;
-}
+part_did v w {part} is quiet = let gives = by v.ledger part quiet in grind arith
   where
     by : (k : Ledger) (part : Log) → GivesNone (steps_of part) → Gives v.table.shape k [] part
     by k [] q = refl

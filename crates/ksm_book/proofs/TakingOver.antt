@@ -1,6 +1,6 @@
 -- A page waits in the stead of one further on: what becomes of the book, and which pages are due then.
-use Rattle.ksm_book.proofs.Names.{added, All, ap, AreDue, arith, before_differs, BookState, BookValue, change_row, change_rows, Comes, comes_before, Deed, doing, due_visited, each_at_page}
-use Rattle.ksm_book.proofs.Names.{find_all, find_passes, freed, GuestPage, has_item, hidden_from, IsAlone, IsSound, List, map_alike, not, not_both, page, page_visited, row_at, row_visited}
+use Rattle.ksm_book.proofs.Names.{All, ap, AreDue, arith, before_differs, BookState, BookValue, change_row, change_rows, Comes, comes_before, Deed, doing, due_visited, each_at_page}
+use Rattle.ksm_book.proofs.Names.{find_all, find_passes, freed, GuestPage, has_item, hidden_from, IsAlone, IsSound, List, map_alike, not, not_both, page_visited, row_at, row_visited}
 use Rattle.ksm_book.proofs.Names.{same_page, same_page_eq, same_page_refl, same_page_sym, settled, Some, StaysBefore, sym, TakesOver, true, view_of, visits, waits_for, waits_tells, WaitsFor}
 use Rattle.ksm_book.proofs.Names.{with_rows, ◌&&◌, ◌||◌, ◌∙◌, ◌∷◌, ◌≡◌}
 use Rattle.std.specs.Cmp.{both_ways}
@@ -69,15 +69,13 @@ module _ (v m w : BookValue) {page other : GuestPage} (sound : IsSound v.state) 
   module _ (old more new : List GuestPage)
       (added : (p : GuestPage) → has_item p more ≡ (same_page other p || has_item p old))
       (gone : (p : GuestPage) → has_item p new ≡ (has_item p more && not (same_page page p))) where
-    same_kept : (p : GuestPage) → same_page other p ≡ true → has_item p new ≡ true
-    same_kept p same = grind (arith, same_page_sym page other, before_differs page other (later sound at))
-
     -- the other page is due then, and the first one no longer
     pub taken_leaves : Comes m w (λ s. page_visited doing s page) → AreDue v.state old → AreDue w.state new
     taken_leaves visits due =
         let state : w.state ≡ row_visited (freed v.state at.row) at.row =
         grind (arith, comes_to v w _ (taken_comes visits), page_is sound at) in
         rw state
-        (more_due (row_visited (freed v.state at.row) at.row) (at.waiter.page ∷ new) new (λ p is. grind (arith, same_kept p, at.is))
+        (more_due (row_visited (freed v.state at.row) at.row) (at.waiter.page ∷ new) new (λ p is.
+        grind (arith, added p, gone p, at.is, same_page_sym page other, before_differs page other (later sound at)))
         (taken_due _ _ _ new sound (there sound at) at.takes at.waits
         (rw (page_is sound at) (more_due v.state old (page ∷ new) (λ p is. grind (arith, added p, gone p)) due))))

@@ -10,7 +10,6 @@ use Rattle.std.proofs.lemmas.List.Sums.{count_by-le-length}
 use Rattle.ksm_book.proofs.Along.{along_end, along_next, along_none, along_stop, FitsPage, further, IsAlong, next_is, parted, passed, passed_all, position, there}
 use Rattle.ksm_book.proofs.ByPage.{row_of_page}
 use Rattle.ksm_book.proofs.Laying.{laid_changed}
-use Rattle.ksm_book.proofs.Shown.{each_does}
 use Rattle.ksm_book.proofs.Singles.{change_still, settled_then}
 
 -- where all rows are mergeable, none changes by becoming so
@@ -120,10 +119,6 @@ module _ {p q : PagesView} {k l : KeeperView} {guest : Option ℕ} {count : ℕ}
     (u : IsUnsharing p q k l guest count last) (rise : InPageOrder p.rows) where
   abbrev met : List Row
   met = filter (passed (is_shared_of guest) last) p.rows
-
-  -- the keeper is of the same table
-  pub unsharing_own : l.table ≡ k.table
-  unsharing_own = grind (arith, each_does)
 
   module _ {page : GuestPage} (told : option_map (λ r. r.page) (find (is_next guest last) q.rows) ≡ Some page) where
     abbrev next : (row : Row) × (find (is_next guest last) p.rows ≡ Some row) × (row.page ≡ page)

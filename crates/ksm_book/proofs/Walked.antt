@@ -8,7 +8,7 @@ use Rattle.ksm_book.proofs.Names.{is_restless, IsDueNoMore, IsSound, IsStill, Li
 use Rattle.ksm_book.proofs.Names.{refl, restless_at, Row, same_page, same_page_eq, slice_get_within, Some, sound_row_visited, subst, suc, sym, take, true, true≢false, up_to, ℕ}
 use Rattle.ksm_book.proofs.Names.{[], ◌*◌, ◌++◌, ◌+◌, ◌-◌, ◌<◌, ◌^◌, ◌∙◌, ◌∷◌, ◌≡◌}
 use Rattle.ksm_pages.specs.Ahead.{FindsNext}
-use Rattle.ksm_book.specs.Scanned.{ahead_before, ahead_up_to, FindsUpTo, StaysStill}
+use Rattle.ksm_book.specs.Scanned.{ahead_before, ahead_up_to, StaysStill}
 use Rattle.ksm_book.proofs.Along.{FitsPage}
 use Rattle.ksm_book.proofs.ByPage.{row_of_page}
 use Rattle.ksm_book.proofs.Folded.{ascending_ahead, by_row, pages_go, still_on}
@@ -217,17 +217,12 @@ all_restless P rows each page is =
     (λ r found restless _.
     find_all (λ s. same_page s.page r.page) (λ s. is_restless s ≡ true → P s.page) rows r found each restless) is
 
--- where a search finds none, visits of pages up to the last do nothing
-pub rests_up_to : (b : BookState) (last reached : Option GuestPage) → FindsUpTo last reached b.rows None → (q : GuestPage)
-    → after_cursor reached q ≡ true → up_to last q ≡ true → Rests (page_visited doing) b q
-rests_up_to b last reached none q after inside = visits_page.calm b q
-    (grind (arith, all_restless (λ p. after_cursor reached p ≡ true → up_to last p ≡ false) b.rows none q))
-
--- and so do those of pages before the one that it finds
-pub rests_before : (b : BookState) (reached : Option GuestPage) (page : GuestPage) → FindsNext reached b.rows (Some page)
-    → (q : GuestPage) → after_cursor reached q ≡ true → comes_before q page ≡ true → Rests (page_visited doing) b q
-rests_before b reached page found q after low = visits_page.calm b q
-    (grind (arith, all_restless (λ p. after_cursor reached p ≡ true → comes_before p page ≡ false) b.rows found.1 q))
+-- where no row behind a cursor that a visit may change is of a page that passes a test, visits of such pages do nothing
+pub rests_where : (b : BookState) (reached : Option GuestPage) (test : GuestPage → Bool)
+    → All (λ r. is_restless r ≡ true → after_cursor reached r.page ≡ true → test r.page ≡ false) b.rows → (q : GuestPage)
+    → after_cursor reached q ≡ true → test q ≡ true → Rests (page_visited doing) b q
+rests_where b reached test none q after inside = visits_page.calm b q
+    (grind (arith, all_restless (λ p. after_cursor reached p ≡ true → test p ≡ false) b.rows none q))
 
 -- ---------------------------------------------------------------- what is due
 

@@ -55,19 +55,6 @@ fn is_dying(kind: Kind) -> bool
     matches!(kind, Kind::Dying)
 }
 
-// Marks a frame in both sets by the kind that it has.
-fn sort(keeper: &Keeper, free: &mut NumberSet, dying: &mut NumberSet, frame: u32)
-    requires inside { frame < frames_of keeper.now.table.shape }
-    requires free_room { frame < 64 * length free.old }
-    requires dying_room { frame < 64 * length dying.old }
-    ensures free { Marks free.old free.new frame (free_kind (frame_at keeper.now.ledger frame).kind) }
-    ensures dying { Marks dying.old dying.new frame (dying_kind (frame_at keeper.now.ledger frame).kind) }
-{
-    let kind = keeper.kind(frame);
-    free.mark(frame, is_free(kind));
-    dying.mark(frame, is_dying(kind));
-}
-
 impl FrameKeeper {
     /// Begins with a keeper that has made no step: all frames are free, none is dying. Refused for memory alone, it
     /// gives the keeper back.
@@ -167,7 +154,9 @@ impl FrameKeeper {
         ensures { (found : ℕ) × (self.new ≡ did self.old (Reap frame) found) × (IsTrue result ↔ count_in found ≡ 0) }
     {
         let alone = self.keeper.reap(table, frame);
-        sort(&self.keeper, &mut self.free, &mut self.dying, frame);
+        let now = self.keeper.kind(frame);
+        self.free.mark(frame, is_free(now));
+        self.dying.mark(frame, is_dying(now));
         alone
     }
 

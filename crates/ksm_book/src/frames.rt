@@ -62,13 +62,7 @@ pub fn is_used_up(keeper: &FrameKeeper, shape: Shape, node: u32) -> bool
 {
     let first = node * shape.frames_per_node;
     let end = first + shape.frames_per_node;
-    if let Some(_) = keeper.next_free(first, end) {
-        return false;
-    }
-    match keeper.next_dying(first, end) {
-        Some(_) => false,
-        None => true,
-    }
+    keeper.next_dying(first, end).is_none() && keeper.next_free(first, end).is_none()
 }
 
 /// Stores the bytes to a frame, word by word.

@@ -85,14 +85,6 @@ impl State {
         self.cursor = None;
     }
 
-    // Where so many visits end.
-    fn ahead(&self, visits: u64) -> Ahead
-        requires { 1 ≤ visits }
-        ensures { EndsAt (pages_ahead self.now.state) visits result }
-    {
-        self.pages.ahead(self.cursor, visits)
-    }
-
     // The first page behind one, up to the last one, that a visit may change, or a page before it.
     #[inline(always)]
     fn next_up_to(&mut self, last: Option<GuestPage>, cursor: Option<GuestPage>) -> Option<Spot>
@@ -158,12 +150,12 @@ impl State {
         ensures comes { Comes self.old self.new (λ s. (pass_ended_at_last s.0, s.1)) }
         ensures ahead { EndsAt (pages_ahead self.new.state) most result }
     {
-        let ahead = self.ahead(most);
+        let ahead = self.pages.ahead(self.cursor, most);
         let nowhere = is_none(ahead);
         let under_way = self.cursor().is_some();
         if nowhere && under_way {
             self.end_passes(1);
-            return self.ahead(most);
+            return self.pages.ahead(self.cursor, most);
         }
         ahead
     }

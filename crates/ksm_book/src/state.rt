@@ -287,16 +287,14 @@ impl State {
             return Ok(Reply::Done);
         }
         let bytes = self.pages.bytes(held.spot);
-        if let Err(fault) = resettle(
+        resettle(
             &mut self.pages,
             &mut self.keeper,
             table,
             held.spot,
             node,
             &bytes,
-        ) {
-            return Err(fault);
-        }
+        )?;
         self.pages.set_home(held.spot, node);
         Ok(Reply::Done)
     }

@@ -53,9 +53,7 @@ fn leave(
         release_if(keeper, table, left);
         return Ok(1);
     }
-    if let Err(fault) = resettle(pages, keeper, table, held.spot, held.home, &bytes) {
-        return Err(fault);
-    }
+    resettle(pages, keeper, table, held.spot, held.home, &bytes)?;
     pages.forget_unchanged(held.spot);
     Ok(1)
 }

@@ -1,7 +1,7 @@
-use Rattle.ksm_book.proofs.Names.{arith, refl}
-use Rattle.ksm_book.proofs.Filling.{add_more, adds_ledger, at_again}
+use Rattle.ksm_book.proofs.Names.{Add, arith, refl, replicate-append-replicate}
+use Rattle.ksm_book.proofs.Filling.{adds_ledger, at_again}
 use Rattle.ksm_book.proofs.Keeping.{held_within}
-use Rattle.ksm_book.proofs.Made.{made_none}
+use Rattle.ksm_book.proofs.Made.{made_none, made_then}
 use Rattle.ksm_book.proofs.mounting.add_times.Goals as goal
 
 pub loop-done-init : goal.loop-done-init
@@ -14,7 +14,7 @@ add-requires-clause-may c =
     grind (arith, adds_ledger c.loop-done.done c.args.frame within c.loop-done.invariant, at_again k c.args.frame within)
 
 pub loop-done-preserved : goal.loop-done-preserved
-loop-done-preserved c = grind (arith, add_more)
+loop-done-preserved c = grind (arith, replicate-append-replicate c.loop-done.done 1 (Add c.args.frame), made_then)
 
 pub returns-clause-ledger : goal.returns-clause-ledger
 returns-clause-ledger c =

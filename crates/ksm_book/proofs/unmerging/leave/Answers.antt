@@ -50,9 +50,9 @@ returns-then-is_some-2-clause-left c =
     c.bytes-bytes.ensures got (sym c.is_some-2.ensures ∙ c.if-is_some-2.true) (gone s)
 
 pub forget_unchanged-requires : goal.forget_unchanged-requires
-forget_unchanged-requires c = rw (found_resettled c.in_default-resettle.ensures.resettled (row_held c.requires.held)) refl
+forget_unchanged-requires c = rw (found_resettled c.in_ok-resettle.ensures.resettled (row_held c.requires.held)) refl
 
 pub returns-clause-left : goal.returns-clause-left
 returns-clause-left c = left_any _ c.requires.held c.requires.laid c.lie_in_order.ensures.rise
-    c.if-not-held.false c.bytes-bytes.ensures c.in_default-resettle.ensures.resettled
+    c.if-not-held.false c.bytes-bytes.ensures c.in_ok-resettle.ensures.resettled
     (sym c.is_some-2.ensures ∙ c.if-is_some-2.false) c.forget_unchanged.ensures

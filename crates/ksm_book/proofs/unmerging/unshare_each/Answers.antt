@@ -1,12 +1,13 @@
 use Rattle.ksm_book.proofs.Names.{rules, ◌∙◌}
-use Rattle.ksm_book.proofs.Unmerged.{unsharing_begins, unsharing_end, unsharing_home, unsharing_next, unsharing_own, unsharing_stop}
+use Rattle.ksm_book.proofs.Unmerged.{unsharing_begins, unsharing_end, unsharing_home, unsharing_next, unsharing_stop}
+use Rattle.ksm_book.proofs.Shown.{each_does}
 use Rattle.ksm_book.proofs.unmerging.unshare_each.Goals as goal
 
 pub pages-init : goal.pages-init
 pages-init c = unsharing_begins _ _ _ c.requires.laid
 
 pub leave-requires-clause-own : goal.leave-requires-clause-own
-leave-requires-clause-own c = unsharing_own c.pages.invariant c.lie_in_order.ensures.rise ∙ c.requires.own
+leave-requires-clause-own c = (each_does _ _ _ c.pages.invariant.each).1.table ∙ c.requires.own
 
 pub leave-requires-clause-home : goal.leave-requires-clause-home
 leave-requires-clause-home c =

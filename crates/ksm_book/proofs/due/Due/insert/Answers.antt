@@ -1,4 +1,4 @@
-use Rattle.ksm_book.proofs.Names.{ap, arith, is_some, pages_ordered, refl, same_page, sym, true, ◌∙◌}
+use Rattle.ksm_book.proofs.Names.{arith, pages_ordered, refl, same_page}
 use Rattle.std.proofs.lemmas.List.Folds.{list_any-append}
 use Rattle.ksm_pages.specs.Held.{pages_of}
 use Rattle.ksm_pages.specs.declared.named.Named.{Named}

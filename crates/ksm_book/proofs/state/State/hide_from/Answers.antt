@@ -1,14 +1,20 @@
-use Rattle.ksm_book.proofs.Names.{arith, BookValue, find, is_next, None, option_map, page, Row, row_at, rules, Some, subst, ◌≡◌}
-use Rattle.ksm_book.proofs.Hiding.{hides_none, hiding_end, hiding_more, hiding_over, next_after}
+use Rattle.ksm_book.proofs.Names.{arith, BookValue, find, is_next, None, option_map, Row, row_at, rules, Some, subst, ◌≡◌}
+use Rattle.ksm_book.proofs.Hiding.{hide, hiding_end, hiding_more, hiding_over}
+use Rattle.ksm_book.proofs.Along.{along_none}
+use Rattle.ksm_book.specs.DuePass.{with_rows}
+use Rattle.ksm_book.proofs.Names.{ap, every_row, find_passes, view_of}
 use Rattle.ksm_book.proofs.Walked.{less_room}
 use Rattle.ksm_book.proofs.state.State.hide_from.Goals as goal
 use Rattle.ksm_book.proofs.state.State.hide_from.Goals.{else-not-held, then-not-held+then-not-comes_before}
 
 pub pages-init : goal.pages-init
-pages-init c = hides_none c.args.page c.args.self.now
+pages-init c = record {
+  are = ap (with_rows (view_of c.args.self.now)) (along_none every_row (hide c.args.page) _).are;
+}
 
 pub pages-smaller : goal.pages-smaller
-pages-smaller c = less_room _ _ (search rules, search rules) (next_after _ _ _ c.in-Some.ensures.1)
+pages-smaller c = less_room c.pages.last c.in-Some.held.spot.page (search rules, search rules)
+    (grind (arith, c.in-Some.ensures.1, find_passes))
 
 pub pages-preserved : goal.pages-preserved
 pages-preserved c =

@@ -10,7 +10,7 @@ returns-then-held-node c =
     (rw (← c.shape.ensures) c.if-node-shape.false) (sym c.in-Some.ensures.home ∙ c.if-held-node.true)))
 
 pub set_home-requires : goal.set_home-requires
-set_home-requires c = rw (found_resettled c.in_default-resettle.ensures.resettled (row_held c.in-Some.ensures)) refl
+set_home-requires c = rw (found_resettled c.in_ok-resettle.ensures.resettled (row_held c.in-Some.ensures)) refl
 
 moved_there : (c : goal.After-set_home) → Carries (seen c.self.inside.pages) c.self.inside.keeper (seen c.set_home.new.self)
     c.resettle.new.keeper c.self.inside.cursor c.self.inside.passes (MovePage c.in-Some.held.spot.page c.args.node) (Ok Done)
@@ -21,7 +21,7 @@ moved_there c =
     (rw (← c.shape.ensures) c.if-node-shape.false)
     (ne_eqb c.in-Some.ensures.row.home c.args.node (λ e. c.if-held-node.false (c.in-Some.ensures.home ∙ e)))
     c.self.invariant.1
-    (rw bytes at c.in_default-resettle.ensures.resettled)
+    (rw bytes at c.in_ok-resettle.ensures.resettled)
     c.set_home.ensures
 
 pub returns : goal.returns

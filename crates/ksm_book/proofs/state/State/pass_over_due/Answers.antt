@@ -1,6 +1,7 @@
-use Rattle.ksm_book.proofs.Names.{AreDue, subst}
-use Rattle.ksm_book.proofs.DuePasses.{part_stops, rests_behind, rests_between, visits_due, whole_comes, whole_still}
-use Rattle.ksm_book.proofs.Reached.{comes_as, comes_own}
+use Rattle.ksm_book.proofs.Names.{AreDue, arith, comes_before, None, subst}
+use Rattle.ksm_book.specs.Scanned.{up_to}
+use Rattle.ksm_book.proofs.DuePasses.{part_stops, rests_due, visits_due, whole_part, whole_still}
+use Rattle.ksm_book.proofs.Reached.{agrees, comes_as, comes_own}
 use Rattle.ksm_book.proofs.Walked.{begins_walk, less_room, walk_ends, walks_on}
 use Rattle.std.proofs.Common.{refl, rules, sym, ◌∙◌}
 use Rattle.ksm_book.proofs.state.State.pass_over_due.Goals as goal
@@ -22,7 +23,7 @@ pub loop-spot-preserved : goal.loop-spot-preserved
 loop-spot-preserved c =
     let walking = c.loop-spot.invariant.0 in
     let first = c.in-Some.ensures in (
-      walks_on visits_due walking _ first.1 (rests_between _ walking c.loop-spot.invariant.1 _ first) refl
+      walks_on visits_due walking _ first.1 (rests_due _ walking c.loop-spot.invariant.1 (λ q. comes_before q _) first.2) refl
           c.in-Ok.ensures.comes,
       c.in-Ok.ensures.due,
       c.visit_due.ensures.ready,
@@ -37,9 +38,10 @@ pub returns-clause-visited : goal.returns-clause-visited
 returns-clause-visited c =
     let v = c.args.self.now in
     let walking = c.loop-spot.invariant.0 in
-    let rest = rests_behind _ walking c.loop-spot.invariant.1 c.in_default.ensures in
+    let rest = rests_due _ walking c.loop-spot.invariant.1 (up_to None) (λ k d lt after. absurd (grind (arith, c.in_default.ensures k d lt))) in
     record {
-      comes = whole_comes v walking.began c.requires.start _ (comes_as c.loop-spot.self (walk_ends visits_due walking rest) walking.comes);
+      comes = comes_as c.loop-spot.self (agrees v (λ _ deed _. whole_part v.state deed walking.began c.requires.start))
+          (comes_as c.loop-spot.self (walk_ends visits_due walking rest) walking.comes);
       still = λ quiet. whole_still v walking.began c.requires.start
           (subst (AreDue v.state) (c.is_empty-quiet.ensures quiet) c.requires.due);
     }

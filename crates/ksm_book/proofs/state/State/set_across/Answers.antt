@@ -1,13 +1,8 @@
-use Rattle.ksm_book.proofs.Names.{All, All-map, arith, Done, false, get_or, inr, IsCarried, IsLaid, ne_eqb, no_dup_lives, none_shared, Ok, PageState, PagesView, refl, seen, SetAcross, settled_state, subst, sym, view_of}
+use Rattle.ksm_book.proofs.Names.{All, All-map, arith, Done, false, inr, IsCarried, IsLaid, ne_eqb, no_dup_lives, none_shared, Ok, PagesView, refl, seen, SetAcross, subst, sym, view_of}
 use Rattle.ksm_book.proofs.Names.{waiting_state, [], ◌≡◌}
 use Rattle.ksm_book.proofs.Laying.{laid_mapped, retuned}
-use Rattle.ksm_book.proofs.Sharing.{settled_lodges}
 use Rattle.ksm_book.proofs.Singles.{book, sound_carried}
 use Rattle.ksm_book.proofs.state.State.set_across.Goals as goal
-
--- a settled state is not Waiting
-settled_still : (state : PageState) → waiting_state (settled_state state) ≡ false
-settled_still state = grind arith
 
 -- no dup had items, so none is left
 none_left : (c : goal.After-set_knobs) → c.settle_all.new.self.dups ≡ []
@@ -18,7 +13,7 @@ none_left c =
 
 pub set_knobs-requires : goal.set_knobs-requires
 set_knobs-requires c = inr (subst (λ (p : PagesView). All (λ r. waiting_state r.state ≡ false) p.rows) (sym c.settle_all.ensures)
-    (All-map (λ r. waiting_state r.state ≡ false) _ _ (λ i d lt. settled_still (get_or c.drop_stale.new.pages.rows i d).state)))
+    (All-map (λ r. waiting_state r.state ≡ false) _ _ (grind arith)))
 
 pub invariant_of-self : goal.invariant_of-self
 invariant_of-self c =
@@ -26,7 +21,7 @@ invariant_of-self c =
     let did : IsCarried (view_of c.args.self.now) (book (seen c.set_knobs.new.self) c.drop_stale.new.keeper s.cursor s.passes)
     (SetAcross c.args.across) (Ok Done) = grind arith in
     let there = subst (λ (p : PagesView). IsLaid p c.drop_stale.new.keeper) (sym c.settle_all.ensures)
-    (laid_mapped c.drop_stale.ensures.laid _ (λ r. refl) (λ i d lt. settled_lodges (get_or c.drop_stale.new.pages.rows i d))) in (
+    (laid_mapped c.drop_stale.ensures.laid _ (λ r. refl) (grind arith)) in (
       sound_carried {v = view_of c.args.self.now} (rw (← c.self.view_is) c.self.invariant.0) did,
       rw c.set_knobs.ensures (retuned (inr (none_left c)) there),
     )

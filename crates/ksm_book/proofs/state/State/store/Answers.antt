@@ -1,12 +1,12 @@
-use Rattle.ksm_book.proofs.Names.{ap, arith, Done, find_all, is_some, length, Ok, PAGE_WORDS, refl, rules, seen, Store, sym, ◌<◌, ◌∙◌, ◌≡◌}
-use Rattle.ksm_book.proofs.Laying.{has_frame}
+use Rattle.ksm_book.proofs.Names.{arith, Done, find_all, length, Ok, PAGE_WORDS, refl, rules, seen, Store, sym, ◌<◌, ◌∙◌, ◌≡◌}
+use Rattle.ksm_book.proofs.Laying.{served_at}
 use Rattle.ksm_book.proofs.Singles.{carried_so, Carries, found_resettled, own_ready, row_held, lawful, store_copied, store_written}
 use Rattle.ksm_book.proofs.state.State.store.Goals as goal
 
 pub known_frame-frame-requires : goal.known_frame-frame-requires
 known_frame-frame-requires c =
-    let f = has_frame c.self.invariant.1 c.in-Some.ensures.found (sym c.in-Some.ensures.shared ∙ c.if-held.false) in
-    ap is_some (c.in-Some.ensures.frame ∙ f.1)
+    let served = served_at c.self.invariant.1.placed _ c.in-Some.ensures.row c.in-Some.ensures.found in
+    grind (arith, c.in-Some.ensures.shared, c.in-Some.ensures.frame, c.if-held.false)
 
 pub write-requires : goal.write-requires
 write-requires c =

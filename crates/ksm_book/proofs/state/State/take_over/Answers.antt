@@ -1,4 +1,4 @@
-use Rattle.ksm_book.proofs.Names.{added, ap, BookValue, BookView, change_row, IsSound, row_at, settled, sym, view_of, visit, with_rows, ◌∙◌, ◌≡◌}
+use Rattle.ksm_book.proofs.Names.{ap, BookValue, BookView, change_row, IsSound, row_at, settled, sym, view_of, with_rows, ◌∙◌, ◌≡◌}
 use Rattle.std.proofs.lemmas.Option.{none-some}
 use Rattle.ksm_tree.proofs.Numbers.{on_err}
 use Rattle.ksm_book.proofs.TakingOver.{other_alone, taken_comes, taken_leaves, taken_refused, waits_at}

@@ -1,4 +1,4 @@
-use Rattle.ksm_book.proofs.Names.{ap, BookValue, FindsAt, IsDueNoMore, refl, seen, state_of, subst, true, view_of, ◌≡◌}
+use Rattle.ksm_book.proofs.Names.{ap, BookValue, FindsAt, IsDueNoMore, refl, seen, subst, true, view_of, ◌≡◌}
 use Rattle.std.specs.Prelude.{IfOk}
 use Rattle.ksm_book.specs.Scanned.{is_quiet}
 use Rattle.ksm_pages.specs.declared.pages.Find.TheVariants as finds
@@ -38,9 +38,7 @@ returns-in-Nothing-clause-refused c =
 
 pub returns-in-Gone-clause-due : goal.returns-in-Gone-clause-due
 returns-in-Gone-clause-due c = λ _.
-    let s = c.self.inside in
-    subst (λ (v : BookValue). IsDueNoMore c.args.spot.page v.state (state_of (seen c.glance.new.self) s.cursor s.passes)) c.self.view_is
-    (gone_due (seen s.pages) (seen c.glance.new.self) s.cursor s.passes _ c.self.invariant.0.rows_rise (c.glance.ensures.gone c.in-Gone.is))
+    gone_due _ _ c.self.invariant (ap view_of c.self.view_is) (c.glance.ensures.gone c.in-Gone.is)
 
 pub returns-in-Waits-clause-due : goal.returns-in-Waits-clause-due
 returns-in-Waits-clause-due c = λ _. waits_due (met (goal.at.returns-in-Waits-clause-due c).In-Waits)

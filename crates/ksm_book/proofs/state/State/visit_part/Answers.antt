@@ -1,4 +1,4 @@
-use Rattle.ksm_book.proofs.Names.{ap, AreDue, arith, begun, DueView, part_visited, pass_begun, StopsInPart, subst, sym, true, visited, ◌∙◌}
+use Rattle.ksm_book.proofs.Names.{ap, AreDue, arith, DueView, part_visited, pass_begun, StopsInPart, subst, sym, ◌∙◌}
 use Rattle.ksm_book.proofs.DueKept.{more_due}
 use Rattle.ksm_book.proofs.Folded.{still_on}
 use Rattle.ksm_book.proofs.Reached.{comes_own, comes_to}

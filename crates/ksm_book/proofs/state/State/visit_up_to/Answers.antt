@@ -1,9 +1,9 @@
-use Rattle.ksm_book.proofs.Names.{and_parts, arith, BookValue, GuestPage, IsDueNoMore, IsStill, None, Option, page, subst, sym, true, visit, visited, ◌∙◌, ◌≡◌}
+use Rattle.ksm_book.proofs.Names.{and_parts, arith, BookValue, comes_before, GuestPage, IsDueNoMore, IsStill, None, Option, subst, sym, true, ◌∙◌, ◌≡◌}
 use Rattle.std.proofs.Common.{rules}
-use Rattle.ksm_book.specs.Scanned.{FindsUpTo, is_quiet}
+use Rattle.ksm_book.specs.Scanned.{FindsUpTo, is_quiet, up_to}
 use Rattle.ksm_book.proofs.PagesAhead.{has_filter}
 use Rattle.ksm_book.proofs.Reached.{comes_as, comes_own, comes_to}
-use Rattle.ksm_book.proofs.Walked.{before_it, begins_still, begins_walk, due_begins, due_walks, is_ahead, less_room, rests_before, rests_up_to, still_walks, visits_page, walk_ends, walks_on}
+use Rattle.ksm_book.proofs.Walked.{before_it, begins_still, begins_walk, due_begins, due_walks, is_ahead, less_room, rests_where, still_walks, visits_page, walk_ends, walks_on}
 use Rattle.ksm_book.proofs.state.State.visit_up_to.Goals as goal
 
 pub loop-spot-init : goal.loop-spot-init
@@ -27,10 +27,12 @@ loop-spot-preserved c =
     let walking = c.loop-spot.invariant.0 in
     let next = c.in-Some.ensures.next in
     let kept = c.in-Some.ensures.kept in
-    let both = λ (quiet : c.and-made.result.quiet ≡ true). and_parts c.loop-spot.made.quiet (is_quiet c.in-Ok.visited) (sym c.and-made.ensures ∙ quiet) in (
-      walks_on visits_page walking page next.1.0 (rests_before _ _ _ next.1) next.0
+    let rests = rests_where _ _ (λ q. comes_before q page) next.1.1 in
+    let both = λ (quiet : c.and-made.result.quiet ≡ true).
+    and_parts c.loop-spot.made.quiet (is_quiet c.in-Ok.visited) (sym c.and-made.ensures ∙ quiet) in (
+      walks_on visits_page walking page next.1.0 rests next.0
           (rw kept at c.in-Ok.ensures.comes),
-      λ quiet. still_walks visits_page walking page next.1.0 (rests_before _ _ _ next.1) (c.loop-spot.invariant.1 (both quiet).0)
+      λ quiet. still_walks visits_page walking page next.1.0 rests (c.loop-spot.invariant.1 (both quiet).0)
           (rw kept at (c.in-Ok.ensures.quiet (both quiet).1)),
       λ quiet none. due_walks c.loop-spot.self.state _ _ _ c.visit.new.self.state next.1
           (subst (λ (v : BookValue). IsDueNoMore page v.state c.visit.new.self.state) kept (c.in-Ok.ensures.due (both quiet).1)) (c.loop-spot.invariant.2 (both quiet).0 none),
@@ -41,19 +43,20 @@ returns-in-Err-clause-stopped c =
     let page = c.in-Some.spot.page in
     let walking = c.loop-spot.invariant.0 in
     let next = c.in-Some.ensures.next in
+    let rests = rests_where _ _ (λ q. comes_before q page) next.1.1 in
     let stays = rw c.in-Some.ensures.kept at c.in-Err.ensures.refused in
     record {
       within = next.0;
-      ahead = is_ahead visits_page walking page next.1.0 (rests_before _ _ _ next.1)
+      ahead = is_ahead visits_page walking page next.1.0 rests
           (grind (arith, comes_to c.loop-spot.self c.visit.new.self (λ s. s) stays, c.in-Err.ensures.refused_row));
-      comes = comes_as c.visit.new.self (before_it visits_page walking page next.1.0 (rests_before _ _ _ next.1))
+      comes = comes_as c.visit.new.self (before_it visits_page walking page next.1.0 rests)
           (λ from s before. stays from _ (walking.comes from s before));
     }
 
 pub returns-clause-visited : goal.returns-clause-visited
 returns-clause-visited c =
     let walking = c.loop-spot.invariant.0 in
-    let ends = walk_ends visits_page walking (rests_up_to _ _ _ c.in_default.ensures.next) in
+    let ends = walk_ends visits_page walking (rests_where _ _ (up_to c.args.last) c.in_default.ensures.next) in
     rw (c.drop_over.ensures ∙ c.in_default.ensures.kept) (record {
       comes = comes_as c.loop-spot.self ends walking.comes;
       still = λ quiet from s before. subst (IsStill s) (ends.same from s before) (c.loop-spot.invariant.1 quiet from s before);
