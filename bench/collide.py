@@ -1,6 +1,6 @@
 """Picks pages and contents that collide in a map of hashes with a fixed seed: the one that the kit's maps have where they are
 given none. In a map whose seed comes from outside they are as good as any others. Beside these it picks pages of one slot in
-ksmbook's own table of keys (ksm_pages/src/slot.rt)."""
+ksmbook's own table of keys (ksm_pages/src/slot.rt), and contents of one place in its unstable tree."""
 
 import functools
 import itertools
@@ -47,5 +47,17 @@ def contents(count):
     """So many contents with one number for their hash, each with its digits."""
     words = talk.page_words()
     for first in range(1, count + 1):
-        page = [first, -first * DIGEST_FACTOR % WORD] + [0] * (words - 2)
-        yield b"".join(word.to_bytes(8, "little") for word in page).hex()
+        yield digits([first, -first * DIGEST_FACTOR % WORD] + [0] * (words - 2))
+
+
+def contents_in_a_place(count):
+    """So many contents with one digest in ksmbook's unstable tree (ksm_pages/src/unstable.rt), each with its digits."""
+    words = talk.page_words()
+    for first in range(1, count + 1):
+        mixed = first * DIGEST_FACTOR % WORD
+        yield digits([first, -((mixed << 32) + (mixed >> 32)) % WORD] + [0] * (words - 2))
+
+
+def digits(page):
+    """The digits of a page's words."""
+    return b"".join(word.to_bytes(8, "little") for word in page).hex()

@@ -642,3 +642,8 @@ def contents_at_random(script):
 def contents_that_collide(script):
     """The same with contents of one hash."""
     return passes_over(script, list(collide.contents(script.pages)))
+
+
+def contents_in_a_place(script):
+    """The same with contents of one place in the unstable tree, so that all but a few stand in its map."""
+    return passes_over(script, list(collide.contents_in_a_place(script.pages)))

@@ -66,6 +66,7 @@ WORKS = {
     "pages_in_a_slot": Work(workload.pages_in_a_slot, 5_000, 1 / 2, beside=workload.pages_at_random),
     "guests_downward": Work(workload.guests_downward, 325, 1 / 2.5, beside=workload.guests_upward),
     "contents_collide": Work(workload.contents_that_collide, 50, 1 / 2, beside=workload.contents_at_random),
+    "contents_in_a_place": Work(workload.contents_in_a_place, 50, 1 / 2, beside=workload.contents_at_random),
 }
 
 
