@@ -1,4 +1,5 @@
-//! The pages: the rows, the dups into which rows are merged, each with its frame, and the knobs. Each call tells a change to all of them.
+//! The pages: the rows, the dups into which rows are merged, each with its frame, and the knobs. Each call tells a
+//! change to all of them.
 //!
 //! A page is named by a `Spot`, whose key is a guess that no contract reads; a change is told by the page. What is read
 //! of pages is in `reads.rt`, what commands change in `changes.rt`, what visits find and change in `visited.rt`, which

@@ -1,8 +1,8 @@
 //! A row as it is kept, and how it is found.
 //!
-//! The state of a row is kept as a kind and a number. A row with a frame of its own waits exactly where the unstable tree
-//! leads to it and its number is that of the pass that goes on: so when a pass begins and none waits any more, one number
-//! grows, and no row is written.
+//! The state of a row is kept as a kind and a number. A row with a frame of its own waits exactly where the unstable
+//! tree leads to it and its number is that of the pass that goes on: so when a pass begins and none waits any more,
+//! one number grows, and no row is written.
 
 ghost use Rattle.std.specs.Prelude.{◌≡◌, ◌&&◌, bytes_eq};
 ghost use Rattle.ksm_pages.specs.Held.{beside as no_longer_alone, forgotten, frame_of, held_of, is_in as is_in_tree};

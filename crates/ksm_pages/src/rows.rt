@@ -2,8 +2,8 @@
 //! how many there are of each state.
 //!
 //! A key is told as a guess, or comes from a table of guesses by slots of pages (`slot.rt`). Where it is right no
-//! search is made; where it is wrong the page is searched for in the order. `settle_all` writes no row. `unshare_all` and
-//! `set_by_node` walk over all.
+//! search is made; where it is wrong the page is searched for in the order. `settle_all` writes no row. `unshare_all`
+//! and `set_by_node` walk over all.
 
 ghost use Rattle.std.specs.Prelude.{◌≡◌, ◌⊎◌, ◌≤◌, ◌<◌, ◌^◌, true, false, [], None, Some, All, IfErr, IfOk, IfSome};
 ghost use Rattle.std.specs.Prelude.{MatchOption, OnErr, OnOk, ◌==◌, count_by, filter, find, if◌then◌else◌, is_some};
@@ -127,8 +127,8 @@ fn in_tree_by(group: Option<u32>) -> InTree
     }
 }
 
-/// The unstable tree leads to the entry under a key, which is about to say so, if it does not say so yet. The one fault is
-/// `Memory`, and then the tree leads where it did.
+/// The unstable tree leads to the entry under a key, which is about to say so, if it does not say so yet. The one
+/// fault is `Memory`, and then the tree leads where it did.
 #[inline(always)]
 fn lead_to(
     unstable: &mut UnstableTree,
@@ -485,9 +485,9 @@ impl Rows {
         }
     }
 
-    /// A row with a frame of its own waits, and the unstable tree leads to it, where it leads to no other row of the tree
-    /// and bytes. The row remembers the number of its group of dups, or that there is no dup of its content. The one fault
-    /// is `Memory`, and then nothing changes.
+    /// A row with a frame of its own waits, and the unstable tree leads to it, where it leads to no other row of the
+    /// tree and bytes. The row remembers the number of its group of dups, or that there is no dup of its content. The
+    /// one fault is `Memory`, and then nothing changes.
     #[inline(always)]
     pub fn enter(&mut self, spot: Spot, group: Option<u32>) -> Result<(), Fault>
         requires own { IfSome (held_at spot.page self.old.held) (λ h. shared_state h.row.state ≡ false) }
@@ -529,8 +529,8 @@ impl Rows {
         self.tally.change(old, PageState::Waiting);
     }
 
-    /// Each node has an unstable tree of its own, or all have one; where that is another than before, the tree leads to no
-    /// row.
+    /// Each node has an unstable tree of its own, or all have one; where that is another than before, the tree leads
+    /// to no row.
     pub fn set_by_node(&mut self, by_node: bool)
         ensures { ((by_node ≡ self.old.by_node) × (self.new ≡ self.old))
             ⊎ ((by_node ≡ not self.old.by_node) × (self.new ≡ record self.old {
