@@ -1,7 +1,7 @@
 //! Two callers with one book, each in a thread of its own: an example for programs in Rattle (the crate's README).
 //!
-//! Each registers eight pages, all of which read the same. One of them then has them merged, looks the merged frame up, and asks for the
-//! counters; neither of these two takes the lock. What it prints is the same in every schedule.
+//! Each registers eight pages, all of which read the same. One of them then has them merged, looks the merged frame up,
+//! and asks for the counters; neither of these two takes the lock. What it prints is the same in every schedule.
 #![tactic(auto)]
 
 ghost use Rattle.std.specs.Prelude.{◌≡◌, ◌<◌, All, vec_len};

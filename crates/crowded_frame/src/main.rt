@@ -1,9 +1,10 @@
 //! Sixteen passes against a keeper that spends the lives of one frame: what `bench/crowd` runs for long.
 //!
-//! `crowded_frame TRIES LOOKUPS`. Each pass makes so many lookups of one place in a thread of its own, of at most so many exchanges, and reads
-//! all words of each hold, again and again. Meanwhile the keeper makes as many rounds for all passes together: it gives up the frame, reaps it
-//! once, and where nobody held it gives it its next life and publishes it again. What it prints is how many lookups were held, in how many
-//! holds a word was not of the life held, and how many lives the frame had.
+//! `crowded_frame TRIES LOOKUPS`. Each pass makes so many lookups of one place in a thread of its own, of at most so
+//! many exchanges, and reads all words of each hold, again and again. Meanwhile the keeper makes as many rounds for all
+//! passes together: it gives up the frame, reaps it once, and where nobody held it gives it its next life and publishes
+//! it again. What it prints is how many lookups were held, in how many holds a word was not of the life held, and how
+//! many lives the frame had.
 #![tactic(auto)]
 
 mod keeper;

@@ -1,7 +1,8 @@
-//! What a caller of the frame table knows of every moment of it, from the table's public clauses alone: by the rule that the
-//! type of its words names, and by the seats in the caller's hand.
+//! What a caller of the frame table knows of every moment of it, from the table's public clauses alone: by the rule
+//! that the type of its words names, and by the seats in the caller's hand.
 //!
-//! Of a moment it is known that the rule of that type holds, and of a seat in hand that its view is among the views then.
+//! Of a moment it is known that the rule of that type holds, and of a seat in hand that its view is among the views
+//! then.
 
 ghost use Rattle.std.specs.Prelude.{◌≡◌, ℕ};
 ghost use Rattle.atomic_table.specs.Table.{Seen};
@@ -56,8 +57,8 @@ pub fn seat_of_the_keeper<'a>(table: &FrameTable, keeper: &'a Keeper) -> &'a Sea
     keeper.seat()
 }
 
-/// At every moment each place that the keeper in hand knows as live is found: it is not empty, and its frame is in the life named, with a
-/// reference.
+/// At every moment each place that the keeper in hand knows as live is found: it is not empty, and its frame is in the
+/// life named, with a reference.
 pub fn keeper_of_live_places<'a>(table: &FrameTable, keeper: &'a Keeper) -> &'a Seat<(), View>
     requires own { keeper.now.table ≡ table.now }
     ensures own { result.now.table_id ≡ table.now.id }

@@ -42,7 +42,8 @@ pub enum KeeperStep {
     Sub(u32),
     /// Stores the frame and its generation to the place: lookups find it there from now on.
     Publish { place: u32, frame: u32 },
-    /// Stores the frame and its generation to a place that names another: lookups find the new frame there from now on, and never nothing.
+    /// Stores the frame and its generation to a place that names another: lookups find the new frame there from now on,
+    /// and never nothing.
     Replace { place: u32, frame: u32 },
     /// Stores 0 to this place: it names nothing.
     Withdraw(u32),

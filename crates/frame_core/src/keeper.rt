@@ -12,8 +12,8 @@ use crate::seat::Life;
 use ksm_base::{MOST_REFERENCES, PAGE_WORDS};
 
 impl Machine {
-    /// Whether the place names a frame that is stable in the life named. Such a place is only replaced, by another frame in its life: its
-    /// dup lives.
+    /// Whether the place names a frame that is stable in the life named. Such a place is only replaced, by another
+    /// frame in its life: its dup lives.
     fn is_live(&self, place: Option<Life>) -> bool
         ensures { result ≡ is_live self.now.state.ledger place }
     {

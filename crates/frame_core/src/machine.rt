@@ -1,4 +1,5 @@
-//! A state of the core in vectors, and one step of it: where it is allowed, the word that it finds, and what it changes by that.
+//! A state of the core in vectors, and one step of it: where it is allowed, the word that it finds, and what it changes
+//! by that.
 ghost use Rattle.std.specs.Prelude.{◌≡◌, ◌<◌, length, slice_get, IfOk};
 ghost use Rattle.ksm_base.specs.Values.{IsShape, frames_of};
 ghost use Rattle.frame_core.specs.Bounds.{FrameFits, Fits};

@@ -14,8 +14,8 @@ ghost use Rattle.frame_core.specs.Steps.{step};
 ghost use Rattle.frame_core.specs.Trace.{run_of, life_of, holders, named_word, place_loaded, words_read, given_since, HoldsRightly};
 ghost use Rattle.frame_core.specs.Worked.{least, trace_of, IsRefused, IsRefusedOfTwo, opened, dying, published, begins, two_lives, held, taken, and_then, taken_and_writable, two_frames, named_and_private, given_up_and_private, replaced, with_two, loads, live_with, found_unreferenced};
 
-/// Two lives in one word: the exchange fails though the count is the one that was loaded, so nobody holds the frame in its second life,
-/// which was named nowhere.
+/// Two lives in one word: the exchange fails though the count is the one that was loaded, so nobody holds the frame in
+/// its second life, which was named nowhere.
 pub fn two_lives_in_one_word()
     ensures life { life_of 0 (trace_of two_lives) ≡ 2 }
     ensures holders { holders 1 0 (trace_of two_lives) ≡ [] }
@@ -25,7 +25,8 @@ pub fn two_lives_in_one_word()
     ensures unread { words_read 0 (trace_of two_lives) ≡ [] }
 {}
 
-/// A frame that is held is not given again: the raise finds a holder and is not allowed, and the word that the holder read is the one named.
+/// A frame that is held is not given again: the raise finds a holder and is not allowed, and the word that the holder
+/// read is the one named.
 pub fn a_held_frame_is_not_given()
     ensures before { holders 1 0 (trace_of published) ≡ [] }
     ensures life { life_of 0 (trace_of held) ≡ 1 }
@@ -66,7 +67,8 @@ pub fn frames_that_refuse_the_keeper()
     ensures word { IsRefused [] (Keeper (Word 0 0)) × IsRefused (Keeper (Raise 0) ∷ []) (Keeper (Word 0 0)) }
 {}
 
-/// What the keeper may not do at a place: name a frame that is not private, or change one that names a stable frame in its present life.
+/// What the keeper may not do at a place: name a frame that is not private, or change one that names a stable frame in
+/// its present life.
 pub fn places_that_refuse_the_keeper()
     ensures unopened { IsRefused [] (Keeper (Publish 0 0)) × IsRefused (Keeper (Raise 0) ∷ []) (Keeper (Publish 0 0)) }
     ensures dying { IsRefused dying (Keeper (Publish 0 0)) }
@@ -75,8 +77,8 @@ pub fn places_that_refuse_the_keeper()
     ensures empty_beside { ¬ IsRefusedOfTwo named_and_private (Keeper (Publish 1 1)) }
 {}
 
-/// What the keeper may not replace: a place or a frame outside the table, by a frame that is not private, at a place that names nothing or a
-/// frame that was given up. A place that is live it may.
+/// What the keeper may not replace: a place or a frame outside the table, by a frame that is not private, at a place
+/// that names nothing or a frame that was given up. A place that is live it may.
 pub fn places_that_are_not_replaced()
     ensures place { IsRefusedOfTwo named_and_private (Keeper (Replace 2 1)) }
     ensures frame { IsRefusedOfTwo named_and_private (Keeper (Replace 0 2)) }
@@ -87,7 +89,8 @@ pub fn places_that_are_not_replaced()
     ensures live { ¬ IsRefusedOfTwo named_and_private (Keeper (Replace 0 1)) }
 {}
 
-/// A place that is replaced names the new frame, which is stable with the words stored to it; the old frame stays as it was, and is named no more.
+/// A place that is replaced names the new frame, which is stable with the words stored to it; the old frame stays as it
+/// was, and is named no more.
 pub fn a_place_that_is_replaced()
     ensures named { named_at (with_two replaced).state.ledger 0 ≡ Some record { frame = 1; generation = 1 } }
     ensures stable { (frame_at (with_two replaced).state.ledger 1).kind ≡ Stable }
@@ -116,7 +119,8 @@ pub fn readers_that_are_refused()
     ensures held { IsRefused taken (Reader 0 (LoadPlace 0)) × IsRefused taken (Reader 0 LoadFrame) × IsRefused taken (Reader 0 Exchange) }
 {}
 
-/// Which steps give up what a place names: the last reference on its frame, or all at once; not one of two, and not those on another frame.
+/// Which steps give up what a place names: the last reference on its frame, or all at once; not one of two, and not
+/// those on another frame.
 pub fn steps_that_give_a_place_up()
     ensures live { LiveAt (with_two named_and_private).state.ledger 0 × ¬ LiveAt (with_two named_and_private).state.ledger 1 × ¬ LiveAt (with_two given_up_and_private).state.ledger 0 }
     ensures replaced { LiveAt (with_two replaced).state.ledger 0 }
@@ -135,7 +139,8 @@ pub fn lives_found_gone()
     ensures later { found_gone (loads COUNT_SPAN ++ (LoadPlace 0, 2 * PLACE_SPAN) ∷ (LoadFrame, COUNT_SPAN) ∷ []) ≡ 2 * PLACE_SPAN ∷ PLACE_SPAN ∷ [] }
 {}
 
-/// What would not be found at a live place: a word that is 0, a frame without a reference, a life that a lookup found gone.
+/// What would not be found at a live place: a word that is 0, a frame without a reference, a life that a lookup found
+/// gone.
 pub fn live_places_that_are_not_found()
     ensures empty { ¬ LivePlacesAreFound (live_with 0 2 []) }
     ensures unreferenced { ¬ LivePlacesAreFound (live_with 1 0 []) }

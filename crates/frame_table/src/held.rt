@@ -13,7 +13,8 @@ use crate::view::View;
 use atomic_table::Seat;
 use std::marker::Model;
 
-/// A reader's seat with a reference on a frame, in the life that its place named. While it stands, that life does not end.
+/// A reader's seat with a reference on a frame, in the life that its place named. While it stands, that life does not
+/// end.
 ///
 /// It must be spent, by `leave`.
 pub struct Held {
@@ -73,8 +74,8 @@ impl Held {
         self.generation
     }
 
-    /// The seat of the pass that holds. It is of the hold's table, and its view, which is among the views of that table's
-    /// rule, has this hold and its log.
+    /// The seat of the pass that holds. It is of the hold's table, and its view, which is among the views of that
+    /// table's rule, has this hold and its log.
     pub fn seat(&self) -> &Seat<(), View>
         ensures own { result.now.table_id ≡ self.now.table.id }
         ensures view { IsIn self.now.table.shape (held (aim_at self.now.place self.now.frame self.now.generation) self.now.known) result.now.me × (log_in result.now.me ≡ self.now.log) }

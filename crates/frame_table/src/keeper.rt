@@ -1,4 +1,5 @@
-//! The keeper gives frames, names them at places, and takes them back. Each call that changes something is one atomic step (own).
+//! The keeper gives frames, names them at places, and takes them back. Each call that changes something is one atomic
+//! step (own).
 ghost use Rattle.std.specs.Prelude.{◌≡◌, ◌<◌, ℕ, ◌↔◌, IsTrue, List, length, map, slice_index, slice_set};
 ghost use Rattle.frame_core.specs.declared.event.KeeperStep.TheVariants.{Reap, Put, Raise, Open, Add, Sub, Publish, Replace, Withdraw, Freeze, Word};
 ghost use Rattle.frame_core.specs.Ledger.{frame_at};
@@ -149,8 +150,8 @@ impl Keeper {
         write_down(&mut self.uses, &mut self.generations, frame, note);
     }
 
-    /// Loads the frame word of a dying frame, and answers whether its count was 0. If so, the frame is Free, or Retired after its last life; else it
-    /// stays Dying, since a reader still has a reference.
+    /// Loads the frame word of a dying frame, and answers whether its count was 0. If so, the frame is Free, or Retired
+    /// after its last life; else it stays Dying, since a reader still has a reference.
     pub fn reap(&mut self, table: &FrameTable, frame: u32) -> bool
         requires own { self.old.table ≡ table.now }
         requires may { May self.old (Reap frame) }
@@ -205,8 +206,9 @@ impl Keeper {
         write_down(&mut self.uses, &mut self.generations, frame, note);
     }
 
-    /// Names a private frame, in its life, at a place that is empty or names a frame that is not Stable in the life named. The frame is
-    /// Stable then: lookups of the place may hold it, and its words stay as they are until its life ends.
+    /// Names a private frame, in its life, at a place that is empty or names a frame that is not Stable in the life
+    /// named. The frame is Stable then: lookups of the place may hold it, and its words stay as they are until its life
+    /// ends.
     pub fn publish(&mut self, table: &FrameTable, place: u32, frame: u32)
         requires own { self.old.table ≡ table.now }
         requires may { May self.old (Publish place frame) }
@@ -222,9 +224,9 @@ impl Keeper {
         write_down(&mut self.uses, &mut self.generations, frame, note);
     }
 
-    /// Names a private frame, in its life, at a place that names another which is Stable in the life named: by one store, so a lookup of
-    /// the place finds the one or the other, never nothing. The new frame is Stable then. The old one stays Stable, with the references
-    /// that the keeper has on it, and is named there no more.
+    /// Names a private frame, in its life, at a place that names another which is Stable in the life named: by one
+    /// store, so a lookup of the place finds the one or the other, never nothing. The new frame is Stable then. The old
+    /// one stays Stable, with the references that the keeper has on it, and is named there no more.
     pub fn replace(&mut self, table: &FrameTable, place: u32, frame: u32)
         requires own { self.old.table ≡ table.now }
         requires may { May self.old (Replace place frame) }
@@ -249,8 +251,8 @@ impl Keeper {
         table.withdraw_at(&mut self.seat, place);
     }
 
-    /// Takes all of the keeper's references on a stable frame back, if nobody else has one, and answers whether it did. If so, the frame is
-    /// Dying; else nothing has changed.
+    /// Takes all of the keeper's references on a stable frame back, if nobody else has one, and answers whether it did.
+    /// If so, the frame is Dying; else nothing has changed.
     pub fn freeze(&mut self, table: &FrameTable, frame: u32) -> bool
         requires own { self.old.table ≡ table.now }
         requires may { May self.old (Freeze frame) }
@@ -286,8 +288,8 @@ impl Keeper {
         table.word_at(&mut self.seat, frame, i)
     }
 
-    /// Ends the keeper where its table is not closed, as where passes are in other hands for good: its notes are freed, and no step of a keeper
-    /// is made any more. The table and its words stay as they are.
+    /// Ends the keeper where its table is not closed, as where passes are in other hands for good: its notes are freed,
+    /// and no step of a keeper is made any more. The table and its words stay as they are.
     pub fn retire(self) {
         let Keeper {
             seat,

@@ -1,7 +1,7 @@
 //! The frame table that threads share: its words, a seat for the keeper, and one for each pass.
 //!
-//! Each call is a few atomic steps of one seat. Between any two steps of any threads the words and what the seats know are a state of the
-//! frame core that keeps its rule (own).
+//! Each call is a few atomic steps of one seat. Between any two steps of any threads the words and what the seats know
+//! are a state of the frame core that keeps its rule (own).
 #![tactic(auto)]
 
 mod closed;

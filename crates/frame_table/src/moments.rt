@@ -1,5 +1,5 @@
-//! Worked moments of a table of one frame, one place and one pass: lawful ones, ones that are not safe, each by one clause, and entries that
-//! lie.
+//! Worked moments of a table of one frame, one place and one pass: lawful ones, ones that are not safe, each by one
+//! clause, and entries that lie.
 ghost use Rattle.std.specs.Prelude.{ℕ, [], ◌∷◌, take};
 ghost use Rattle.frame_core.specs.Trace.{run_of};
 ghost use Rattle.frame_core.specs.Safe.{IsSafe, GivenUnheld};
@@ -13,7 +13,8 @@ ghost use Rattle.frame_table.specs.Rule.{Holds};
 ghost use Rattle.frame_table.specs.Running.{RunsSafely};
 ghost use Rattle.frame_table.specs.Truth.{Moment, IsOpen, IsTrueEntry, IsStep};
 
-/// The moment of the opening keeps the rule and is open; so is the moment at which the pass has loaded its place, and tells what it found there.
+/// The moment of the opening keeps the rule and is open; so is the moment at which the pass has loaded its place, and
+/// tells what it found there.
 pub fn moments_that_are_lawful()
     ensures opened { Holds one opening }
     ensures loaded { Holds one (loaded 0) }

@@ -1,4 +1,5 @@
-//! Permits for exchanges. A lookup has as many as the shape's `tries`, and each exchange spends one, so it makes no more.
+//! Permits for exchanges. A lookup has as many as the shape's `tries`, and each exchange spends one, so it makes no
+//! more.
 use std::marker::Model;
 
 /// One exchange that a lookup may make. This file alone makes permits, and none is made twice.

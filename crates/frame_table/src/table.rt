@@ -1,4 +1,5 @@
-//! The table and its words. Nothing else of the crate reaches the words: each step of a seat is one function here, of one operation on a word.
+//! The table and its words. Nothing else of the crate reaches the words: each step of a seat is one function here, of
+//! one operation on a word.
 ghost use Rattle.std.specs.Prelude.{◌≡◌, ℕ, ◌+◌, ◌-◌, ◌%◌, ◌^◌, ◌<◌, ◌≤◌, List, Option, Some, IfOk, IfErr, vec_len, All, ◌↔◌};
 ghost use Rattle.ksm_base.specs.declared.fault.Fault.TheVariants as fault_of;
 ghost use Rattle.ksm_base.specs.declared.limits.TheConstants.{FRAME_WORDS as frame_words, MOST_FRAMES as most_frames};
@@ -151,8 +152,8 @@ impl FrameTable {
         }
     }
 
-    /// A table with all frames free and all places empty, its keeper, and a pass for each of the shape's `passes`. The only refusal is
-    /// `Memory`; then nothing is kept.
+    /// A table with all frames free and all places empty, its keeper, and a pass for each of the shape's `passes`. The
+    /// only refusal is `Memory`; then nothing is kept.
     #[tactic(auto, using(crate::proofs::Opening::map_replicate, crate::proofs::Opening::may_begin))]
     pub fn open(alloc: Global, shape: Shape) -> Result<(FrameTable, Keeper, Vec<Pass>), Fault>
         requires { IsShape shape }
@@ -203,7 +204,8 @@ impl FrameTable {
         self.table.shared.join_seat::<GiveBack>(seat, other);
     }
 
-    /// Ends the table, with its keeper and all its passes. Nobody holds a frame then: each count is the keeper's own references.
+    /// Ends the table, with its keeper and all its passes. Nobody holds a frame then: each count is the keeper's own
+    /// references.
     pub fn close(self, keeper: Keeper, mut passes: Vec<Pass>) -> ClosedTable
         requires own { keeper.table ≡ self }
         requires all { vec_len passes ≡ self.shape.passes }
@@ -260,7 +262,8 @@ impl FrameTable {
         self.table.shared.load::<LoadFrame>(seat, word)
     }
 
-    // Raises the frame word by one, if it is still the one that was loaded. Answers the word found. It spends the permit.
+    // Raises the frame word by one, if it is still the one that was loaded. Answers the word found. It spends the
+    // permit.
     pub(crate) fn exchange(
         &self,
         seat: &mut Seat<(), View>,

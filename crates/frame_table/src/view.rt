@@ -13,8 +13,8 @@ pub struct Tally {
     pub out: u32,
 }
 
-/// What a seat knows: its part of the state, its steps, each with the word that it found, and the order of all steps of all seats up to its
-/// last one. The rule speaks of it; no value of it is made.
+/// What a seat knows: its part of the state, its steps, each with the word that it found, and the order of all steps of
+/// all seats up to its last one. The rule speaks of it; no value of it is made.
 pub enum View {
     /// The keeper's seat.
     Keeper(Shape, Ledger, Tally, LinkedList<(KeeperStep, u64)>, LinkedList<Event>),

@@ -1,4 +1,5 @@
-//! Worked lookups: logs that are a lookup of the place 1, which names the frame 0 in its life 3, and logs that are none.
+//! Worked lookups: logs that are a lookup of the place 1, which names the frame 0 in its life 3, and logs that are
+//! none.
 ghost use Rattle.std.specs.Prelude.{◌≡◌, ℕ, true, false, List, [], ◌∷◌, replicate, None, Some};
 ghost use Rattle.ksm_base.specs.declared.page.TheConstants.{PAGE_WORDS};
 ghost use Rattle.frame_core.specs.declared.event.KeeperStep.TheVariants.{Raise};

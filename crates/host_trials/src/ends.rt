@@ -12,7 +12,8 @@ use std::sync::Wait;
 use std::test::Fail;
 use std::thread::Threads;
 
-/// How the program ends at these words, this input and this room for output; what it printed; and what it said on standard error.
+/// How the program ends at these words, this input and this room for output; what it printed; and what it said on
+/// standard error.
 fn ended<T: Threads + Wait + Sync>(
     threads: &T,
     alloc: Global,
@@ -26,7 +27,8 @@ fn ended<T: Threads + Wait + Sync>(
     (outcome.status(), printed, said)
 }
 
-/// Each option is read: two nodes, of three frames each, numbered node by node; a third pass; and a frame that is retired after two lives.
+/// Each option is read: two nodes, of three frames each, numbered node by node; a third pass; and a frame that is
+/// retired after two lives.
 #[test]
 fn words_tell_the_table(rt: HostRuntime) -> Result<(), Fail> {
     const WORDS: &str = "ksmbook --nodes 2 --frames 3 --passes 3 --tries 1 --last-generation 2";
@@ -281,7 +283,8 @@ impl Write for FailsOnce {
     }
 }
 
-/// How the program ends over this input and this room for output, in blocks of so many bytes; what it sent; and what is left to read.
+/// How the program ends over this input and this room for output, in blocks of so many bytes; what it sent; and what is
+/// left to read.
 fn played_by<T: Threads + Wait + Sync, I: Read + Drop>(
     threads: &T,
     alloc: Global,
@@ -311,7 +314,8 @@ fn played_by<T: Threads + Wait + Sync, I: Read + Drop>(
     Ok((status, output.taken, reader.into_inner()))
 }
 
-/// Neither a failed read nor the end of the input is asked for twice, and the replies were sent before the input was waited for.
+/// Neither a failed read nor the end of the input is asked for twice, and the replies were sent before the input was
+/// waited for.
 #[test]
 fn the_input_is_not_asked_again(rt: HostRuntime) -> Result<(), Fail> {
     let cases = [

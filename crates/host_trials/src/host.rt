@@ -8,7 +8,8 @@ use std::fmt::Display;
 use std::io::{self, BufRead, ErrorKind, IsTerminal, Lines, Write};
 use std::rt::Env;
 
-/// What the program meets. Its output takes `room` bytes, then fails once, and would take all after that; without a room it takes all.
+/// What the program meets. Its output takes `room` bytes, then fails once, and would take all after that; without a
+/// room it takes all.
 #[derive(Drop)]
 pub struct Host<'a> {
     alloc: Global,

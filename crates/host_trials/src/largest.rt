@@ -71,7 +71,8 @@ impl Lines {
         self.add("rmap 0", pages.as_str()).map_err(Fail::from)
     }
 
-    /// Each pass holds the frame, and gives it back. Then all look up each place: one has the dup, the others are empty.
+    /// Each pass holds the frame, and gives it back. Then all look up each place: one has the dup, the others are
+    /// empty.
     fn look_up(&mut self) -> Result<(), Fail> {
         let digits = "aa".repeat(self.alloc, 64)?;
         for pass in 0..16u32 {

@@ -36,7 +36,8 @@ reg 1 1 1 dd|ok|
 unmerge 0|unmerged 0 refused 4|no frame of node 0 is free
 move 0 0 1|refused 4|no frame of node 1 is free";
 
-/// Each refusal is said behind its reply, with the number of its line and the line; and what is printed is the same where none is said.
+/// Each refusal is said behind its reply, with the number of its line and the line; and what is printed is the same
+/// where none is said.
 #[test]
 fn each_refusal_is_said(rt: HostRuntime) -> Result<(), Fail> {
     let mut script = String::new(rt.alloc());

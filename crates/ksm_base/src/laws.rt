@@ -22,8 +22,8 @@ pub fn a_refusal_keeps_the_state()
     ensures { (b : BookState) (command : Command) (fault : Fault) → after b command (Err fault) ≡ b }
 {}
 
-/// A refusal for memory is no answer that the definitions allow, so no legal journal has a command that was refused so. (A
-/// scan that memory stopped between two visits has made the first of them, and is an entry.)
+/// A refusal for memory is no answer that the definitions allow, so no legal journal has a command that was refused so.
+/// (A scan that memory stopped between two visits has made the first of them, and is an entry.)
 pub fn memory_is_no_answer()
     ensures { (b : BookState) (command : Command) → IsAnswer b command (Err Fault.Memory) → ⊥ }
 {}
@@ -61,9 +61,9 @@ pub fn each_answer_has_its_reason()
         → IsAnswer b command answer ↔ HasReason b command answer }
 {}
 
-/// A command that is answered with a reply changes what `Changes` says of it, row by row and field by field, and nothing
-/// else. Not told: what a scan makes of a row's state and flag, of the dups, the cursor and the counts; and of an
-/// unmerging that stops, which of the rows that it may let go it has let go.
+/// A command that is answered with a reply changes what `Changes` says of it, row by row and field by field, and
+/// nothing else. Not told: what a scan makes of a row's state and flag, of the dups, the cursor and the counts; and of
+/// an unmerging that stops, which of the rows that it may let go it has let go.
 pub fn each_command_changes_this_alone()
     ensures { (b : BookState) (command : Command) (reply : Reply) → IsAnswer b command (Ok reply)
         → Changes command reply b (after b command (Ok reply)) }

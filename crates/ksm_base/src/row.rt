@@ -28,7 +28,8 @@ pub struct Row {
     pub bytes: PageBytes,
     /// Whether the scan visits the page (admin-guide/mm/ksm: the area is marked mergeable).
     pub mergeable: bool,
-    /// Whether a visit found the page, and its bytes have stayed since (mm/ksm: only such pages go into the unstable tree).
+    /// Whether a visit found the page, and its bytes have stayed since (mm/ksm: only such pages go into the unstable
+    /// tree).
     pub unchanged: bool,
     /// From which frame the page is mapped.
     pub state: PageState,

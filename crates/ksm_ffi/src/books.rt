@@ -39,8 +39,8 @@ fn make_book(
     Thing::Book(bookkeeper, number).both_boxed(Thing::Home(home), alloc)
 }
 
-/// Opens a book without pages on a table of its own of these sizes at a handle, and the passes of that table at another,
-/// as a table is opened. Its journal keeps its entries, so that they can be told, or counts them alone.
+/// Opens a book without pages on a table of its own of these sizes at a handle, and the passes of that table at
+/// another, as a table is opened. Its journal keeps its entries, so that they can be told, or counts them alone.
 #[unsafe(no_mangle)]
 pub extern "C" fn ksm_book_open(
     alloc: Global,

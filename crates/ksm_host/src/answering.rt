@@ -14,8 +14,8 @@ use std::io::{BufWriter, Write};
 use std::sync::Wait;
 use std::thread::Threads;
 
-/// Answers the script that the reader holds, and sends the replies. The writer is taken apart, so that what could not be
-/// sent is let go, and not tried again. Behind `bad line` it is said why.
+/// Answers the script that the reader holds, and sends the replies. The writer is taken apart, so that what could not
+/// be sent is let go, and not tried again. Behind `bad line` it is said why.
 pub(crate) fn served<
     M: Lane<I, BufWriter<O>>,
     N: Naming,

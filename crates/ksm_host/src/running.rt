@@ -38,9 +38,10 @@ pub struct Ended<O> {
     pub output: O,
 }
 
-/// The program on a host: it reads the words and the input there, and prints the replies, or the version where the words
-/// ask for that. Audits run in the threads. Refusals are told in words too where the variable `KSMBOOK_EXPLAIN` is 1, or
-/// where it is not 0 and standard error, `errors`, is a terminal. At each status but 0 standard error says why.
+/// The program on a host: it reads the words and the input there, and prints the replies, or the version where the
+/// words ask for that. Audits run in the threads. Refusals are told in words too where the variable `KSMBOOK_EXPLAIN`
+/// is 1, or where it is not 0 and standard error, `errors`, is a terminal. At each status but 0 standard error says
+/// why.
 pub fn run_on<
     R: Env + Input + Print + Eprint + AllocGlobal,
     T: Threads + Wait + Sync,

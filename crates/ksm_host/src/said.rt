@@ -41,8 +41,8 @@ pub(crate) fn say_why<R: Eprint>(rt: &R, number: u64, line: &[u8]) {
     }
 }
 
-/// Says on standard error why the program ended before all lines had their reply, where nothing else says it. Where that
-/// takes no text, the status says it.
+/// Says on standard error why the program ended before all lines had their reply, where nothing else says it. Where
+/// that takes no text, the status says it.
 pub(crate) fn say_end<R: Eprint>(rt: &R, status: Status) {
     let why = match status {
         Status::Broken => "ksmbook: a read or a write failed\n",

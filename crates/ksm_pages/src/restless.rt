@@ -95,8 +95,8 @@ fn place_near(spots: &[Spot], guess: usize, page: GuestPage) -> usize
     place_of(spots, page)
 }
 
-/// How many of the pages do not come behind a cursor: the index of the first that does. The guess is right where the page
-/// before it stands at the cursor.
+/// How many of the pages do not come behind a cursor: the index of the first that does. The guess is right where the
+/// page before it stands at the cursor.
 #[inline(always)]
 fn place_behind(spots: &[Spot], guess: usize, cursor: Option<GuestPage>) -> usize
     requires { AreInOrder spots.now }

@@ -95,8 +95,8 @@ impl LineBuffer {
         self.len = end;
     }
 
-    /// Adds bytes up to a newline, or as many as it has room for. Tells how many it took, a newline with them, and how the
-    /// line ended with them, if it has.
+    /// Adds bytes up to a newline, or as many as it has room for. Tells how many it took, a newline with them, and how
+    /// the line ended with them, if it has.
     pub fn add(&mut self, bytes: &[u8]) -> (usize, Option<LineEnd>)
         requires plain { IsPlain self.old }
         requires room { length self.old ≤ LONGEST_LINE }
@@ -159,8 +159,8 @@ pub(crate) fn take_short<M: Lane<R, W>, R, W: Write>(reader: &mut R) -> Option<S
     Some(line)
 }
 
-/// Takes the line with a content that is next at hand, read where it lies, if it is one. Else nothing is taken, which may
-/// be of any line.
+/// Takes the line with a content that is next at hand, read where it lies, if it is one. Else nothing is taken, which
+/// may be of any line.
 #[inline(always)]
 pub(crate) fn take_page<M: Lane<R, W>, R, W: Write>(reader: &mut R) -> Option<(PageLine, PageBytes)>
     ensures taken { IfSome result

@@ -29,8 +29,8 @@ pub trait Sends<W: Write> {
         ensures failed { result ≡ false → fails writer.new };
 }
 
-/// How a run takes bytes from a reader, while a writer has the replies. Only [`Lane::wait`] may wait for the reader, and
-/// it has to be shown a writer that has nothing unsent.
+/// How a run takes bytes from a reader, while a writer has the replies. Only [`Lane::wait`] may wait for the reader,
+/// and it has to be shown a writer that has nothing unsent.
 pub trait Lane<R, W: Write>: Sends<W> {
     /// The bytes that the reader still gives, where they are known.
     ghost remaining: { R → Option (List ℕ) };

@@ -125,8 +125,8 @@ fn run_lines<M: Lane<R, W>, H: Hears<M, W>, N: Naming, T: Threads + Wait + Sync,
     Err(RunFault::Read)
 }
 
-/// Answers the next line at once, if it can be read where it lies, and nobody hears the reply; tells whether it did. Else
-/// nothing is read.
+/// Answers the next line at once, if it can be read where it lies, and nobody hears the reply; tells whether it did.
+/// Else nothing is read.
 #[inline(always)]
 fn answer_at_hand<M: Lane<R, W>, N: Naming, T: Threads + Wait + Sync, R, W: Write>(
     rt: &T,

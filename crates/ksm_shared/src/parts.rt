@@ -38,8 +38,8 @@ impl Model for Parts {
 }
 
 impl Parts {
-    /// The parts of a book of this shape, with 1 to `MOST_PASSES` callers and a reader of counters for each. The entries
-    /// of its journal are counted. Refused for memory alone; then nothing is kept.
+    /// The parts of a book of this shape, with 1 to `MOST_PASSES` callers and a reader of counters for each. The
+    /// entries of its journal are counted. Refused for memory alone; then nothing is kept.
     pub fn open(alloc: Global, shape: Shape, callers: u32) -> Result<Parts, Fault>
         requires shape { IsShape shape }
         requires callers { (1 ≤ callers) × (callers ≤ MOST_PASSES) }

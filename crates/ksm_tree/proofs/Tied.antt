@@ -10,10 +10,6 @@ pub at_written : (row : Row) (q : GuestPage) (rows : List Row) → row_at q (cha
 at_written row q [] = grind arith
 at_written row q (r ∷ rs) = grind (arith, at_written row q rs)
 
--- a write of the row of one page leaves the rows of other pages as they were
-pub at_others : (row : Row) (q : GuestPage) (rows : List Row) → same_page row.page q ≡ false → row_at q (change_row row.page (λ _. row) rows) ≡ row_at q rows
-at_others row q rows other = grind (arith, at_written)
-
 -- a change that keeps each row's page finds at a page the changed row that was found there
 pub at_mapped : (f : Row → Row) (q : GuestPage) (rows : List Row) → All (λ r. (f r).page ≡ r.page) rows → row_at q (map f rows) ≡ option_map f (row_at q rows)
 at_mapped f q [] keeps = refl

@@ -46,12 +46,12 @@ pub const FEW_PLACES: usize = 1_024;
 /// The dups with their items, by place, by number, and by tree and bytes (mm/ksm, stable nodes and their chains).
 ///
 /// A look-up by number costs a comparison where the place is guessed right, and else a walk over the places. A dup
-/// keeps its place as long as it is there, so whoever remembers the place guesses right.
-/// A look-up by content costs a comparison where the number of its group is remembered by the caller, and for `group`
-/// and `group_of` two where it is remembered here alone; else a search among the contents that are known, in a number of steps in the
-/// order of the logarithm of how many there are. `best` and `best_of` also walk along the chain, or, where a chain is
-/// long, along the dups of all contents that are not full, if these are fewer.
-/// The counts are kept, so nothing is counted when they are read. A group, a new dup and a new item may want memory.
+/// keeps its place as long as it is there, so whoever remembers the place guesses right. A look-up by content costs a
+/// comparison where the number of its group is remembered by the caller, and for `group` and `group_of` two where it is
+/// remembered here alone; else a search among the contents that are known, in a number of steps in the order of the
+/// logarithm of how many there are. `best` and `best_of` also walk along the chain, or, where a chain is long, along
+/// the dups of all contents that are not full, if these are fewer. The counts are kept, so nothing is counted when they
+/// are read. A group, a new dup and a new item may want memory.
 #[derive(Drop)]
 pub struct Dups {
     alloc: Global,
@@ -106,8 +106,8 @@ impl Dups {
         self.best_of(group, limit).map(|best| best.number)
     }
 
-    /// The number of the group of a tree and bytes, if it has one. The guess is tried first, then the one that was found
-    /// last in its slot. Nothing changes that is seen.
+    /// The number of the group of a tree and bytes, if it has one. The guess is tried first, then the one that was
+    /// found last in its slot. Nothing changes that is seen.
     #[inline(always)]
     pub fn group_of(&mut self, guess: u32, tree: u32, bytes: &PageBytes) -> Option<u32>
         ensures numbered { result ≡ number_of tree bytes.now self.old.numbers }

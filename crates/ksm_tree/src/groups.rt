@@ -51,8 +51,8 @@ pub struct Groups {
     numbers: BTreeMap<Content, u32>,
     groups: Slab<Group>,
     pub totals: Totals,
-    // So many groups there may be: before one more comes those go in which no dup stands. And how many more than are left
-    // then.
+    // So many groups there may be: before one more comes those go in which no dup stands. And how many more than are
+    // left then.
     most: usize,
     spare: usize,
     recent: Guesses,
@@ -124,8 +124,8 @@ impl Groups {
         self.groups.get(number as usize)
     }
 
-    /// The number of a group, if it has one. The guess is tried first, then the one that is kept here, which is set where
-    /// a search finds the group.
+    /// The number of a group, if it has one. The guess is tried first, then the one that is kept here, which is set
+    /// where a search finds the group.
     #[inline(always)]
     pub fn known(&mut self, guess: u32, tree: u32, bytes: &PageBytes) -> Option<u32>
         ensures number { result ≡ number_of tree bytes.now self.old.numbers.entries }

@@ -17,8 +17,8 @@ use std::sync::Wait;
 use std::test::Fail;
 use std::thread::Threads;
 
-/// A script, the sizes of its table, what it writes and how it ends. In what it writes, a page that is full of one byte stands as
-/// that byte in brackets.
+/// A script, the sizes of its table, what it writes and how it ends. In what it writes, a page that is full of one byte
+/// stands as that byte in brackets.
 #[derive(Clone, Copy, Debug)]
 struct Row<'a> {
     name: &'a str,

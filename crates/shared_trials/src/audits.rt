@@ -1,4 +1,5 @@
-//! Audits of a shared book: their rows while a frame is named, dying and given again, a held worker, and a gate that refuses.
+//! Audits of a shared book: their rows while a frame is named, dying and given again, a held worker, and a gate that
+//! refuses.
 ghost use Rattle.std.specs.Prelude.{◌≡◌, ◌<◌, All, vec_len};
 ghost use Rattle.ksm_base.specs.Values.{frames_of};
 

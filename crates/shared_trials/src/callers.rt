@@ -22,7 +22,8 @@ fn byte_of(guest: u16, j: u8) -> u8 {
     ((guest % 4) as u8 * 50).saturating_add(j)
 }
 
-// A caller registers its page, stores to it 100 times, and stores to a page that is not there. It answers whether all went so.
+// A caller registers its page, stores to it 100 times, and stores to a page that is not there. It answers whether all
+// went so.
 fn work<N: Naming>(
     rt: &impl Wait,
     ksm: &Ksm<N>,

@@ -1,5 +1,5 @@
-//! A gate is asked before each lookup of an audit and told after it: it moves the dup at the first place both times, which is done only where
-//! nobody holds its frame, and the lookup finds the frame of the first move.
+//! A gate is asked before each lookup of an audit and told after it: it moves the dup at the first place both times,
+//! which is done only where nobody holds its frame, and the lookup finds the frame of the first move.
 ghost use Rattle.std.specs.Prelude.{◌≡◌};
 
 use crate::audits::audit_once;
@@ -24,7 +24,8 @@ const SHAPE: Shape = Shape {
     tries: 8,
 };
 
-// Moves the dup at place 0 to node 1 when it is asked, and to node 0 when it is told. It counts the moves that were done.
+// Moves the dup at place 0 to node 1 when it is asked, and to node 0 when it is told. It counts the moves that were
+// done.
 #[derive(Drop)]
 struct Mover<'a, N: Naming, R> {
     rt: &'a R,
@@ -106,7 +107,8 @@ fn moves<N: Naming + Send + Sync, R: Threads + Wait + Sync>(
     Ok((ready && ending.has(&rows), moved))
 }
 
-// Asked after the lookup, the row would be of generation 2; told before it, of generation 3; told in the hold, the second move is in use.
+// Asked after the lookup, the row would be of generation 2; told before it, of generation 3; told in the hold, the
+// second move is in use.
 #[test]
 fn a_gate_is_asked_before_and_told_after(rt: HostRuntime) -> Result<(), Fail> {
     let parts = Parts::open(rt.alloc(), SHAPE, 1)?;

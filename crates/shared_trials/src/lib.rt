@@ -1,4 +1,5 @@
-//! The tests of shared books and of their audits through their public calls: callers, lookups, rows of counters, audits.
+//! The tests of shared books and of their audits through their public calls: callers, lookups, rows of counters,
+//! audits.
 #![tactic(auto)]
 
 #[cfg(test)]

@@ -11,7 +11,8 @@ use std::process::Abort;
 use std::sync::{MutexGuard, Wait};
 use std::test::Fail;
 
-// What a lookup of the first place answers while the same thread has the merge lock: whether the frame was held, and the pass.
+// What a lookup of the first place answers while the same thread has the merge lock: whether the frame was held, and
+// the pass.
 fn looks_while_locked<N: Naming>(rt: &impl Wait, ksm: &Ksm<N>, pass: Pass) -> (bool, Pass)
     requires pass { pass.table ≡ N.parts.frames }
     requires places { frames_of N.parts.frames.shape ≡ 8 }

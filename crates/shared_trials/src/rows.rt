@@ -1,4 +1,5 @@
-//! Rows of counters, as readers are shown them with no lock: after each command, for long, by each of sixteen readers, while a caller stores.
+//! Rows of counters, as readers are shown them with no lock: after each command, for long, by each of sixteen readers,
+//! while a caller stores.
 ghost use Rattle.std.specs.Prelude.{◌≡◌};
 
 use crate::commands::{DONE, SHAPE, TWO_MERGED, all_done, register, store};
@@ -83,7 +84,8 @@ fn answers_tell_the_newest_row(rt: HostRuntime) -> Result<(), Fail> {
 
 const MANY: u64 = 5_000;
 
-// After each of so many stores a reader that learnt nothing should be shown the journal's row. Answers how often it was not.
+// After each of so many stores a reader that learnt nothing should be shown the journal's row. Answers how often it was
+// not.
 fn behind<N: Naming>(
     rt: &impl Wait,
     ksm: &Ksm<N>,
@@ -115,7 +117,8 @@ fn goes_on<N: Naming, R: Wait + Abort>(rt: &R, parts: Parts) -> Result<(), Fail>
     Ok(())
 }
 
-// Each of many commands is published by itself, however long the journal is. Every store here is refused, as its page is not there.
+// Each of many commands is published by itself, however long the journal is. Every store here is refused, as its page
+// is not there.
 #[test]
 fn rows_go_on(rt: HostRuntime) -> Result<(), Fail> {
     let parts = Parts::open(rt.alloc(), SHAPE, 1)?;
@@ -265,7 +268,8 @@ fn watched<N: Naming + Send + Sync, R: Threads + Wait + Abort + Sync>(
     told
 }
 
-// Rows are whole and never go back while another thread commands, and the newest is shown once its command has returned.
+// Rows are whole and never go back while another thread commands, and the newest is shown once its command has
+// returned.
 #[test]
 fn rows_are_shown_with_no_lock(rt: HostRuntime) -> Result<(), Fail> {
     let parts = Parts::open(rt.alloc(), SHAPE, 2)?;

@@ -1,7 +1,8 @@
 //! What a run does after a fault: nothing more.
 use super::*;
 
-/// A reader that gives some bytes, one a call, then fails or ends once, and would give more after that. It counts the calls.
+/// A reader that gives some bytes, one a call, then fails or ends once, and would give more after that. It counts the
+/// calls.
 #[derive(Drop)]
 struct Interrupted<'a> {
     first: &'a [u8],
@@ -90,7 +91,8 @@ impl Write for FailsOnce {
     }
 }
 
-/// After a failed write nothing more is written and no further line is read, and the line of the broken reply is carried out.
+/// After a failed write nothing more is written and no further line is read, and the line of the broken reply is
+/// carried out.
 #[test]
 fn nothing_is_written_after_a_fault(rt: HostRuntime) -> Result<(), Fail> {
     let script = "reg 0 0 0 aa\nget 0 0\ndrop 0 0\n".as_bytes();

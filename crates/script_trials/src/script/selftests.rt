@@ -13,8 +13,8 @@ fn equal_pages(alloc: Global, pages: u8, limit: u8) -> Result<String, AllocError
     Ok(script)
 }
 
-/// The pages that share, those that a further page shares, and those that wait, by the kernel's count: full groups of the
-/// limit, and a group more for a rest of two or more. A rest of one has nobody to share with.
+/// The pages that share, those that a further page shares, and those that wait, by the kernel's count: full groups of
+/// the limit, and a group more for a rest of two or more. A rest of one has nobody to share with.
 fn counted(pages: u8, limit: u8) -> (u32, u32, u32)
     requires { 2 ≤ limit }
 {
@@ -149,7 +149,8 @@ fn pages_merge_across_nodes(rt: HostRuntime) -> Result<(), Fail> {
     play_all(&rt, rt.alloc(), &rows)
 }
 
-/// Eight merged pages are unmerged, each on a frame of its own; with eight frames the last finds none, since its own is still in use.
+/// Eight merged pages are unmerged, each on a frame of its own; with eight frames the last finds none, since its own is
+/// still in use.
 #[test]
 fn unmerging_takes_a_frame_for_each_page(rt: HostRuntime) -> Result<(), Fail> {
     let rows = [
