@@ -9,6 +9,7 @@ ghost use Rattle.ksm_pages.specs.Held.{beside as no_longer_alone, forgotten, fra
 ghost use Rattle.ksm_pages.specs.Held.{is_restless as is_a_restless, state_of};
 
 use ksm_base::{GuestPage, PageBytes, PageState, Row};
+use ksm_tree::same_bytes;
 
 /// A page with a guess of the key under which its row is kept. A call compares the guess before it believes it, so a
 /// wrong one costs a search and changes nothing else. The key has 64 bits, so that a list of spots moves two words at
@@ -134,7 +135,7 @@ impl Entry {
           unchanged = self.old.unchanged && bytes_eq self.old.bytes bytes.now;
         } }
     {
-        if self.bytes != *bytes {
+        if !same_bytes(&self.bytes, bytes) {
             self.bytes = *bytes;
             self.unchanged = false;
         }

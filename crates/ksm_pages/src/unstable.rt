@@ -14,7 +14,7 @@ ghost use Rattle.ksm_tree.specs.Numbered.{number_of};
 
 use crate::row::Entry;
 use ksm_base::{Fault, PageBytes};
-use ksm_tree::Content;
+use ksm_tree::{Content, same_bytes};
 use slab::Slab;
 use std::alloc::Global;
 use std::collections::BTreeMap;
@@ -77,7 +77,9 @@ fn stands(entries: &Slab<Entry>, by_node: bool, key: u32, tree: u32, bytes: &Pag
     }
     match entries.get(key as usize) {
         Some(entry) => {
-            entry.in_tree.is_in() && tree_by(by_node, entry.home) == tree && entry.bytes == *bytes
+            entry.in_tree.is_in()
+                && tree_by(by_node, entry.home) == tree
+                && same_bytes(&entry.bytes, bytes)
         }
         None => false,
     }

@@ -1,9 +1,9 @@
 //! What groups and waiting pages are found by: a tree and the bytes of a page, in an order of their own. Beside that
 //! the slot in which the number of their group is remembered.
-ghost use Rattle.std.specs.Prelude.{◌≡◌, ◌<◌};
+ghost use Rattle.std.specs.Prelude.{◌≡◌, ◌<◌, bytes_eq};
 ghost use Rattle.ksm_tree.specs.declared.content.TheConstants.{SLOTS as slots};
 
-use ksm_base::PageBytes;
+use ksm_base::{PAGE_WORDS, PageBytes};
 
 /// A tree and the bytes of a page: what a group has in common, and what a page waits for. The trees come first in the
 /// order, then the bytes.
@@ -24,6 +24,19 @@ impl Content {
             bytes: *bytes,
         }
     }
+}
+
+/// Whether two pages have the same bytes. It looks at all words at once, where `==` of arrays stops at the first that
+/// differs, and takes three times as many steps for pages that are alike.
+#[inline(always)]
+pub fn same_bytes(one: &PageBytes, other: &PageBytes) -> bool
+    ensures { result ≡ bytes_eq one.now other.now }
+{
+    let mut same = true;
+    for i in 0..PAGE_WORDS {
+        same &= one[i] == other[i];
+    }
+    same
 }
 
 // How many bits of a product `slot_of` keeps.

@@ -24,6 +24,7 @@ ghost use Rattle.ksm_tree.specs.Reserve.{KeepsReserve};
 ghost use Rattle.ksm_tree.specs.declared.groups.TheConstants.{MOST_SPARE};
 
 use crate::choice::Choice;
+use crate::content::same_bytes;
 use crate::dup::{Best, Dup};
 use crate::groups::{Groups, NO_NUMBER};
 use crate::item_counts::none_open;
@@ -509,7 +510,7 @@ impl Dups {
         if rival.is_some_and(|rival| rival.row.number <= dup.row.number) {
             return None;
         }
-        (is_chain || (dup.row.tree == tree && dup.row.bytes == *bytes)).then_some(dup)
+        (is_chain || (dup.row.tree == tree && same_bytes(&dup.row.bytes, bytes))).then_some(dup)
     }
 }
 

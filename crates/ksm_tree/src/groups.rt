@@ -18,7 +18,7 @@ ghost use Rattle.ksm_tree.specs.Reserve.{KeepsReserve};
 ghost use Rattle.ksm_base.specs.declared.limits.TheConstants.{MOST_FRAMES as most_frames};
 ghost use Rattle.ksm_tree.specs.declared.groups.TheConstants.{MOST_SPARE as most_spare};
 
-use crate::content::{Content, SLOTS, slot_of};
+use crate::content::{Content, SLOTS, same_bytes, slot_of};
 use crate::guesses::Guesses;
 use crate::places::Places;
 use crate::room::reserve_one;
@@ -103,7 +103,7 @@ impl Groups {
         ensures { IsTrue result → number_of tree bytes.now self.now.numbers.entries ≡ Some number }
     {
         match self.groups.get(number as usize) {
-            Some(group) => group.content.tree == tree && group.content.bytes == *bytes,
+            Some(group) => group.content.tree == tree && same_bytes(&group.content.bytes, bytes),
             None => false,
         }
     }

@@ -19,7 +19,7 @@ mod totals;
 mod waiting;
 
 pub use choice::Choice;
-pub use content::Content;
+pub use content::{Content, same_bytes};
 pub use dup::Best;
 pub use dups::{Dups, NO_PLACE};
 pub use groups::NO_NUMBER;
