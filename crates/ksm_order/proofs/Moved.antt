@@ -1,9 +1,9 @@
 -- One more element of a list, and those behind it moved up by one: it is put in.
-use Rattle.std.proofs.Common.{◌≡◌, ℕ, ◌+◌, ◌≤◌, List, [], ◌∷◌, ◌++◌, add-one, ap, ap₂, arith, drop, get_or, length, sym, take, ◌∙◌}
-use Rattle.std.specs.Prelude.{insert, set}
+use Rattle.std.proofs.Common.{◌≡◌, ℕ, ◌+◌, ◌-◌, ◌<◌, ◌≤◌, List, [], ◌∷◌, ◌++◌, add-one, ap, ap₂, arith, drop, get_or, length, sym, take, ◌∙◌}
+use Rattle.std.specs.Prelude.{insert, remove, set}
 use Rattle.std.specs.List.{copy_within}
 use Rattle.std.proofs.Math.Seq.{take-append_seam, take-suc}
-use Rattle.std.proofs.lemmas.List.{append-nil, append_assoc, drop-take, drop_all, length-append, length-take-le, set_at, take-append-le}
+use Rattle.std.proofs.lemmas.List.{append-nil, append_assoc, drop-take, drop_all, length-append, length-drop, length-take-le, set_at, take-append-le, take_rest}
 
 -- one more behind a list, the elements from an index on moved up by one, and that one written there: it is put in
 pub moved_up : {X : Type 0} (xs : List X) (at : ℕ) (x : X) → at ≤ length xs → set (copy_within (xs ++ x ∷ []) at (length xs) (at + 1)) at x ≡ insert xs at x
@@ -18,3 +18,14 @@ moved_up xs at x within =
     ∙ append-nil ((take at xs ++ get_or l at x ∷ []) ++ drop at xs)
     ∙ append_assoc (take at xs) (get_or l at x ∷ []) (drop at xs))
     ∙ set_at (take at xs) (get_or l at x) (drop at xs) x at (length-take-le at xs within)
+
+-- those behind an element moved down by one, over it, without the last: the element is taken out
+pub moved_down : {X : Type 0} (xs : List X) (at : ℕ) → at < length xs
+    → take (length xs - 1) (copy_within xs (at + 1) (length xs) at) ≡ remove xs at
+moved_down xs at within =
+    let kept = take at xs ++ drop (at + 1) xs in
+    let back = drop (at + (length xs - (at + 1))) xs in
+    let long : length xs - 1 ≡ length kept = grind (arith, length-append (take at xs) (drop (at + 1) xs), length-take-le at xs, length-drop (at + 1) xs) in
+    (λ i. take (long i) ((take at xs ++ take_rest xs (at + 1) i) ++ back))
+    ∙ take-append_seam kept back
+    ∙ λ i. take at xs ++ drop (add-one at i) xs

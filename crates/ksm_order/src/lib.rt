@@ -12,4 +12,4 @@ pub use item::Item;
 pub use leaf::Leaf;
 pub use node::Node;
 pub use part::Part;
-pub use vector::insert_at;
+pub use vector::{insert_at, move_last};

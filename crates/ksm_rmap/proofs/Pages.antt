@@ -1,9 +1,15 @@
--- The order of guest pages.
-use Rattle.std.proofs.Common.{arith}
+-- The order of guest pages, and a list that is written back.
+use Rattle.std.proofs.Common.{◌≡◌, ◌++◌, ◌∙◌, List, arith, drop, length, sym, take}
+use Rattle.std.proofs.Math.Seq.{take-append_seam}
 use Rattle.std.proofs.lemmas.Bool.Decides.{nat_tests}
+use Rattle.std.specs.List.{refill}
 use Rattle.ksm_base.specs.Rows.{comes_before, same_page}
 use Rattle.ksm_rmap.proofs.Ordered.{IsOrder}
 
 -- pages have an order by guest and page
 pub pages_ordered : IsOrder comes_before same_page
 pages_ordered = grind (arith, nat_tests)
+
+-- a list that is filled up from another by as many as that has is what came
+pub refilled : {X : Type 0} (xs ws : List X) → length ws ≡ length xs → refill (length xs) xs ws ≡ ws
+refilled xs ws same = (λ i. take (sym same i) (ws ++ drop (length ws) xs)) ∙ take-append_seam ws (drop (length ws) xs)

@@ -7,6 +7,7 @@ ghost use Rattle.ksm_base.specs.Rows.{comes_before, same_page};
 ghost use Rattle.ksm_rmap.specs.Items.{AreAscending, has_item, with_item, without_item};
 
 use ksm_base::{Fault, GuestPage};
+use ksm_order::move_last;
 use smallvec::SmallVec;
 use std::alloc::Global;
 use std::marker::Model;
@@ -53,7 +54,8 @@ impl Items {
         ensures memory { IfErr result (λ fault. fault ≡ Fault.Memory) }
     {
         let at = place_of(self.pages.as_slice(), page);
-        self.pages.insert(at, page)?;
+        self.pages.push(page)?;
+        move_last(self.pages.as_mut_slice(), at);
         Ok(())
     }
 
@@ -65,7 +67,10 @@ impl Items {
         let at = place_of(self.pages.as_slice(), page);
         let found = stands_at(self.pages.as_slice(), at, page);
         if found {
-            self.pages.remove(at);
+            let pages = self.pages.as_mut_slice();
+            let left = pages.len() - 1;
+            pages.copy_within(at + 1.., at);
+            self.pages.truncate(left);
         }
         found
     }
