@@ -22,7 +22,7 @@ HOST = TOP / "release" / "out" / "host"
 HEADER = TOP / "bindings" / "ksmbook.h"
 TRIPLET = "x86_64-linux-gnu"
 # The libraries, each with the flags of pkg-config for its limits, and what its description begins with.
-SIZES = {"ksmbook": ("", ""), "ksmbook-host": (" -DKSM_HOST", ", of a host's size")}
+SIZES = {"ksmbook": ("", ""), "ksmbook-host": (" -DKSM_HOST", ", for a host")}
 SHARED_DESCRIPTION = """\
  table of pages that threads look up without a lock, proved correct{size}
  A frame that a reader holds keeps its words and its life until the reader
