@@ -1,8 +1,8 @@
 -- A page that is stored to while it is merged or Zero, comes or goes: of the others only one that waits in its tree with its
--- bytes may come to join its dup by that, so no other page becomes due.
-use Rattle.ksm_book.proofs.Names.{All, All-filter, all_changed, all_with_row, Answer, AreDue, arith, BookState, BookView, Bool, bytes_eq, bytes_eq-Decides, change_row, count_with_row}
-use Rattle.ksm_book.proofs.Names.{count_without_page, Drop, dup_of_item, DupRow, Err, false, find_all, find_none, fresh_row, get_or, GuestPage, has_item, InPageOrder, IsAlone, IsCarried, IsDupOf}
-use Rattle.ksm_book.proofs.Names.{IsSound, item_count, List, MatchOption, merged_into, merged_state, nat_tests, None, Ok, Option, partner, refl, Register, Row, row_at, same_page, same_page_refl}
+-- bytes may come to join its dup by that, so no other page becomes due. And commands by which no page becomes due.
+use Rattle.ksm_book.proofs.Names.{All, All-filter, all_changed, all_with_row, Answer, AreDue, arith, BookState, BookView, Bool, bytes_eq, bytes_eq-Decides, change_row, Command, count_with_row}
+use Rattle.ksm_book.proofs.Names.{count_without_page, Drop, dup_of_item, DupRow, effect, Err, false, filter, find_all, find_none, fresh_row, get_or, GuestPage, has_item, InPageOrder, IsAlone, IsCarried, IsDupOf}
+use Rattle.ksm_book.proofs.Names.{IsSound, item_count, List, MatchOption, may_join, merged_into, merged_state, nat_tests, None, Ok, Option, partner, refl, Register, Reply, Row, row_at, same_page, same_page_refl}
 use Rattle.ksm_book.proofs.Names.{same_page_sym, shared_state, Some, stored, sym, tree_of, true, waiting_state, waits_for, waits_on, with_row, without_page, ℕ, ◌&&◌, ◌==◌, ◌||◌, ◌≡◌}
 use Rattle.ksm_book.proofs.DueKept.{count_kept, more_due, on_still, WaitsElse, own_due}
 use Rattle.ksm_pages.specs.Paged.{page_beside}
@@ -115,6 +115,23 @@ module _ (b : BookState) (page : GuestPage) (old new : List GuestPage)
       let number = (get_or b.dups i x).number in
       grind (arith, none i x lt_x, count_with_row (λ s. merged_into number s.state) fresh b.rows absent))
       (added_due k d lt restless out))
+
+-- ---------------------------------------------------------------- a command that opens no dup and changes no row
+
+-- where fewer dups are there, what is due stays so
+pub fewer_due : (b : BookState) (keeps : DupRow → Bool) (pages : List GuestPage) → AreDue b pages
+    → AreDue (record b { dups = filter keeps b.dups }) pages
+fewer_due b keeps pages due k d lt restless out =
+    let row = get_or b.rows k d in
+    on_still b b.rows (filter keeps b.dups) b.next row (All-filter keeps (λ e. may_join b.knobs b.rows row e ≡ false) b.dups)
+    (due k d lt restless out)
+
+-- where the command leaves what is due as it is, it is so after each answer
+pub stays_due : (v w : BookView) (command : Command) (answer : Answer) (pages : List GuestPage)
+    → ((reply : Reply) → AreDue (effect v.state command reply) pages) → AreDue v.state pages
+    → IsCarried v w command answer → AreDue w.state pages
+stays_due v w command (Ok reply) pages stays due carried = rw carried.state (stays reply)
+stays_due v w command (Err fault) pages stays due carried = rw carried.state due
 
 -- ---------------------------------------------------------------- a command that is answered with a reply
 

@@ -28,7 +28,7 @@ pub use Rattle.ksm_base.proofs.SoundSteps.{sound_after, sound_opening}
 pub use Rattle.ksm_base.proofs.SoundVisit.{all_changed, best_dup_has_room, IsJoined}
 pub use Rattle.ksm_base.proofs.Visits.{rowwise_visits}
 pub use Rattle.ksm_base.specs.Answers.{Answer, every_row, IsScanned}
-pub use Rattle.ksm_base.specs.Apply.{fresh_row, is_before, let_go, scan_stopped, stored, unshare_stopped, unshared}
+pub use Rattle.ksm_base.specs.Apply.{effect, fresh_row, is_before, let_go, scan_stopped, stored, unshare_stopped, unshared}
 pub use Rattle.ksm_base.specs.Counting.{mergeable_count}
 pub use Rattle.ksm_base.specs.Reading.{mappers_of}
 pub use Rattle.ksm_base.specs.Refusals.{is_of, live_dup_at}
@@ -40,8 +40,8 @@ pub use Rattle.ksm_base.specs.Values.{frames_of, IsShape}
 pub use Rattle.ksm_base.specs.Visit.{after_cursor, best_dup, empty_from, handled, is_best, is_for_zero, is_no_rival, made_dup, may_join, new_place, next_row, paired, partner, pass_begun}
 pub use Rattle.ksm_base.specs.Visit.{pass_ended_at_last, row_visited, stayed, visit, visit_begun, visit_of, visits, waits_for}
 pub use Rattle.ksm_base.specs.declared.command.Command.{Command}
-pub use Rattle.ksm_base.specs.declared.command.Command.TheVariants.{Drop, Mergeable, MoveDup, MovePage, Prune, Register, Scan, SetAcross, SetLimit, SetRun, Store}
-pub use Rattle.ksm_base.specs.declared.command.Command.TheVariants.{Unmerge}
+pub use Rattle.ksm_base.specs.declared.command.Command.TheVariants.{Drop, Mergeable, MoveDup, MovePage, Prune, Register, Scan, SetAcross, SetLimit, SetRun}
+pub use Rattle.ksm_base.specs.declared.command.Command.TheVariants.{SetPagesToScan, Store, Unmerge}
 pub use Rattle.ksm_base.specs.declared.fault.Fault.{Fault}
 pub use Rattle.ksm_base.specs.declared.fault.Fault.TheVariants.{InUse, NoFrame, UnknownPage}
 pub use Rattle.ksm_base.specs.declared.knobs.Knobs.{Knobs}
@@ -49,6 +49,7 @@ pub use Rattle.ksm_base.specs.declared.limits.TheConstants.{MOST_REFERENCES}
 pub use Rattle.ksm_base.specs.declared.page.GuestPage.{GuestPage}
 pub use Rattle.ksm_base.specs.declared.page.TheConstants.{PAGE_WORDS}
 pub use Rattle.ksm_base.specs.declared.reply.Reply.TheVariants.{Done, Pruned, Scanned, Unmerged}
+pub use Rattle.ksm_base.specs.declared.reply.Reply.{Reply}
 pub use Rattle.ksm_base.specs.declared.row.DupRow.{DupRow}
 pub use Rattle.ksm_base.specs.declared.row.PageState.{PageState}
 pub use Rattle.ksm_base.specs.declared.row.PageState.TheVariants.{Merged, Waiting, Zero}

@@ -110,7 +110,7 @@ impl Book {
         let answer = carry_out(&mut self.state, &mut self.due, table, command);
         match answer {
             Err(Fault::Memory) => {}
-            _ => self.journal.add(*command, answer),
+            _ => self.journal.add(command, answer),
         }
         answer
     }
@@ -227,6 +227,9 @@ fn carry_out(
             | Command::Drop { .. }
             | Command::Store { .. }
             | Command::Scan { .. }
+            | Command::Prune
+            | Command::MoveDup { .. }
+            | Command::SetPagesToScan(_)
     ) {
         due.forget();
     }

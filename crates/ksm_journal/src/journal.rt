@@ -81,15 +81,15 @@ impl Journal {
 
     /// Adds an entry.
     #[inline(always)]
-    pub fn add(&mut self, command: Command, answer: Result<Reply, Fault>)
+    pub fn add(&mut self, command: &Command, answer: Result<Reply, Fault>)
         requires room { self.old.has_room ≡ true }
-        ensures entries { self.new.entries ≡ self.old.entries ++ (command, answer) ∷ [] }
+        ensures entries { self.new.entries ≡ self.old.entries ++ (command.now, answer) ∷ [] }
         ensures kept { self.new.is_kept ≡ self.old.is_kept }
     {
-        self.history = self.history.and(&command, &answer);
+        self.history = self.history.and(command, &answer);
         self.count += 1;
         if let Some(kept) = &mut self.kept {
-            kept.add(command, answer);
+            kept.add(*command, answer);
         }
     }
 
