@@ -3,9 +3,10 @@
 //! A number ends at the byte behind it, and a line at its newline, so nobody looks for the newline first. No line is
 //! laid in a value that has room for a page: one with a content gives that apart. What is not read here may still be a
 //! line; `read_line` tells.
-ghost use Rattle.std.specs.Prelude.{◌≡◌, ◌<◌, ◌≤◌, ◌^◌, ◌++◌, ◌∷◌, ℕ, List, IfSome, Some, decimal, length};
+ghost use Rattle.std.specs.Prelude.{◌≡◌, ◌<◌, ◌≤◌, ◌^◌, ◌++◌, ◌∷◌, ℕ, List, IfSome, Some, bytes_eq, decimal, length};
+ghost use Rattle.std.specs.Prelude.{take};
 ghost use Rattle.ksm_lines.specs.Content.{content_of};
-ghost use Rattle.ksm_lines.specs.Leading.{BeginsWith};
+ghost use Rattle.ksm_lines.specs.Leading.{BeginsWith, names_content};
 ghost use Rattle.ksm_lines.specs.declared.line.Line.TheVariants as lines;
 
 use crate::field::{PAGE_DIGITS, behind, behind_name, content_in, first_four};
@@ -29,10 +30,6 @@ pub fn leading_short_line(text: &[u8]) -> Option<(ShortLine, &[u8])>
     if front == first_four(b"get ") {
         let (page, left) = page_to(behind_name(text, b"get ")?, b'\n')?;
         return Some((ShortLine::Get { page }, left));
-    }
-    // A store comes as often as a read, and is none of these.
-    if front == first_four(b"put ") {
-        return None;
     }
     if front == first_four(b"ticket ") {
         let (page, left) = page_to(behind_name(text, b"ticket ")?, b'\n')?;
@@ -65,6 +62,24 @@ pub fn leading_short_line(text: &[u8]) -> Option<(ShortLine, &[u8])>
         return Some((ShortLine::Show { shown }, left));
     }
     None
+}
+
+/// Whether a text begins as a line with a content does: only then `leading_page_line` may read one.
+#[inline(always)]
+pub fn names_content(text: &[u8]) -> bool
+    ensures { result ≡ names_content text.now }
+{
+    text.len() >= 4
+        && (begins_as(text, b"put ") || begins_as(text, b"reg ") || begins_as(text, b"equal "))
+}
+
+/// Whether the first four bytes of a text are those of a name.
+#[inline(always)]
+fn begins_as<const N: usize>(text: &[u8], name: &[u8; N]) -> bool
+    requires { (4 ≤ length text.now) × (4 ≤ N) }
+    ensures { result ≡ bytes_eq (take 4 text.now) (take 4 name.now) }
+{
+    first_four(text) == first_four(name)
 }
 
 /// The line with a content at the front of a text, its content, and what is behind its newline.

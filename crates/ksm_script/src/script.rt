@@ -18,7 +18,7 @@ use crate::lane::{Bytes, Lane, Sends};
 use crate::replies::{Returned, Written};
 use crate::reply::{LineReply, put_reply};
 use crate::session::Session;
-use ksm_lines::{Line, LineFault, read_line};
+use ksm_lines::{Line, LineFault, names_content, read_line};
 use ksm_shared::Naming;
 use std::io::{Read, Write};
 use std::sync::Wait;
@@ -141,8 +141,11 @@ fn answer_at_hand<M: Lane<R, W>, N: Naming, T: Threads + Wait + Sync, R, W: Writ
     if is_heard {
         return Ok(false);
     }
-    let Some(line) = take_short::<M, R, W>(reader) else {
+    if names_content(M::at_hand(reader)) {
         return answer_page::<M, N, T, R, W>(rt, reader, writer, session);
+    }
+    let Some(line) = take_short::<M, R, W>(reader) else {
+        return answer_rare::<M, N, T, R, W>(rt, reader, writer, session);
     };
     let told = session.answer_short::<Written<M>, T, W>(rt, line, writer);
     told.and(Ok(true))
@@ -162,7 +165,7 @@ fn answer_page<M: Lane<R, W>, N: Naming, T: Threads + Wait + Sync, R, W: Write>(
         (reader.new, writer.new, session.new) result }
 {
     let Some(taken) = take_page::<M, R, W>(reader) else {
-        return answer_rare::<M, N, T, R, W>(rt, reader, writer, session);
+        return Ok(false);
     };
     let (line, bytes) = taken;
     let told = session.answer_page::<Written<M>, T, W>(rt, line, bytes, writer);

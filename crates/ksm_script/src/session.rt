@@ -158,7 +158,7 @@ impl<N: Naming> Session<N> {
         ensures answers { IsSaid P.takes (Answers (lines.Short line)) self.old self.new to.old to.new result }
     {
         match line {
-            ShortLine::Get { page } => self.tell_content::<P, R, S>(rt, page, to),
+            ShortLine::Get { page } => self.tell_content::<P, S>(page, to),
             ShortLine::Ticket { page } => self.tell_ticket::<P, R, S>(rt, page, to),
             ShortLine::Find { pass, place } => self.tell_found::<P, S>(pass, place, to),
             ShortLine::Look { pass } => self.tell_held::<P, S>(pass, to),
@@ -170,16 +170,11 @@ impl<N: Naming> Session<N> {
     }
 
     #[inline(never)]
-    fn tell_content<P: Replies<S>, R: Wait, S>(
-        &mut self,
-        rt: &R,
-        page: GuestPage,
-        to: &mut S,
-    ) -> Told
+    fn tell_content<P: Replies<S>, S>(&mut self, page: GuestPage, to: &mut S) -> Told
         ensures answers { IsSaid P.takes (Answers (lines.Short (shorts.Get page))) self.old self.new
             to.old to.new result }
     {
-        match self.ksm.read(rt, &mut self.share, page) {
+        match self.ksm.read_alone(&mut self.share, page) {
             None => P::reply(to, LineReply::Refused(Refusal::Book(Fault::UnknownPage))),
             Some(content) => P::content(to, &content),
         }
@@ -231,7 +226,7 @@ impl<N: Naming> Session<N> {
         ensures answers { IsSaid P.takes (Answers (lines.Short (shorts.Scan visits))) self.old self.new
             to.old to.new result }
     {
-        self.tell_made::<P, R, S>(rt, scan_of(visits), to)
+        self.tell_made::<P, R, S>(rt, &scan_of(visits), to)
     }
 
     #[inline(never)]
@@ -266,10 +261,10 @@ impl<N: Naming> Session<N> {
     {
         match line {
             PageLine::Store { page } => {
-                self.tell_made::<P, R, S>(rt, Command::Store { page, bytes }, to)
+                self.tell_made::<P, R, S>(rt, &Command::Store { page, bytes }, to)
             }
             PageLine::Register { page, node } => {
-                self.tell_made::<P, R, S>(rt, Command::Register { page, node, bytes }, to)
+                self.tell_made::<P, R, S>(rt, &Command::Register { page, node, bytes }, to)
             }
             PageLine::Equal { pass, place } => {
                 self.tell_act::<P, S>(pass, Act::Equal { place, bytes }, to)
@@ -295,9 +290,9 @@ impl<N: Naming> Session<N> {
         ensures answers { IsSaid P.takes (Answers (lines.Rare line)) self.old self.new to.old to.new result }
     {
         let command = match line {
-            RareLine::Mappers { place } => return tell_any::<P, S>(to, self.mappers(rt, place)),
+            RareLine::Mappers { place } => return self.tell_mappers::<P, R, S>(rt, place, to),
             RareLine::ScanPages => return self.tell_scanned::<P, R, S>(rt, to),
-            RareLine::Audit => return tell_any::<P, S>(to, self.audit(rt)),
+            RareLine::Audit => return self.tell_audit::<P, R, S>(rt, to),
             RareLine::Drop { page } => Command::Drop { page },
             RareLine::Prune => Command::Prune,
             RareLine::Unmerge { guest } => Command::Unmerge { guest },
@@ -306,7 +301,7 @@ impl<N: Naming> Session<N> {
             RareLine::MoveDup { place, node } => Command::MoveDup { place, node },
             RareLine::Set { knob, value } => knob.setting(value),
         };
-        self.tell_made::<P, R, S>(rt, command, to)
+        self.tell_made::<P, R, S>(rt, &command, to)
     }
 
     /// Does what a line says, and hands its reply over, if it has one.
@@ -351,7 +346,7 @@ impl<N: Naming> Session<N> {
         ensures answers { IsSaid P.takes (Answers (lines.Rare rares.ScanPages)) self.old self.new to.old to.new result }
     {
         let knobs = self.ksm.knobs(rt, &mut self.share);
-        self.tell_made::<P, R, S>(rt, scan_of(knobs.pages_to_scan), to)
+        self.tell_made::<P, R, S>(rt, &scan_of(knobs.pages_to_scan), to)
     }
 
     // The ticket of a page that is not merged.
@@ -363,6 +358,21 @@ impl<N: Naming> Session<N> {
             return LineReply::Private;
         }
         LineReply::Refused(Refusal::Book(Fault::UnknownPage))
+    }
+
+    #[inline(never)]
+    fn tell_mappers<P: Replies<S>, R: Wait, S>(&mut self, rt: &R, place: u32, to: &mut S) -> Told
+        ensures answers { IsSaid P.takes (Answers (lines.Rare (rares.Mappers place))) self.old self.new
+            to.old to.new result }
+    {
+        P::reply(to, self.mappers(rt, place))
+    }
+
+    #[inline(never)]
+    fn tell_audit<P: Replies<S>, R: Threads + Sync, S>(&mut self, rt: &R, to: &mut S) -> Told
+        ensures answers { IsSaid P.takes (Answers (lines.Rare rares.Audit)) self.old self.new to.old to.new result }
+    {
+        P::reply(to, self.audit(rt))
     }
 
     fn mappers<R: Wait>(&mut self, rt: &R, place: u32) -> LineReply
@@ -377,23 +387,29 @@ impl<N: Naming> Session<N> {
     }
 
     // Makes a command, and hands its reply over. Mostly that is `ok`, which is told apart: so no value with room for
-    // any reply is cleared before it.
-    #[inline(always)]
-    fn tell_made<P: Replies<S>, R: Wait, S>(&mut self, rt: &R, command: Command, to: &mut S) -> Told
-        ensures answers { IsSaid P.takes (Commands command) self.old self.new to.old to.new result }
+    // any reply is cleared before it. It is not inlined, so that an answer is used where it is made.
+    #[inline(never)]
+    fn tell_made<P: Replies<S>, R: Wait, S>(
+        &mut self,
+        rt: &R,
+        command: &Command,
+        to: &mut S,
+    ) -> Told
+        ensures answers { IsSaid P.takes (Commands command.now) self.old self.new to.old to.new result }
     {
-        let answer = self.apply(rt, &command);
+        let answer = self.apply(rt, command);
         if let Ok(Reply::Done) = answer {
             return tell_done::<P, S>(to);
         }
         tell_other::<P, S>(to, answer)
     }
 
-    // Makes a command.
+    // Makes a command. Nobody else has the book, so no lock is taken.
+    #[inline(always)]
     fn apply<R: Wait>(&mut self, rt: &R, command: &Command) -> Result<Reply, Fault>
         ensures answers { Commands command.now self.old.state (Some (reply_to result)) self.new.state }
     {
-        self.ksm.carry_out(rt, &mut self.share, command)
+        self.ksm.carry_out_alone(rt, &mut self.share, command)
     }
 
     #[inline(always)]
@@ -412,14 +428,6 @@ fn tell_done<P: Replies<S>, S>(to: &mut S) -> Told
     ensures { P.takes to.old to.new told.Done result }
 {
     P::reply(to, LineReply::Done)
-}
-
-/// Hands over any reply. It stands apart, so that no value with room for it is cleared before another line.
-#[inline(never)]
-fn tell_any<P: Replies<S>, S>(to: &mut S, reply: LineReply) -> Told
-    ensures { P.takes to.old to.new reply result }
-{
-    P::reply(to, reply)
 }
 
 /// Hands over what a command answered. It stands apart, so that `ok` is told without what the others want.

@@ -119,11 +119,26 @@ impl<N: Naming> Ksm<N> {
         ensures part { part_of share.new ≡ part_of share.old ++ made command.now result }
         ensures alone { StepsAlone N.parts share.old share.new command.now result }
     {
-        a_journal_goes_on();
         let mut merge = self.merge.lock(rt);
         let result = merge.carry_out(rt, &self.frames, share, command);
         MutexGuard::unlock(merge);
         result
+    }
+
+    /// Makes a command as `carry_out` does, for whoever has the book alone: no lock is taken.
+    #[inline(always)]
+    pub fn carry_out_alone<R: Wait>(
+        &mut self,
+        rt: &R,
+        share: &mut Share<N>,
+        command: &Command,
+    ) -> Result<Reply, Fault>
+        ensures seen { SeesOn N.parts share.old share.new (made_by share.old.number command.now result) }
+        ensures part { part_of share.new ≡ part_of share.old ++ made command.now result }
+        ensures alone { StepsAlone N.parts share.old share.new command.now result }
+    {
+        let merge = self.merge.get_mut();
+        merge.carry_out(rt, &self.frames, share, command)
     }
 
     /// The bytes of a page, loaded from the words of its frame; none where it has no row. They are those stored last by
@@ -140,6 +155,20 @@ impl<N: Naming> Ksm<N> {
         let bytes = merge.read(&self.frames, page);
         MutexGuard::unlock(merge);
         bytes
+    }
+
+    /// Reads a page as `read` does, for whoever has the book alone: no lock is taken.
+    #[inline(always)]
+    pub fn read_alone(&mut self, share: &mut Share<N>, page: GuestPage) -> Option<PageBytes>
+        ensures seen { SeesOn N.parts share.old share.new [] }
+        ensures part { part_of share.new ≡ part_of share.old }
+        ensures alone { N.parts.callers ≡ 1 → share.new ≡ share.old }
+        ensures bytes { result ≡ bytes_of page (state_seen N.parts share.new) }
+        ensures stored { IfSome result (λ bytes. last_stored page (entries share.new.seen) ≡ Some bytes) }
+    {
+        let merge = self.merge.get_mut();
+        merge.show(share);
+        merge.read(&self.frames, page)
     }
 
     /// The place of the dup into which a page is merged; none where it is not merged.

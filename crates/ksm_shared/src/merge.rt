@@ -7,7 +7,8 @@ ghost use Rattle.ksm_book.specs.Carried.{CarriedOut, unjournaled};
 ghost use Rattle.ksm_book.specs.Laid.{LoadsIf};
 ghost use Rattle.ksm_book.specs.Promised.{LieOn};
 ghost use Rattle.ksm_shared.specs.Handed.{missing_of};
-ghost use Rattle.ksm_shared.specs.Locked.{Gathered, LacksOne, SeesOn, made, made_by, part_of, said_of, state_seen};
+ghost use Rattle.ksm_shared.specs.Locked.{Gathered, LacksOne, SeesOn, StepsAlone, made, made_by, part_of, said_of};
+ghost use Rattle.ksm_shared.specs.Locked.{state_seen};
 ghost use Rattle.ksm_shared.specs.Seen.{CallersFit, IsBookSeat, Knows, OwnersBelow, all_at, caller, entries, times};
 ghost use Rattle.ksm_shared.specs.Seen.{view_of};
 
@@ -19,6 +20,7 @@ use crate::share::Share;
 use crate::tally::{GatherFault, Tally};
 use crate::writing::{look, write};
 use frame_table::{FrameTable, Keeper};
+use ksm_base::laws::a_journal_goes_on;
 use ksm_base::{Command, Fault, GuestPage, PageBytes, Reply};
 use ksm_book::Book;
 use std::marker::{Model, PhantomData};
@@ -97,8 +99,10 @@ impl<N: Naming> Merge<N> {
         ensures share { share.new ≡ caller share.old.number self.new.log }
         ensures seen { SeesOn N.parts share.old share.new (made_by share.old.number command.now result) }
         ensures part { part_of share.new ≡ part_of share.old ++ made command.now result }
+        ensures alone { StepsAlone N.parts share.old share.new command.now result }
         ensures published { self.new.shown ≡ entries self.new.log }
     {
+        a_journal_goes_on();
         let result = self.book.apply(frames, command);
         self.book.lies_lawfully();
         let said = said(*command, result);

@@ -75,6 +75,7 @@ impl<N: Naming> Publisher<N> {
 
     /// Follows the journal by its next entry, if there is one, and shows readers the counters of the book after it. It
     /// takes no memory.
+    #[inline(always)]
     pub fn follow<R: Wait>(&mut self, rt: &R, next: &Option<Entry>, book: &Book)
         requires legal { AreAnswers (opening N.parts.frames.shape) (self.old ++ list_of next.now) }
         requires leads { book.now.state ≡ replay (opening N.parts.frames.shape) (self.old ++ list_of next.now) }

@@ -195,6 +195,7 @@ impl<N: Naming> Rows<N> {
 
     /// Shows the counters of the book, after this beginning of its journal: who enters the copies from now on takes
     /// them. It waits for the readers of the row before the last one. Without readers no counters are taken.
+    #[inline(always)]
     pub fn show<R: Wait>(&mut self, rt: &R, reached: Beginning, book: &Book)
         requires begins { IsPrefix self.old.reached.journal reached.journal }
         requires row { IsRowOf N.parts (row_at book.now.state reached) }

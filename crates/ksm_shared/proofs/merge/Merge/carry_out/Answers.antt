@@ -2,7 +2,7 @@ use Rattle.std.proofs.Common.{◌≡◌, ◌∙◌, ◌++◌, ◌<◌, ℕ, ap, 
 use Rattle.ksm_shared.specs.declared.seen.Caller.{Caller}
 use Rattle.ksm_shared.specs.Seen.{entries, first}
 use Rattle.ksm_shared.specs.Locked.{SeesOn, made_by}
-use Rattle.ksm_shared.proofs.Extended.{answers_seen, book_seat_is, follows_book, follows_on, leads_seen, new_journal, new_log, new_owners, part_grows, sees_on, shown_all}
+use Rattle.ksm_shared.proofs.Extended.{answers_seen, book_seat_is, follows_book, follows_on, leads_seen, new_journal, new_log, new_owners, part_grows, sees_on, shown_all, steps_alone}
 use Rattle.ksm_shared.proofs.merge.Merge.carry_out.Given.{Over}
 use Rattle.ksm_shared.proofs.merge.Merge.carry_out.Goals as goal
 
@@ -71,3 +71,8 @@ returns-clause-seen g c =
 
 pub returns-clause-part : goal.returns-clause-part
 returns-clause-part g c = part_grows _ _ _ _ _ (returns-clause-seen g c)
+
+pub returns-clause-alone : goal.returns-clause-alone
+returns-clause-alone g c =
+    let law = c.a_journal_goes_on.ensures in
+    steps_alone law.state (λ b earlier later. (law.answers b earlier later).0) _ _ _ _ _ (returns-clause-seen g c)
