@@ -2,7 +2,7 @@
 use crate::status::Status;
 
 /// What `--version` prints: the name, and what the file VERSION has. `bench/statuses` compares the two.
-const VERSION: &str = "ksmbook 1.1.0\n";
+const VERSION: &str = "ksmbook 1.2.0\n";
 
 /// Whether the program's words, its name first, ask for the version and for nothing else.
 pub(crate) fn asks_version(words: &[String]) -> bool {
