@@ -48,7 +48,7 @@ extern "C" {
 
 /* The version of this header, and as one number that grows. ksm_version() tells that of the library. */
 #define KSM_VERSION_MAJOR 1
-#define KSM_VERSION_MINOR 1
+#define KSM_VERSION_MINOR 2
 #define KSM_VERSION_PATCH 0
 #define KSM_VERSION (KSM_VERSION_MAJOR * 10000 + KSM_VERSION_MINOR * 100 + KSM_VERSION_PATCH)
 
