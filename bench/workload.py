@@ -235,6 +235,17 @@ def waiting(script):
         script.one_pass()
 
 
+def waiting_beside_prunes(script):
+    """The same with a prune between store and pass, as a kernel prunes every two seconds."""
+    words = talk.page_words()
+    lay_unlike(script, random_contents(script))
+    while True:
+        yield
+        script.store_words(script.any_page(), words)
+        script.add("prune")
+        script.one_pass()
+
+
 def long_chain(script):
     """One content in dups of two items each: sixteen stores of it, which copy the page, and a pass, which merges it again."""
     script.begin(limit=2)

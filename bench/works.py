@@ -41,6 +41,7 @@ WORKS = {
     "stat": Work(workload.counting, 30, 0.8),
     "start": Work(workload.nothing, 0, 1 / 1.5),
     "waiting": Work(workload.waiting, 300, 0.6),
+    "waiting_prunes": Work(workload.waiting_beside_prunes, 300, 0.6),
     "chain": Work(workload.long_chain, 300, 0.5, pages=1000),
     "scan_large": Work(workload.broken_scans, 300, 0.6),
     "one_broken": Work(workload.one_broken, 20, 0.5),
