@@ -8,7 +8,6 @@ use Rattle.ksm_pages.specs.Ahead.{FindsNext}
 use Rattle.ksm_pages.specs.Paged.{is_restless as may_change}
 use Rattle.ksm_pages.proofs.Found.{first_found}
 use Rattle.ksm_pages.proofs.Filing.{all_stand, named_under, one_key, under_named}
-use Rattle.ksm_pages.proofs.Listings.{with_has}
 
 -- a visit may change a row exactly where it may change its entry
 pub restless_as : (pass : ℕ) (e : Entry) → may_change (held_of pass e).row ≡ is_restless e
@@ -55,10 +54,15 @@ module _ (slab : Slab Entry) (order : List Named) (rise : AreAscending order) (f
         (first_found (λ m. m.page) (λ m. after_cursor last m.page) order n rise found) in
         grind (arith, first, one_before, same_page_eq)
 
-    module _ {old new : Listing} (listed : AreListedUpTo slab last old) where
+    module _ (old new : Listing) (listed : AreListedUpTo slab last old) where
       -- where the next page is added, the pages up to that page are listed that a visit may change
       pub one_added : IsAddedTo n.page old new → AreListedUpTo slab (Some n.page) new
-      one_added added known key e stands may not_behind = search (rules, with_has, passed, same_page_refl, listed)
+      one_added added known key e stands may not_behind =
+          let is = added known in
+          is.1 e.page ∙ elim (passed key stands not_behind) [
+            | inl same ↦ grind (arith, same, same_page_refl)
+            | inr before ↦ grind (arith, listed is.0 key e stands may before)
+          ]
 
       -- where no visit changes the next page, the list has all up to that page that a visit may change
       pub one_passed : {e : Entry} → get slab n.key ≡ Some e → is_restless e ≡ false → new ≡ old → AreListedUpTo slab (Some n.page) new

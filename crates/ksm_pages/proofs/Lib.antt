@@ -5,7 +5,6 @@ pub mod Found
 pub mod Tallying
 pub mod Filing
 pub mod Led
-pub mod Listings
 pub mod Changing
 pub mod Settling
 pub mod Spots
@@ -24,6 +23,7 @@ pub mod Entering
 pub mod Partners
 pub mod Visiting
 pub mod Paired
+pub mod Merging
 pub mod Moving
 pub mod Asked
 pub mod Beside

@@ -14,7 +14,6 @@ use Rattle.ksm_pages.proofs.Changing.{marked_same, row_told, rows_changed, rows_
 use Rattle.ksm_pages.proofs.Filing.{all_filled, filed_marked, filed_put, filed_taken, held_found, held_nowhere, named_under, one_key, put, rows_rise, taken, unmarked, written}
 use Rattle.ksm_pages.proofs.Found.{absent_unchanged, write_rises}
 use Rattle.ksm_rmap.proofs.Ordered.{absent_kept, with_rises, without_rises}
-use Rattle.ksm_pages.proofs.Listings.{with_has}
 use Rattle.ksm_pages.proofs.Tallying.{can_move, tally_changed, tally_gone, tally_put}
 
 -- what is seen of entries in an order, in a pass, where each node has a tree or not
@@ -113,8 +112,15 @@ module _ (s : Inside) (are : AreRows s) where
       still was is moved either = record {
         ascending = rw marks (write_rises _ page _ (λ n. refl) _ are.ascending);
         filed = rw (marks, ← of_page) (filed_marked _ _ are.ascending are.filed stood fills keeps.0);
-        listed = λ known. all_filled fills (λ may. grind (arith, of_page, with_has, same_page_refl, are.listed))
-            (λ k f stands apart may. grind (arith, with_has, are.listed));
+        listed = λ known. elim either [
+          | inl added ↦
+              let is = added known in
+              all_filled fills (λ may. is.1 e'.page ∙ grind (arith, of_page, keeps.0, same_page_refl))
+              (λ k f stands apart may. is.1 f.page ∙ grind (arith, are.listed is.0 k f stands may))
+          | inr stays ↦
+              all_filled fills (λ may. grind (arith, of_page, stays, are.listed))
+              (λ k f stands apart may. grind (arith, stays.0, are.listed))
+        ];
         counted =
             rw (ap rows_of (held_later _ refl) ∙ rows_changed _ (λ _. held_of s.pass e') _ _ (λ h. refl))
             (tally_changed rise _ found_row _ are.counted _ (grind arith));
@@ -194,7 +200,10 @@ module _ (s : Inside) (are : AreRows s) {v : RowsView} (seen_as : view_of s ≡ 
   still_put alone fits added = record {
     ascending = with_rises pages_ordered (λ (n : Named). n.page) _ (named_of key e) _ refl are.ascending;
     filed = filed_put _ _ are.ascending are.filed free not_named filled;
-    listed = grind (arith, all_filled filled, with_has, same_page_refl, listed_known);
+    listed = λ known.
+        let is = added known in
+        all_filled filled (λ may. is.1 e.page ∙ grind (arith, same_page_refl))
+        (λ k f stands apart may. is.1 f.page ∙ grind (arith, are.listed is.0 k f stands may));
     counted = rw (ap rows_of held_put ∙ rows_with (held_of s.pass e) before)
         (tally_put _ (row_told e.page before held_absent) alone are.counted);
     begun = all_filled filled (λ own. fits) (λ k f stands apart. are.begun k f stands);

@@ -1,11 +1,11 @@
 -- Rows as they are kept, in the order of their pages, each with the frame of its own if it has one. (own)
-use Rattle.std.specs.Prelude.{◌≡◌, ◌⊎◌, ℕ, Bool, true, false, not, ◌&&◌, ◌==◌, All, AllPairs, bytes_eq, List, ◌∷◌, ◌++◌, filter, find, map, option_map, Option, None, Some, if◌then◌else◌}
+use Rattle.std.specs.Prelude.{◌≡◌, ℕ, ◌<◌, ◌^◌, Bool, true, false, not, ◌&&◌, ◌||◌, ◌==◌, All, AllPairs, bytes_eq, List, ◌∷◌, ◌++◌, filter, find, map, option_map, Option, None, Some, if◌then◌else◌}
 use Rattle.ksm_base.specs.declared.page.GuestPage.{GuestPage}
 use Rattle.ksm_base.specs.declared.row.PageState.{PageState}
 use Rattle.ksm_base.specs.declared.row.PageState.TheVariants.{Private, Waiting, Merged, Zero}
 use Rattle.ksm_base.specs.declared.row.Row.{Row}
 use Rattle.ksm_base.specs.Rows.{comes_before, same_page, settled}
-use Rattle.ksm_rmap.specs.Items.{with_item}
+use Rattle.ksm_rmap.specs.Items.{has_item}
 use Rattle.ksm_pages.specs.declared.row.InTree.{InTree}
 use Rattle.ksm_pages.specs.declared.row.InTree.TheVariants.{Alone, Beside, Not}
 use Rattle.ksm_pages.specs.declared.row.Kind.{Kind}
@@ -19,22 +19,28 @@ pub record Held : Type 0 where
   pub frame : Option ℕ
   pub in_tree : InTree
 
--- pages that a visit may change, in their order, and whether all of them are known
+-- pages that a visit may change, whether all of them are known, and whether they are in order too
 pub record Listing : Type 0 where
   pub pages : List GuestPage
   pub known : Bool
+  pub ready : Bool
 
--- the pages of the spots ascend
+-- no page of the spots comes before the page of one that stands in front of it
 abbrev pub AreInOrder : List Spot → Type 0
-AreInOrder spots = AllPairs (λ s t. comes_before s.page t.page ≡ true) spots
+AreInOrder spots = AllPairs (λ s t. comes_before t.page s.page ≡ false) spots
+
+-- the number of each spot's page fits 32 bits
+abbrev pub FitSpots : List Spot → Type 0
+FitSpots spots = All (λ s. s.page.page < 2 ^ 32) spots
 
 -- the pages of spots
 abbrev pub pages_of : List Spot → List GuestPage
 pages_of spots = map (λ s. s.page) spots
 
--- a page is listed from now on, or else the list stays as it was and is no longer known
+-- a page is listed from now on, and so are those that were, or else the list is no longer known
 abbrev pub IsAddedTo : GuestPage → Listing → Listing → Type 0
-IsAddedTo page old new = (new ≡ record old { pages = with_item page old.pages }) ⊎ (new ≡ record old { known = false })
+IsAddedTo page old new = new.known ≡ true → (old.known ≡ true) × ((other : GuestPage)
+    → has_item other new.pages ≡ (same_page page other || has_item other old.pages))
 
 -- what is seen of the rows: each with its frame, the number of the pass, and whether each node has a tree of its own
 pub record RowsView : Type 0 where

@@ -42,7 +42,7 @@ impl<P: Part> Model for Order<P> {
 
 /// The key of a page: its guest, then its number.
 #[inline(always)]
-fn key_of(page: GuestPage) -> u64
+pub(crate) fn key_of(page: GuestPage) -> u64
     ensures key { result ≡ key_of page }
     ensures small { result < 2 ^ 48 }
     ensures few { page.page < 2 ^ 32 }

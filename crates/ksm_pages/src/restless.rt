@@ -1,102 +1,75 @@
 //! The pages that a visit of the scan may change: those of mergeable rows with frames of their own, so there are never
 //! more of these than frames.
 //!
-//! Some other pages may be listed too: whoever visits a page looks at its row anyhow. So a page stays listed in vain
-//! once it is merged, its row is gone, or no scan visits it any more, until many may be so. Where memory for a page is
-//! refused, the list is no longer known to have all, and the next scan makes it anew, or goes through all rows where
-//! memory is refused again: so no command is refused for it, and no contract speaks of the list. So it is where pages
-//! that came in another order have moved so many others that a walk over all rows costs no more, and where more than
-//! half of the list is there in vain.
+//! Some other pages may be listed too, and a page twice: whoever visits a page looks at its row anyhow. So a page stays
+//! listed in vain once it is merged, its row is gone, or no scan visits it any more, until many may be so. Where memory
+//! for a page is refused, the list is no longer known to have all, and the next scan makes it anew, or goes through all
+//! rows where memory is refused again: so no command is refused for it, and no contract speaks of the list. So it is
+//! where more than half of the list is there in vain.
 
-ghost use Rattle.std.specs.Prelude.{◌≡◌, ◌⊎◌, ◌≤◌, [], true, false, filter, find, is_some, length, not, All};
-ghost use Rattle.std.specs.Prelude.{slice_index_or, IfNone, IfSome, IsTrue, ◌<◌};
+ghost use Rattle.std.specs.Prelude.{◌≡◌, ◌⊎◌, ◌≤◌, ◌<◌, [], true, false, filter, length, not, All, OnOk, ◌||◌};
+ghost use Rattle.std.specs.Prelude.{IfNone, IfSome, IsTrue, slice_index_or};
 ghost use Rattle.ksm_base.specs.declared.page.GuestPage.{GuestPage};
 ghost use Rattle.ksm_base.specs.Rows.{comes_before, same_page};
 ghost use Rattle.ksm_base.specs.Visit.{after_cursor};
 ghost use Rattle.ksm_rmap.specs.Items.{has_item};
 ghost use Rattle.ksm_pages.specs.Filed.{IsInVain, is_useless as is_of_no_use};
-ghost use Rattle.ksm_pages.specs.Held.{AreInOrder, IsAddedTo};
+ghost use Rattle.ksm_pages.specs.Held.{AreInOrder, FitSpots, IsAddedTo, pages_of};
 ghost use Rattle.slab.specs.Slab.{get};
 
-use crate::order::Order;
+use crate::order::{Order, key_of};
 use crate::row::{Entry, Spot};
 use ksm_base::GuestPage;
 use ksm_order::insert_at;
 use slab::Slab;
-use std::alloc::Global;
+use std::alloc::{AllocError, Global};
 use std::marker::Model;
 
-/// How many pages are moved at a time until that counts as dear.
-const LONG: usize = 16_384;
+/// Room for so many pages that were added is kept once they are in order.
+const MANY: usize = 16_384;
 
-/// So many moves of a page cost what a walk comes to for one row.
-const MOVES_A_ROW: usize = 256;
+/// To put one page in its place costs as much as to look at so many of those behind it.
+const DEAR: usize = 16;
 
 /// A visit of a page without a row searches for it, so it weighs as much as so many whose row is found.
 const WEIGHT_OF_A_SEARCH: usize = 4;
 
-/// Pages in order, each with a guess of the key of its row, and whether all that a visit may change are among them.
+/// Pages, each with a guess of the key of its row, and whether all that a visit may change are among them.
 ///
-/// `add` costs the logarithm of the number of pages, and a move of those behind. Where pages are added one behind the
-/// other, no search is made. Once moves of `LONG` pages and more come to `MOVES_A_ROW` pages for each row, or there are
-/// more than two pages for each row, the next scan makes the list anew by a walk.
+/// To add a page costs a step. Those that did not come in order are put in order when a scan begins, which costs a sort
+/// of these, and a move of those behind the first of them. Once there are more than two pages for each row, the next
+/// scan makes the list anew by a walk over all rows.
 #[derive(Drop)]
 pub struct Restless {
+    alloc: Global,
+    /// In order.
     spots: Vec<Spot>,
+    /// Those that came since and are not in order yet.
+    added: Vec<Spot>,
     known: bool,
     /// How many pages have come to be listed in vain since `sweep` looked, by their weight.
     useless: usize,
-    /// How many pages were moved, many at a time, since the last walk.
-    moved: usize,
-    /// A guess of the index at which the next page is put: the one behind the last.
-    next: usize,
     /// A guess of the index of the next page that a scan asks for.
     told: usize,
 }
 
 impl Model for Restless {
-    ghost use Rattle.ksm_pages.specs.Held.{AreInOrder, Listing, pages_of};
+    ghost use Rattle.std.specs.Prelude.{◌++◌, ◌&&◌, ◌==◌, length};
+    ghost use Rattle.ksm_pages.specs.Held.{AreInOrder, FitSpots, Listing, pages_of};
 
     ghost Value = { Listing };
 
-    ghost view = { λ r. record { pages = pages_of r.spots.items; known = r.known } };
+    ghost view = { λ r. record {
+      pages = pages_of r.spots.items ++ pages_of r.added.items;
+      known = r.known;
+      ready = r.known && length r.added.items == 0;
+    } };
 
-    ghost invariant = { λ r. AreInOrder r.spots.items };
-}
-
-/// How many of the pages come before this one: the index at which it stands, or would.
-fn place_of(spots: &[Spot], page: GuestPage) -> usize
-    requires { AreInOrder spots.now }
-    ensures count { result ≡ length (filter (λ s. comes_before s.page page) spots.now) }
-    ensures within { result ≤ length spots.now }
-{
-    let len = spots.len();
-    // Pages mostly come in order.
-    if len > 0 && spots[len - 1].page.comes_before(page) {
-        return len;
-    }
-    spots.partition_point(|spot| spot.page.comes_before(page))
-}
-
-/// The same, with a guess of the index, which is tried first.
-#[inline(always)]
-fn place_near(spots: &[Spot], guess: usize, page: GuestPage) -> usize
-    requires { AreInOrder spots.now }
-    ensures count { result ≡ length (filter (λ s. comes_before s.page page) spots.now) }
-    ensures within { result ≤ length spots.now }
-{
-    if 0 < guess
-        && guess < spots.len()
-        && spots[guess - 1].page.comes_before(page)
-        && !spots[guess].page.comes_before(page)
-    {
-        return guess;
-    }
-    place_of(spots, page)
+    ghost invariant = { λ r. AreInOrder r.spots.items × FitSpots r.added.items };
 }
 
 /// How many of the pages do not come behind a cursor: the index of the first that does. The guess is right where the
-/// page before it stands at the cursor.
+/// page before it stands at the cursor, and its own behind that.
 #[inline(always)]
 fn place_behind(spots: &[Spot], guess: usize, cursor: Option<GuestPage>) -> usize
     requires { AreInOrder spots.now }
@@ -106,32 +79,84 @@ fn place_behind(spots: &[Spot], guess: usize, cursor: Option<GuestPage>) -> usiz
     let Some(page) = cursor else {
         return 0;
     };
-    if 0 < guess && guess <= spots.len() && spots[guess - 1].page == page {
+    if 0 < guess && guess <= spots.len() && spots[guess - 1].page == page && follows(spots, guess, page) {
         return guess;
     }
     spots.partition_point(|spot| !page.comes_before(spot.page))
 }
 
-/// Whether the page stands at the index.
-fn stands_at(spots: &[Spot], at: usize, page: GuestPage) -> bool
-    requires order { AreInOrder spots.now }
-    requires place { at ≡ length (filter (λ s. comes_before s.page page) spots.now) }
-    ensures found { result ≡ is_some (find (λ s. same_page s.page page) spots.now) }
-    ensures within { IsTrue result → at < length spots.now }
-    ensures here { IsTrue result → (d : Spot) → same_page (slice_index_or spots.now at d).page page ≡ true }
+/// Whether the page at an index, if there is one, comes behind a page.
+#[inline(always)]
+fn follows(spots: &[Spot], at: usize, page: GuestPage) -> bool
+    ensures { IsTrue result → at < length spots.now → (d : Spot) → comes_before page (slice_index_or spots.now at d).page ≡ true }
 {
-    at < spots.len() && spots[at].page == page
+    at >= spots.len() || page.comes_before(spots[at].page)
 }
 
-/// Counts so many pages that would be moved, if they are many. Tells whether those counted come to a walk over so many
-/// rows.
+/// Whether no page comes behind a page.
 #[inline(always)]
-fn is_dear(moved: &mut usize, pages: usize, rows: usize) -> bool {
-    if pages < LONG {
-        return false;
+fn is_last(spots: &[Spot], page: GuestPage) -> bool
+    requires { AreInOrder spots.now }
+    ensures { IsTrue result → All (λ s. comes_before page s.page ≡ false) spots.now }
+{
+    match spots.last() {
+        Some(last) => !page.comes_before(last.page),
+        None => true,
     }
-    *moved = moved.saturating_add(pages);
-    *moved / MOVES_A_ROW >= rows
+}
+
+/// Puts each of some spots in its place among others, which are in order, and so are all together then.
+fn put_each(spots: &mut Vec<Spot>, added: &[Spot]) -> Result<(), AllocError>
+    requires { AreInOrder spots.old.items }
+    ensures order { AreInOrder spots.new.items }
+    ensures all { OnOk result ((page : GuestPage) → has_item page (pages_of spots.new.items)
+        ≡ (has_item page (pages_of spots.old.items) || has_item page (pages_of added.now))) }
+{
+    for spot in added {
+        let at = place_behind(spots.as_slice(), 0, Some(spot.page));
+        insert_at(spots, at, *spot)?;
+    }
+    Ok(())
+}
+
+/// Puts spots among others, from the last on. Both are in order, and so are all together then.
+fn interleave(spots: &mut Vec<Spot>, added: &[Spot]) -> Result<(), AllocError>
+    requires order { AreInOrder spots.old.items }
+    requires added { AreInOrder added.now }
+    ensures order { AreInOrder spots.new.items }
+    ensures all { OnOk result ((page : GuestPage) → has_item page (pages_of spots.new.items)
+        ≡ (has_item page (pages_of spots.old.items) || has_item page (pages_of added.now))) }
+{
+    let mut from = spots.len();
+    let mut left = added.len();
+    spots.extend_from_slice(added)?;
+    while 0 < left {
+        let last = added[left - 1];
+        if 0 < from && last.page.comes_before(spots[from - 1].page) {
+            from -= 1;
+            spots[from + left] = spots[from];
+        } else {
+            left -= 1;
+            spots[from + left] = last;
+        }
+    }
+    Ok(())
+}
+
+/// Puts spots in order among others, which are.
+fn put_all(spots: &mut Vec<Spot>, added: &mut [Spot]) -> Result<(), AllocError>
+    requires order { AreInOrder spots.old.items }
+    requires fit { FitSpots added.old }
+    ensures order { AreInOrder spots.new.items }
+    ensures all { OnOk result ((page : GuestPage) → has_item page (pages_of spots.new.items)
+        ≡ (has_item page (pages_of spots.old.items) || has_item page (pages_of added.old))) }
+{
+    if added.len() < spots.len() / DEAR {
+        return put_each(spots, added);
+    }
+    added.sort_unstable_by_key(|spot: &Spot| key_of(spot.page));
+    interleave(spots, added)?;
+    Ok(())
 }
 
 /// Whether it is certain that a spot is listed in vain.
@@ -147,14 +172,14 @@ fn is_useless(entries: &Slab<Entry>, order: &Order, spot: &Spot) -> bool
 impl Restless {
     /// No pages, and none that is missing.
     pub fn new(alloc: Global) -> Restless
-        ensures { result ≡ record { pages = []; known = true } }
+        ensures { result ≡ record { pages = []; known = true; ready = true } }
     {
         Restless {
+            alloc,
             spots: Vec::new(alloc),
+            added: Vec::new(alloc),
             known: true,
             useless: 0,
-            moved: 0,
-            next: 0,
             told: 0,
         }
     }
@@ -166,20 +191,29 @@ impl Restless {
         self.known
     }
 
+    /// Whether that is so, and all pages are in order.
+    #[inline(always)]
+    pub fn is_ready(&self) -> bool
+        ensures ready { result ≡ self.now.ready }
+        ensures known { IsTrue result → self.now.known ≡ true }
+    {
+        self.known && self.added.is_empty()
+    }
+
     /// No page is listed any more, and all are about to be.
     pub fn clear(&mut self)
-        ensures { self.new ≡ record { pages = []; known = true } }
+        ensures { self.new ≡ record { pages = []; known = true; ready = true } }
     {
         self.spots.clear();
+        self.added.clear();
         self.known = true;
         self.useless = 0;
-        self.moved = 0;
-        self.next = 0;
     }
 
     /// The first listed page behind a cursor. A guess of its index is the one behind the page that was told last.
     #[inline(always)]
     pub fn after(&mut self, cursor: Option<GuestPage>) -> Option<Spot>
+        requires { self.old.ready ≡ true }
         ensures kept { self.new ≡ self.old }
         ensures none { IfNone result (All (λ p. after_cursor cursor p ≡ false) self.old.pages) }
         ensures next { IfSome result (λ spot. (after_cursor cursor spot.page ≡ true)
@@ -190,29 +224,48 @@ impl Restless {
         self.spots.get(at).copied()
     }
 
-    /// The page of a spot is listed, where there are so many rows. Where memory for it is refused, or many pages were
-    /// moved already, the list stays as it is, and is no longer known.
+    /// The page of a spot is listed, where there are so many rows. Where memory for it is refused, or the list is long
+    /// for so few rows, it is no longer known.
     #[inline(always)]
     pub fn add(&mut self, spot: Spot, rows: usize)
-        ensures added { IsAddedTo spot.page self.old self.new }
-        ensures again { has_item spot.page self.old.pages ≡ true → self.new ≡ self.old }
+        ensures { IsAddedTo spot.page self.old self.new }
     {
-        let at = place_near(self.spots.as_slice(), self.next, spot.page);
-        let found = stands_at(self.spots.as_slice(), at, spot.page);
-        self.next = at + 1;
-        if found {
-            self.spots[at] = spot;
+        if !self.known {
             return;
         }
-        let len = self.spots.len();
-        let dear = is_dear(&mut self.moved, len - at, rows);
-        if dear || len / 2 > rows || !self.known {
+        let listed = self.spots.len().saturating_add(self.added.len());
+        if listed / 2 > rows || self.push(spot).is_err() {
             self.known = false;
-            return;
         }
-        match insert_at(&mut self.spots, at, spot) {
-            Ok(()) => {}
-            Err(_) => self.known = false,
+    }
+
+    // The same where all is known. Pages mostly come in order.
+    #[inline(always)]
+    fn push(&mut self, spot: Spot) -> Result<(), AllocError>
+        ensures known { self.new.known ≡ self.old.known }
+        ensures added { OnOk result ((page : GuestPage)
+            → has_item page self.new.pages ≡ (same_page spot.page page || has_item page self.old.pages)) }
+    {
+        if self.added.is_empty() && is_last(self.spots.as_slice(), spot.page) {
+            self.spots.push(spot)?;
+        } else {
+            self.added.push(spot)?;
+        }
+        Ok(())
+    }
+
+    /// Puts the pages in order that were added. Where memory for that is refused, the list is no longer known.
+    pub fn put_in_order(&mut self)
+        ensures ready { self.new.ready ≡ self.new.known }
+        ensures kept { self.new.known ≡ true → (self.old.known ≡ true) × ((page : GuestPage)
+            → has_item page self.new.pages ≡ has_item page self.old.pages) }
+    {
+        if put_all(&mut self.spots, self.added.as_mut_slice()).is_err() {
+            self.known = false;
+        }
+        self.added.clear();
+        if self.added.capacity() > MANY {
+            self.added = Vec::new(self.alloc);
         }
     }
 

@@ -665,16 +665,17 @@ impl Rows {
         if !self.restless.is_known() {
             gather(&self.entries, &self.order, &mut self.restless);
         }
+        self.restless.put_in_order();
     }
 
-    /// The first page behind a cursor that a visit may change, or a page before it. Where not all of them are listed,
-    /// it is the first page behind the cursor.
+    /// The first page behind a cursor that a visit may change, or a page before it. Where not all of them are listed in
+    /// order, it is the first page behind the cursor.
     #[inline(always)]
     pub fn next_restless(&mut self, cursor: Option<GuestPage>) -> Option<Spot>
         ensures kept { self.new ≡ self.old }
         ensures next { FindsNext cursor (rows_of self.old.held) (option_map (λ s. s.page) result) }
     {
-        if self.restless.is_known() {
+        if self.restless.is_ready() {
             self.restless.after(cursor)
         } else {
             self.after(cursor)

@@ -14,13 +14,15 @@ loop-named-preserved c =
     let slab = c.args.entries.now in
     elim c.if-is_restless.branch [
       | then-is_restless w ↦
-          one_added slab _ c.requires.ascending c.requires.filed _ (sym c.in-Some.ensures) c.loop-named.invariant
-          (rw w.restless-is w.add.ensures.added)
+          one_added slab _ c.requires.ascending c.requires.filed _ (sym c.in-Some.ensures) c.loop-named.restless c.if-is_restless.restless
+          c.loop-named.invariant
+          (rw w.restless-is w.add.ensures)
       | else-is_restless w ↦
-          one_passed slab _ c.requires.ascending c.requires.filed _ (sym c.in-Some.ensures) c.loop-named.invariant
+          one_passed slab _ c.requires.ascending c.requires.filed _ (sym c.in-Some.ensures) c.loop-named.restless c.if-is_restless.restless
+          c.loop-named.invariant
           c.index.ensures (grind arith) w.restless-is
     ]
 
 pub returns : goal.returns
 returns c known =
-    all_passed c.args.entries.now _ c.requires.ascending c.requires.filed _ (sym c.in_default.ensures) _ c.loop-named.invariant known
+    all_passed c.args.entries.now _ c.requires.ascending c.requires.filed _ (sym c.in_default.ensures) c.loop-named.restless c.loop-named.invariant known

@@ -1,5 +1,6 @@
-use Rattle.ksm_pages.proofs.Names.{AllPairs-filter, comes_before, filter, filter_same, get, has_item, is_useless, not, rules, true, ◌∙◌, ◌≡◌}
-use Rattle.ksm_pages.proofs.Spots.{swept}
+use Rattle.ksm_pages.proofs.Names.{AllPairs-filter, comes_before, filter, filter_same, get, has_item, is_useless, not, pages_of, rules, true, ◌∙◌, ◌≡◌}
+use Rattle.ksm_pages.proofs.Merging.{Follows}
+use Rattle.ksm_pages.proofs.Spots.{swept_beside}
 use Rattle.ksm_pages.proofs.restless.Restless.sweep.Goals as goal
 
 -- the spots that are left
@@ -8,7 +9,7 @@ left c = filter_same _ _ _ (λ s b g t. search rules) _ _ c.retain.ensures.filte
 
 pub invariant_of-self : goal.invariant_of-self
 invariant_of-self c =
-    rw (left c) (AllPairs-filter (λ s t. comes_before s.page t.page ≡ true) (λ s. not (is_useless c.args.order.now s (get c.args.entries.now s.key))) _ c.self.invariant)
+    (rw (left c) (AllPairs-filter Follows (λ s. not (is_useless c.args.order.now s (get c.args.entries.now s.key))) _ c.self.invariant.0), c.self.invariant.1)
 
 pub returns-then-self-len-clause-kept : goal.returns-then-self-len-clause-kept
-returns-then-self-len-clause-kept c page has = rw (left c) (swept _ _ ((λ i. has_item page (c.self.view_is i).pages) ∙ has))
+returns-then-self-len-clause-kept c page has = rw (left c) (swept_beside _ c.self.inside.spots.items (pages_of c.self.inside.added.items) ((λ i. has_item page (c.self.view_is i).pages) ∙ has))

@@ -53,7 +53,7 @@ led g c =
 pub invariant_of-self : goal.invariant_of-self
 invariant_of-self g c =
     let l = (goal.at.invariant_of-self g c).After-len-rows in
-    (lawful g l (inl (rw (told g l) at c.add.ensures.added)), led g l)
+    (lawful g l (inl (rw (told g l) at c.add.ensures)), led g l)
 
 pub invariant_of-self-else-not-listed : goal.invariant_of-self-else-not-listed
 invariant_of-self-else-not-listed g c =

@@ -35,7 +35,7 @@ invariant_of-self-2 c =
     rw c.in_ok-insert.ensures.added (
       still_put c.self.inside c.self.invariant.0 c.self.view_is c.reserve_one.ensures.rest (came c).0 c.requires.absent
           (came c).1
-          (rests_now _ (fresh c) c.self.invariant.0.counting refl refl) (omega arith) c.add.ensures.added,
+          (rests_now _ (fresh c) c.self.invariant.0.counting refl refl) (omega arith) c.add.ensures,
       led_still c.self.inside.by_node c.self.inside.entries c.insert_reserved.new.self (stay_put c.self.inside.entries c.insert_reserved.new.self c.in-Ok.key (filled c.self.inside c.self.invariant.0 c.self.view_is c.reserve_one.ensures.rest (came c).0 c.requires.absent (came c).1) refl) c.self.inside.unstable c.self.invariant.1,
     )
 
