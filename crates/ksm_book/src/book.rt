@@ -175,10 +175,7 @@ impl Book {
         ensures fault { IfErr result (λ fault. fault ≡ Fault.Memory) }
         ensures refused { IfErr result (λ _. IsSome (mappers_of place self.now.state)) }
     {
-        let Some(items) = self.state.pages.items_at(place) else {
-            return Ok(None);
-        };
-        Ok(Some(Vec::from_slice(alloc, items)?))
+        Ok(self.state.pages.items_at(alloc, place)?)
     }
 
     /// The counters: what is counted from the pages and dups as they are. Totals are kept, so nothing is walked.

@@ -8,7 +8,7 @@ use Rattle.std.proofs.Math.Nat.{eq-or-lt_of_le}
 use Rattle.std.specs.List.Sorted.{IsNonDecreasingBy, IsPermutation}
 use Rattle.std.proofs.lemmas.List.Sorted.{IsPermutation-map, list_any-IsPermutation}
 use Rattle.ksm_pages.specs.Held.{FitSpots}
-use Rattle.ksm_pages.specs.Ordered.{key_of}
+use Rattle.ksm_rmap.specs.Keys.{key_of}
 use Rattle.std.proofs.Math.Seq.{take-append_seam, take-length}
 use Rattle.std.proofs.lemmas.List.{drop_all, drop-set, get_or-set_other, get_or-set_same, get_or-take, get_or_default, length-set, take-append-drop, take-set-le, take-take}
 use Rattle.ksm_pages.proofs.Names.{cases_lt, ◌-◌, ◌⊎◌}

@@ -23,7 +23,7 @@ pub use Rattle.ksm_pages.specs.Ahead.{last_of, mergeable_pages, pages_behind, pa
 pub use Rattle.ksm_pages.specs.Held.{AreInOrder, change_held, forgotten, Held, held_at, held_of, holds, is_own, is_restless, IsAddedTo, Listing, mapped, number_left, on_row, pages_of, rows_of}
 pub use Rattle.ksm_pages.specs.Held.{AreInTree, beside, has_content, in_tree_by, is_in, IsFree, out_of_tree, page_in_tree, RowsView, shares, state_of, tree_by, waiting_in, with_held, without_held, written}
 pub use Rattle.ksm_pages.specs.Left.{IsLeft}
-pub use Rattle.ksm_pages.specs.Ordered.{AreAscending, is_of, key_of, marked, named_by, page_of, visited, with_named, without_named}
+pub use Rattle.ksm_pages.specs.Ordered.{AreAscending, is_of, marked, named_by, visited, with_named, without_named}
 pub use Rattle.ksm_pages.specs.Paged.{AreAlone, AreKept, elsewhere, Finds, FindsAt, frame_of, frame_seen, Frames, HasRoom, is_item, is_next, IsAlone, IsHeld, IsKnown, IsVacant, items_on, lies_on}
 pub use Rattle.ksm_pages.specs.Paged.{lodging, lodgings_of, MayPair, of_guest, page_beside, PagesValue, PagesView, paired, seen}
 pub use Rattle.ksm_pages.specs.declared.named.Named.{Named}
@@ -38,6 +38,7 @@ pub use Rattle.ksm_pages.specs.declared.tally.Tally.{Tally}
 pub use Rattle.ksm_rmap.proofs.Ordered.{point_is_count, with_found}
 pub use Rattle.ksm_rmap.proofs.Pages.{pages_ordered}
 pub use Rattle.ksm_rmap.specs.Items.{has_item, with_item}
+pub use Rattle.ksm_rmap.specs.Keys.{key_of, page_of}
 pub use Rattle.ksm_tree.proofs.Bridge.{best_found, choice_alike, choice_exists, live_count, live_placed, stale_alike}
 pub use Rattle.ksm_tree.proofs.Chained.{found_passing}
 pub use Rattle.ksm_tree.proofs.Changes.{all_rows, row_found, rows_items, rows_new, rows_out, rows_without}

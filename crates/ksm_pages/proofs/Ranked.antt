@@ -6,6 +6,7 @@ use Rattle.ksm_pages.proofs.Names.{with_named, zero, ℕ, [], ◌&&◌, ◌+◌,
 use Rattle.std.proofs.lemmas.List.{drop-map, length-drop, length-take-le, nil_from_length, take-map}
 use Rattle.std.proofs.lemmas.List.Kept.{AllPairs-filter}
 use Rattle.ksm_base.proofs.Edits.{count_more}
+use Rattle.ksm_rmap.proofs.Keys.{before_as_key, behind_as_key, same_as_key}
 use Rattle.ksm_tree.proofs.Alike.{filter_mapped, find_mapped, pairs_mapped}
 use Rattle.ksm_pages.specs.Ordered.{AreAscending as AreInOrder}
 use Rattle.ksm_pages.proofs.Found.{length_with}
@@ -17,13 +18,13 @@ use Rattle.ksm_order.proofs.Parts.{up_to_few}
 
 module _ (page : GuestPage) (few : page.page < 2 ^ 32) where
   pub is_its : (x : Item) → is_of page (named_by x) ≡ is_at (key_of page) x
-  is_its x = grind arith
+  is_its x = same_as_key page few x.key
 
   pub before_its : (x : Item) → comes_before (named_by x).page page ≡ nat_lt x.key (key_of page)
-  before_its x = grind arith
+  before_its x = before_as_key page few x.key
 
   pub behind_its : (x : Item) → comes_before page (named_by x).page ≡ nat_lt (key_of page) x.key
-  behind_its x = grind arith
+  behind_its x = behind_as_key page few x.key
 
   -- with the page put in among others, what is kept has its item
   pub put_its : (value : ℕ) (items : List Item)

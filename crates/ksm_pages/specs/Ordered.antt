@@ -1,9 +1,10 @@
 -- Pages in order, each with the key of its row, and whether a scan visits it; and the items that are kept for it. (own)
-use Rattle.std.specs.Prelude.{◌≡◌, ℕ, ◌+◌, ◌*◌, ◌/◌, ◌%◌, ◌^◌, ◌<◌, Bool, true, not, List, ◌∷◌, ◌++◌, All, AllPairs, filter, length, map, if◌then◌else◌}
+use Rattle.std.specs.Prelude.{◌≡◌, ℕ, ◌^◌, ◌<◌, Bool, true, not, List, ◌∷◌, ◌++◌, All, AllPairs, filter, length, map, if◌then◌else◌}
 use Rattle.ksm_base.specs.declared.page.GuestPage.{GuestPage}
 use Rattle.ksm_base.specs.Rows.{comes_before, same_page}
 use Rattle.ksm_order.specs.declared.item.Item.{Item}
 use Rattle.ksm_order.specs.Listed.{AreAscending as AreItemsAscending}
+use Rattle.ksm_rmap.specs.Keys.{page_of}
 use Rattle.ksm_pages.specs.declared.named.Named.{Named}
 
 -- the pages ascend, so none stands twice
@@ -30,14 +31,6 @@ marked page mergeable named = map (λ m. if is_of page m then record m { mergeab
 -- the pages that a scan visits, in their order
 abbrev pub visited : List Named → List GuestPage
 visited named = map (λ n. n.page) (filter (λ n. n.mergeable) named)
-
--- the key of a page: its guest, then its number
-abbrev pub key_of : GuestPage → ℕ
-key_of page = page.guest * 2 ^ 32 + page.page
-
--- the page of a key
-abbrev pub page_of : ℕ → GuestPage
-page_of key = record { guest = key / 2 ^ 32; page = key % 2 ^ 32 }
 
 -- what stands for a page, as an item of the order that is kept
 abbrev pub named_by : Item → Named

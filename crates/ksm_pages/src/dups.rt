@@ -1,7 +1,7 @@
 //! The dups by their places: which stand there, with which pages and on which frame, and where a new one goes.
 
-ghost use Rattle.std.specs.Prelude.{◌≡◌, ◌<◌, true, None, Some, All, filter, find, ◌==◌, ◌&&◌, option_map};
-ghost use Rattle.std.specs.Prelude.{MatchOption};
+ghost use Rattle.std.specs.Prelude.{◌≡◌, ◌<◌, true, All, filter, find, ◌==◌, ◌&&◌, option_map};
+ghost use Rattle.std.specs.Prelude.{IfErr, IfOk, IsSome};
 ghost use Rattle.std.specs.List.{list_any};
 ghost use Rattle.ksm_base.specs.Counting.{shared_count};
 ghost use Rattle.ksm_base.specs.Reading.{items_of};
@@ -14,6 +14,7 @@ use crate::left::frame_at;
 use crate::pages::Pages;
 use ksm_base::{DupRow, GuestPage};
 use ksm_tree::Choice;
+use std::alloc::{AllocError, Global};
 
 impl Pages {
     /// The dup with items at a place.
@@ -30,16 +31,19 @@ impl Pages {
         self.dups.at(place).is_some()
     }
 
-    /// The pages merged into the dup at a place, ascending; none where no dup with items stands there.
-    pub fn items_at(&self, place: u32) -> Option<&[GuestPage]>
-        ensures { let live = find (λ d. d.place == place && has_items self.now.rows d) self.now.dups in
-            MatchOption result (live ≡ None) (λ items. option_map (items_of self.now.rows) live ≡ Some items.now) }
+    /// The pages merged into the dup at a place, ascending, in a vector of their own; none where no dup with items
+    /// stands there. Fails for memory alone, and only where such a dup stands there.
+    pub fn items_at(&self, alloc: Global, place: u32) -> Result<Option<Vec<GuestPage>>, AllocError>
+        ensures items { let live = find (λ d. d.place == place && has_items self.now.rows d) self.now.dups in
+            IfOk result (λ pages. option_map (λ v. v.items) pages ≡ option_map (items_of self.now.rows) live) }
+        ensures refused { let live = find (λ d. d.place == place && has_items self.now.rows d) self.now.dups in
+            IfErr result (λ _. IsSome live) }
     {
         // Called for its contract alone: one dup stands at a place.
         let _ = self.dups.at(place);
         match self.dups.live_at(place) {
-            Some(_) => Some(self.dups.items_at(place)),
-            None => None,
+            Some(_) => Ok(Some(self.dups.items_at(alloc, place)?)),
+            None => Ok(None),
         }
     }
 

@@ -4,13 +4,14 @@ ghost use Rattle.std.specs.Prelude.{count_by, drop, find, is_some, length, nat_l
 ghost use Rattle.ksm_base.specs.declared.page.GuestPage.{GuestPage};
 ghost use Rattle.ksm_base.specs.Visit.{after_cursor};
 ghost use Rattle.ksm_pages.specs.Ahead.{EndsAt, last_of, pages_behind, pages_between};
-ghost use Rattle.ksm_pages.specs.Ordered.{is_of, key_of, marked, named_by, page_of, visited, with_named};
-ghost use Rattle.ksm_pages.specs.Ordered.{without_named};
+ghost use Rattle.ksm_pages.specs.Ordered.{is_of, marked, named_by, visited, with_named, without_named};
+ghost use Rattle.ksm_rmap.specs.Keys.{page_of};
 
 use crate::ahead::Ahead;
 use crate::named::Named;
 use ksm_base::{Fault, GuestPage};
 use ksm_order::{Item, Leaf, Node, Part};
+use ksm_rmap::{key_of, page_of};
 use std::alloc::Global;
 use std::marker::Model;
 
@@ -38,27 +39,6 @@ impl<P: Part> Model for Order<P> {
     ghost view = { λ o. map named_by o.pages };
 
     ghost invariant = { λ o. IsOrder o.pages o.len };
-}
-
-/// The key of a page: its guest, then its number.
-#[inline(always)]
-pub(crate) fn key_of(page: GuestPage) -> u64
-    ensures key { result ≡ key_of page }
-    ensures small { result < 2 ^ 48 }
-    ensures few { page.page < 2 ^ 32 }
-{
-    (u64::from(page.guest) << 32) + u64::from(page.page)
-}
-
-/// The page of a key.
-fn page_of(key: u64) -> GuestPage
-    requires { key < 2 ^ 48 }
-    ensures { result ≡ page_of key }
-{
-    GuestPage {
-        guest: (key >> 32) as u16,
-        page: (key % (1 << 32)) as u32,
-    }
 }
 
 /// The least key behind a cursor.

@@ -17,10 +17,11 @@ ghost use Rattle.ksm_pages.specs.Filed.{IsInVain, is_useless as is_of_no_use};
 ghost use Rattle.ksm_pages.specs.Held.{AreInOrder, FitSpots, IsAddedTo, pages_of};
 ghost use Rattle.slab.specs.Slab.{get};
 
-use crate::order::{Order, key_of};
+use crate::order::Order;
 use crate::row::{Entry, Spot};
 use ksm_base::GuestPage;
 use ksm_order::insert_at;
+use ksm_rmap::key_of;
 use slab::Slab;
 use std::alloc::{AllocError, Global};
 use std::marker::Model;

@@ -1,2 +1,4 @@
+pub mod Alike
+pub mod Keys
 pub mod Pages
 pub mod Ordered

@@ -1,15 +1,18 @@
-//! The reverse map of one dup: a sorted list of pages, since most dups have few. Eight lie in the list itself.
-ghost use Rattle.std.specs.Prelude.{◌≡◌, ℕ, ◌<◌, ◌≤◌, List, [], true, false, length, Some, IfErr};
-ghost use Rattle.std.specs.Prelude.{IsTrue, OnOk, OnErr, filter, slice_get, slice_index_or};
+//! The reverse map of one dup: a sorted list of pages, since most dups have few. Eight lie in the list itself. Of each
+//! page its key is kept, since a search then compares one number a step.
+ghost use Rattle.std.specs.Prelude.{◌≡◌, ℕ, ◌==◌, ◌<◌, ◌≤◌, ◌^◌, List, [], true, false, length, Some, IfErr, IfOk};
+ghost use Rattle.std.specs.Prelude.{IsTrue, OnOk, OnErr, All, filter, map, nat_lt, slice_get, slice_index_or};
+ghost use Rattle.std.specs.List.{list_any};
 ghost use Rattle.ksm_base.specs.declared.limits.TheConstants.{MOST_REFERENCES};
 ghost use Rattle.ksm_base.specs.declared.page.GuestPage.{GuestPage};
-ghost use Rattle.ksm_base.specs.Rows.{comes_before, same_page};
 ghost use Rattle.ksm_rmap.specs.Items.{AreAscending, has_item, with_item, without_item};
+ghost use Rattle.ksm_rmap.specs.Keys.{AreKeysAscending, page_of};
 
+use crate::key::{key_of, page_of};
 use ksm_base::{Fault, GuestPage};
 use ksm_order::move_last;
 use smallvec::SmallVec;
-use std::alloc::Global;
+use std::alloc::{AllocError, Global};
 use std::marker::Model;
 
 /// The pages that are mapped to one merged page, in ascending order, each once and at most `MOST_REFERENCES` (mm/ksm,
@@ -18,20 +21,19 @@ use std::marker::Model;
 /// `add` and `remove` cost the logarithm of the number of pages, and a move of those behind.
 #[derive(Drop)]
 pub struct Items {
-    pages: SmallVec<GuestPage, 8>,
+    keys: SmallVec<u64, 8>,
 }
 
 impl Model for Items {
-    ghost use Rattle.std.specs.Prelude.{◌≤◌, List, length};
-    ghost use Rattle.ksm_base.specs.declared.limits.TheConstants.{MOST_REFERENCES};
+    ghost use Rattle.std.specs.Prelude.{List, map};
     ghost use Rattle.ksm_base.specs.declared.page.GuestPage.{GuestPage};
-    ghost use Rattle.ksm_rmap.specs.Items.{AreAscending};
+    ghost use Rattle.ksm_rmap.specs.Keys.{AreKeys, page_of};
 
     ghost Value = { List GuestPage };
 
-    ghost view = { λ i. i.pages.items };
+    ghost view = { λ i. map page_of i.keys.items };
 
-    ghost invariant = { λ i. AreAscending i.pages.items × (length i.pages.items ≤ MOST_REFERENCES) };
+    ghost invariant = { λ i. AreKeys i.keys.items };
 }
 
 impl Items {
@@ -40,7 +42,7 @@ impl Items {
         ensures { result ≡ [] }
     {
         Items {
-            pages: SmallVec::new(alloc),
+            keys: SmallVec::new(alloc),
         }
     }
 
@@ -53,9 +55,10 @@ impl Items {
         ensures kept { OnErr result (self.new ≡ self.old) }
         ensures memory { IfErr result (λ fault. fault ≡ Fault.Memory) }
     {
-        let at = place_of(self.pages.as_slice(), page);
-        self.pages.push(page)?;
-        move_last(self.pages.as_mut_slice(), at);
+        let key = key_of(page);
+        let at = place_of(self.keys.as_slice(), key);
+        self.keys.push(key)?;
+        move_last(self.keys.as_mut_slice(), at);
         Ok(())
     }
 
@@ -64,13 +67,14 @@ impl Items {
         ensures found { result ≡ has_item page self.old }
         ensures removed { self.new ≡ without_item page self.old }
     {
-        let at = place_of(self.pages.as_slice(), page);
-        let found = stands_at(self.pages.as_slice(), at, page);
+        let key = key_of(page);
+        let at = place_of(self.keys.as_slice(), key);
+        let found = stands_at(self.keys.as_slice(), at, key);
         if found {
-            let pages = self.pages.as_mut_slice();
-            let left = pages.len() - 1;
-            pages.copy_within(at + 1.., at);
-            self.pages.truncate(left);
+            let keys = self.keys.as_mut_slice();
+            let left = keys.len() - 1;
+            keys.copy_within(at + 1.., at);
+            self.keys.truncate(left);
         }
         found
     }
@@ -79,8 +83,9 @@ impl Items {
     pub fn contains(&self, page: GuestPage) -> bool
         ensures { result ≡ has_item page self.now }
     {
-        let pages = self.pages.as_slice();
-        stands_at(pages, place_of(pages, page), page)
+        let keys = self.keys.as_slice();
+        let key = key_of(page);
+        stands_at(keys, place_of(keys, key), key)
     }
 
     /// How many pages there are.
@@ -89,14 +94,14 @@ impl Items {
         ensures few { result ≤ MOST_REFERENCES }
         ensures ascending { AreAscending self.now }
     {
-        self.pages.len()
+        self.keys.len()
     }
 
-    /// The pages, ascending.
-    pub fn as_slice(&self) -> &[GuestPage]
-        ensures { result.now ≡ self.now }
+    /// The pages, ascending, in a vector of their own. Fails for memory alone.
+    pub fn pages(&self, alloc: Global) -> Result<Vec<GuestPage>, AllocError>
+        ensures { IfOk result (λ pages. pages.items ≡ self.now) }
     {
-        self.pages.as_slice()
+        pages_of(alloc, self.keys.as_slice())
     }
 
     /// The page at `i`, in ascending order from 0 on.
@@ -104,26 +109,34 @@ impl Items {
         requires { i < length self.now }
         ensures { slice_get self.now i ≡ Some result }
     {
-        self.pages.as_slice()[i]
+        page_of(self.keys.as_slice()[i])
     }
 }
 
-/// How many of the pages come before this one: the index at which it stands, or would.
-fn place_of(pages: &[GuestPage], page: GuestPage) -> usize
-    requires { AreAscending pages.now }
-    ensures count { result ≡ length (filter (λ p. comes_before p page) pages.now) }
-    ensures within { result ≤ length pages.now }
+/// How many of the keys come before this one: the index at which it stands, or would.
+fn place_of(keys: &[u64], key: u64) -> usize
+    requires { AreKeysAscending keys.now }
+    ensures count { result ≡ length (filter (λ k. nat_lt k key) keys.now) }
+    ensures within { result ≤ length keys.now }
 {
-    pages.partition_point(|p| p.comes_before(page))
+    keys.partition_point(|k| *k < key)
 }
 
-/// Whether the page stands at the index.
-fn stands_at(pages: &[GuestPage], at: usize, page: GuestPage) -> bool
-    requires order { AreAscending pages.now }
-    requires place { at ≡ length (filter (λ p. comes_before p page) pages.now) }
-    ensures found { result ≡ has_item page pages.now }
-    ensures within { IsTrue result → at < length pages.now }
-    ensures here { IsTrue result → (d : GuestPage) → same_page (slice_index_or pages.now at d) page ≡ true }
+/// Whether the key stands at the index.
+fn stands_at(keys: &[u64], at: usize, key: u64) -> bool
+    requires order { AreKeysAscending keys.now }
+    requires place { at ≡ length (filter (λ k. nat_lt k key) keys.now) }
+    ensures found { result ≡ list_any (λ k. k == key) keys.now }
+    ensures within { IsTrue result → at < length keys.now }
+    ensures here { IsTrue result → (d : ℕ) → (slice_index_or keys.now at d == key) ≡ true }
 {
-    at < pages.len() && pages[at] == page
+    at < keys.len() && keys[at] == key
+}
+
+/// The pages of keys, each in the place of its key.
+fn pages_of(alloc: Global, keys: &[u64]) -> Result<Vec<GuestPage>, AllocError>
+    requires { All (λ k. k < 2 ^ 48) keys.now }
+    ensures { IfOk result (λ pages. pages.items ≡ map page_of keys.now) }
+{
+    keys.iter().map(|key| page_of(*key)).collect(alloc)
 }

@@ -30,5 +30,11 @@ fn keeps_its_pages_in_order(rt: HostRuntime) -> Result<(), Fail> {
     assert_eq!(rt; items.at(0), GuestPage { guest: 0, page: 11 });
     assert_eq!(rt; items.at(6), GuestPage { guest: 1, page: 6 });
     assert_eq!(rt; items.at(9), GuestPage { guest: 1, page: 10 });
+    let pages = items.pages(rt.alloc())?;
+    assert_eq!(rt; pages.len(), 10);
+    assert_eq!(rt;
+        pages.last().copied(),
+        Some(GuestPage { guest: 1, page: 10 })
+    );
     Ok(())
 }

@@ -1,7 +1,8 @@
 -- A list that is made of another, element by element: what is searched, kept and counted in it.
-use Rattle.ksm_tree.proofs.Names.{All, All-head, All-map, All-tail, AllPairs, AllPairs-cons, arith, Bool, count_by, count_more, false, filter, filter-append, find, get_or, if◌then◌else◌, List, map}
-use Rattle.ksm_tree.proofs.Names.{map-append, option_map, pairs_head, pairs_tail, refl, suc, [], ◌++◌, ◌∙◌, ◌∷◌, ◌≡◌}
+use Rattle.ksm_tree.proofs.Names.{All, arith, Bool, count_by, count_more, false, filter, filter-append, find, get_or, if◌then◌else◌, List, map}
+use Rattle.ksm_tree.proofs.Names.{map-append, option_map, refl, suc, [], ◌++◌, ◌∙◌, ◌∷◌, ◌≡◌}
 use Rattle.std.proofs.lemmas.List.{map-id}
+pub use Rattle.ksm_rmap.proofs.Alike.{filter_mapped, pairs_mapped}
 
 -- two changes that agree at each element of a list make one list of it
 pub map_alike : {X Y : Type 0} (f g : X → Y) (xs : List X) → All (λ x. f x ≡ g x) xs → map f xs ≡ map g xs
@@ -20,26 +21,11 @@ module _ {X Y : Type 0} (g : X → Y) (p : Y → Bool) (q : X → Bool) where
   find_mapped (x ∷ xs) same =
       let rest = find_mapped xs (λ k d lt. same (suc k) d (omega arith)) in grind (arith, same 0 x)
 
-  -- where two tests agree across a map, those kept of the mapped list are the images of those kept before
-  pub filter_mapped : (xs : List X) → All (λ x. p (g x) ≡ q x) xs → filter p (map g xs) ≡ map g (filter q xs)
-  filter_mapped [] same = refl
-  filter_mapped (x ∷ xs) same =
-      let rest = filter_mapped xs (λ k d lt. same (suc k) d (omega arith)) in grind (arith, same 0 x)
-
   -- where two tests agree across a map, as many pass in the mapped list as before
   pub count_mapped : (xs : List X) → All (λ x. p (g x) ≡ q x) xs → count_by p (map g xs) ≡ count_by q xs
   count_mapped [] same = refl
   count_mapped (x ∷ xs) same =
       let rest = count_mapped xs (λ k d lt. same (suc k) d (omega arith)) in grind (arith, same 0 x, count_more)
-
--- a map that takes related elements to related ones makes a list in order of a list in order
-pub pairs_mapped : {X Y : Type 0} (S : X → X → Type 0) (R : Y → Y → Type 0) (P : X → Type 0) (g : X → Y) → ((a b : X) → P a → P b → S a b → R (g a) (g b)) → (xs : List X) → All P xs → AllPairs S xs → AllPairs R (map g xs)
-pairs_mapped S R P g step [] all rise = λ i j d less lt. absurd (omega arith)
-pairs_mapped S R P g step (x ∷ xs) all rise =
-    AllPairs-cons R _ _
-    (All-map (R (g x)) g xs (λ k d lt. step x (get_or xs k d) (All-head P x xs all) (all (suc k) d (omega arith))
-    (pairs_head S x xs rise k d lt)))
-    (pairs_mapped S R P g step xs (All-tail P x xs all) (pairs_tail S x xs rise))
 
 -- two tests that agree at each element of a list find the same element
 pub find_alike : {X : Type 0} (p q : X → Bool) (xs : List X) → All (λ x. p x ≡ q x) xs → find p xs ≡ find q xs

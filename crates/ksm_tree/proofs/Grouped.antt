@@ -1,10 +1,9 @@
 -- The dups of one group, and all others: what each makes of the totals, and what a dup that comes or goes changes of them.
 use Rattle.ksm_tree.proofs.Names.{All, AreTotals, arith, Bool, bytes_eq-Decides, cases_Bool, chained_of, chains_of, count-append, count_by, count_by-le-length, count_more, count_none, DupRow, false}
 use Rattle.ksm_tree.proofs.Names.{filter, find, get_or, group_places, group_size, if◌then◌else◌, in_chain, in_group, inl, InPlaceOrder, inr, IsRegrouped, leads_group, length}
-use Rattle.ksm_tree.proofs.Names.{length-filter, length-map, List, list_all, list_all-append, list_all-from_AllPass, MOST_FRAMES, nat_le, nat_lt, nat_tests, not, pairs_head, pairs_tail, refl}
+use Rattle.ksm_tree.proofs.Names.{length-filter, length-map, List, list_all, list_all-append, list_all-from_AllPass, MOST_FRAMES, nat_le, nat_lt, nat_tests, not, numbers_ordered, pairs_head, pairs_tail, refl}
 use Rattle.ksm_tree.proofs.Names.{same_group, Some, subst, suc, sym, Tells, Totals, true, zero, ℕ, [], ◌&&◌, ◌++◌, ◌+◌, ◌<◌, ◌==◌, ◌||◌, ◌∙◌, ◌∷◌, ◌≡◌, ◌≤◌}
 use Rattle.ksm_tree.proofs.Alike.{count_alike}
-use Rattle.ksm_tree.proofs.Numbers.{places_ordered}
 use Rattle.ksm_rmap.proofs.Ordered.{found_parts}
 use Rattle.ksm_base.proofs.Orders.{dups_parted as rows_parted, Lower}
 
@@ -21,7 +20,7 @@ more_with p rows r rise = rw (rows_parted p rows rise) (grind (arith, count-appe
 pub more_there : (p : ℕ) (rows : List DupRow) (e : DupRow) → InPlaceOrder rows → find (λ r. r.place == p) rows ≡ Some e → IsMore e (filter (λ r. not (r.place == p)) rows) rows
 more_there p rows e rise found =
     subst (IsMore e (filter (λ r. not (r.place == p)) rows))
-    (sym (found_parts places_ordered (λ (r : DupRow). r.place) p rows e (λ i j d less lt. grind (arith, nat_tests, (rise i j d less lt).0)) found))
+    (sym (found_parts numbers_ordered (λ (r : DupRow). r.place) p rows e (λ i j d less lt. grind (arith, nat_tests, (rise i j d less lt).0)) found))
     (more_with p rows e rise)
 
 -- a test that is one value where another test passes, and elsewhere a third one, is counted in two parts

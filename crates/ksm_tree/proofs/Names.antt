@@ -15,6 +15,7 @@ pub use Rattle.ksm_base.specs.declared.row.DupRow.{DupRow}
 pub use Rattle.ksm_base.specs.declared.row.PageState.{PageState}
 pub use Rattle.ksm_base.specs.declared.row.PageState.TheVariants.{Merged}
 pub use Rattle.ksm_base.specs.declared.row.Row.{Row}
+pub use Rattle.ksm_rmap.proofs.Keys.{numbers_ordered}
 pub use Rattle.ksm_rmap.proofs.Ordered.{absent_kept, absent_past, all_counted, any_found, counted_here, found_by, insert_at, IsOrder, none_found, parted, point_is_count, remove_at, with_found}
 pub use Rattle.ksm_rmap.proofs.Ordered.{with_rises, without_rises}
 pub use Rattle.ksm_rmap.proofs.Pages.{pages_ordered}

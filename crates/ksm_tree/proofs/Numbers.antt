@@ -1,11 +1,7 @@
--- The order of places, and what is promised of a result that is an error.
-use Rattle.ksm_tree.proofs.Names.{arith, Err, IsOrder, nat_lt, Ok, OnErr, Result, ◌==◌}
+-- What is promised of a result that is an error.
+use Rattle.ksm_tree.proofs.Names.{Err, Ok, OnErr, Result}
 
 -- what holds anyway may be promised where a result is an error
 pub on_err : {T E : Type 0} {P : Type 0} (r : Result T E) → P → OnErr r P
 on_err (Ok x) holds = tt
 on_err (Err e) holds = holds
-
--- places have the order of numbers
-pub places_ordered : IsOrder nat_lt (λ p q. p == q)
-places_ordered = grind arith

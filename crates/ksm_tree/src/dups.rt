@@ -31,7 +31,7 @@ use crate::item_counts::none_open;
 use crate::slots::Slots;
 use ksm_base::{DupRow, Fault, GuestPage, Knobs, PageBytes};
 use ksm_rmap::Items;
-use std::alloc::Global;
+use std::alloc::{AllocError, Global};
 use std::marker::Model;
 
 /// Where the caller remembers no place.
@@ -390,11 +390,15 @@ impl Dups {
         }
     }
 
-    /// The items of the dup at a place, in ascending order.
-    pub fn items_at(&self, place: u32) -> &[GuestPage]
-        ensures { result.now ≡ items_in (dup_at place self.now.dups) }
+    /// The items of the dup at a place, in ascending order, in a vector of their own: none where no dup stands there.
+    /// Fails for memory alone.
+    pub fn items_at(&self, alloc: Global, place: u32) -> Result<Vec<GuestPage>, AllocError>
+        ensures { IfOk result (λ pages. pages.items ≡ items_in (dup_at place self.now.dups)) }
     {
-        self.slots.at(place).map_or(&[], |dup| dup.items.as_slice())
+        match self.slots.at(place) {
+            Some(dup) => dup.items.pages(alloc),
+            None => Ok(Vec::new(alloc)),
+        }
     }
 
     /// How many items a dup has: 0 where there is no such dup.

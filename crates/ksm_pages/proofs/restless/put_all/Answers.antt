@@ -1,7 +1,7 @@
 use Rattle.std.specs.Prelude.{◌||◌}
 use Rattle.ksm_pages.proofs.Names.{ap, arith, has_item, pages_of, rules, Spot, sym, ◌<◌, ◌^◌, ◌∙◌}
 use Rattle.std.proofs.lemmas.List.Sorted.{All-permutation, IsNonDecreasingBy-from_sort_by_key, list_any-IsPermutation}
-use Rattle.ksm_pages.specs.Ordered.{key_of}
+use Rattle.ksm_rmap.specs.Keys.{key_of}
 use Rattle.ksm_pages.proofs.Merging.{shuffled_has, sorted_rise}
 use Rattle.ksm_pages.proofs.restless.put_all.Goals as goal
 

@@ -1,15 +1,27 @@
-use Rattle.ksm_pages.proofs.Names.{ap, find, has_items, items_of, option_map, PagesValue, rows_of, Some, sym, ◌&&◌, ◌==◌, ◌∙◌}
+use Rattle.ksm_pages.proofs.Names.{ap, dup_at, find, has_items, is_some, items_in, items_of, option_map, PagesValue, rows_of, Some, sym, ◌&&◌, ◌==◌, ◌∙◌, ◌≡◌}
+use Rattle.ksm_tree.proofs.Numbers.{on_err}
+use Rattle.ksm_pages.proofs.Options.{some_mapped}
 use Rattle.ksm_pages.proofs.Paging.{items_none, items_there}
 use Rattle.ksm_pages.proofs.pages.Pages.items_at.Goals as goal
+use Rattle.ksm_pages.proofs.pages.Pages.items_at.Goals.{In-Some}
 
-pub returns-in-Some : goal.returns-in-Some
-returns-in-Some c =
+-- the dup with items that stands at the place has the pages that are told
+there : (c : In-Some) → option_map (items_of c.args.self.now.rows) (find (λ d. d.place == c.args.place && has_items c.args.self.now.rows d) c.args.self.now.dups)
+    ≡ Some (items_in (dup_at c.args.place c.self.inside.dups.dups))
+there c =
     ap (λ (v : PagesValue). option_map (items_of v.rows) (find (λ d. d.place == c.args.place && has_items v.rows d) v.dups))
     (sym c.self.view_is)
     ∙ items_there (rows_of c.self.inside.rows.held) _ _ c.self.invariant.tied c.at.ensures.lawful.in_place_order c.in-Some.ensures
-    ∙ ap Some (sym c.items_at.ensures)
 
-pub returns-in-None : goal.returns-in-None
-returns-in-None c =
-    ap (λ (v : PagesValue). find (λ d. d.place == c.args.place && has_items v.rows d) v.dups) (sym c.self.view_is)
-    ∙ items_none (rows_of c.self.inside.rows.held) _ _ c.self.invariant.tied c.in-None.ensures
+pub returns-in_ok-items_at-in-Some-clause-items : goal.returns-in_ok-items_at-in-Some-clause-items
+returns-in_ok-items_at-in-Some-clause-items c =
+    ap Some c.in_ok-items_at-in-Some.ensures ∙ sym (there (goal.at.returns-in_ok-items_at-in-Some-clause-items c).In-Some)
+
+pub returns-in_err-items_at-in-Some-clause-refused : goal.returns-in_err-items_at-in-Some-clause-refused
+returns-in_err-items_at-in-Some-clause-refused c = on_err _
+    (sym (some_mapped _ _) ∙ ap is_some (there (goal.at.returns-in_err-items_at-in-Some-clause-refused c).In-Some))
+
+pub returns-in-None-clause-items : goal.returns-in-None-clause-items
+returns-in-None-clause-items c =
+    sym (ap (λ (v : PagesValue). option_map (items_of v.rows) (find (λ d. d.place == c.args.place && has_items v.rows d) v.dups)) (sym c.self.view_is)
+    ∙ ap (option_map (items_of (rows_of c.self.inside.rows.held))) (items_none (rows_of c.self.inside.rows.held) _ _ c.self.invariant.tied c.in-None.ensures))

@@ -1,44 +1,64 @@
-use Rattle.std.proofs.Common.{◌≡◌, ◌∙◌, length, refl, ap, arith, sym}
-use Rattle.std.specs.Prelude.{insert}
-use Rattle.std.specs.List.{refill}
+use Rattle.std.proofs.Common.{◌≡◌, ◌∙◌, ◌<◌, ◌^◌, ap, arith, false, length, map, refl, sym, ℕ}
+use Rattle.std.specs.Prelude.{◌==◌, insert}
+use Rattle.std.specs.List.{list_any, refill}
+use Rattle.std.proofs.lemmas.List.{length-map}
 use Rattle.std.proofs.lemmas.List.Edits.{length-insert}
-use Rattle.ksm_rmap.specs.Items.{with_item}
+use Rattle.std.proofs.lemmas.List.Elements.{All-append, All-cons, All-filter}
+use Rattle.ksm_rmap.specs.Items.{has_item, with_item}
+use Rattle.ksm_rmap.specs.Keys.{page_of, with_key}
+use Rattle.ksm_rmap.proofs.Keys.{has_by_key, numbers_ordered, with_by_key}
 use Rattle.ksm_rmap.proofs.Ordered.{insert_at, none_found, with_rises}
-use Rattle.ksm_rmap.proofs.Pages.{pages_ordered, refilled}
+use Rattle.ksm_rmap.proofs.Pages.{refilled}
 use Rattle.ksm_rmap.proofs.items.Items.add.Goals as goal
 
--- the page is put in at its place
-put : (c : goal.After-self-1) → c.move_last.new.items ≡ insert c.self.inside.pages.items c.place_of-at.result c.args.page
-put c = c.move_last.ensures c.self.inside.pages.items c.args.page (c.as_mut_slice.ensures.value ∙ c.in_ok-push.ensures.ok)
+-- the key is put in at its place
+put : (c : goal.After-self-1) → c.move_last.new.items ≡ insert c.self.inside.keys.items c.place_of-at.result c.key_of-key.result
+put c = c.move_last.ensures c.self.inside.keys.items c.key_of-key.result (c.as_mut_slice.ensures.value ∙ c.in_ok-push.ensures.ok)
 
 long : (c : goal.After-self-1) → length c.move_last.new.items ≡ length c.push.new.self.items
 long c =
     ap length (put c)
-    ∙ length-insert c.self.inside.pages.items c.place_of-at.result c.args.page (rw (sym c.as_slice.ensures) c.place_of-at.ensures.within)
+    ∙ length-insert c.self.inside.keys.items c.place_of-at.result c.key_of-key.result (rw (sym c.as_slice.ensures) c.place_of-at.ensures.within)
     ∙ sym c.in_ok-push.ensures.len
+
+-- it was not there, as its page was not
+absent : (c : goal.After-self-1) → list_any (λ k. k == c.key_of-key.result) c.self.inside.keys.items ≡ false
+absent c =
+    rw c.key_of-key.ensures.key
+    (sym (has_by_key c.args.page c.key_of-key.ensures.few _) ∙ ap (has_item c.args.page) c.self.view_is ∙ c.requires.absent)
 
 -- so it stands behind those before it
 added : (c : goal.After-self-1)
-    → refill (length c.push.new.self.items) c.push.new.self.items c.move_last.new.items ≡ with_item c.args.page c.self.inside.pages.items
+    → refill (length c.push.new.self.items) c.push.new.self.items c.move_last.new.items ≡ with_key c.key_of-key.result c.self.inside.keys.items
 added c =
     refilled c.push.new.self.items c.move_last.new.items (long c)
     ∙ put c
-    ∙ insert_at pages_ordered (λ p. p) c.args.page _ c.self.invariant.0 c.as_slice.ensures refl
-    c.place_of-at.ensures.count c.args.page
-    (none_found _ c.self.inside.pages.items (rw c.self.view_is c.requires.absent))
+    ∙ insert_at numbers_ordered (λ k. k) c.key_of-key.result _ c.self.invariant.ascending c.as_slice.ensures refl
+    c.place_of-at.ensures.count c.key_of-key.result
+    (none_found _ c.self.inside.keys.items (absent c))
 
 pub invariant_of-self-2 : goal.invariant_of-self-2
-invariant_of-self-2 c = (
-  rw (added c) (with_rises pages_ordered (λ p. p) c.args.page _ _ refl c.self.invariant.0),
-  omega (
-    arith,
-    ap length (refilled c.push.new.self.items c.move_last.new.items (long c)),
-    long c,
-    c.in_ok-push.ensures.len,
-    ap length c.self.view_is,
-    c.requires.fewer,
-  ),
-)
+invariant_of-self-2 c =
+    let Small : ℕ → Type 0 = λ k. k < 2 ^ 48 in
+    let key = c.key_of-key.result in
+    record {
+      ascending = rw (added c) (with_rises numbers_ordered (λ k. k) key _ _ refl c.self.invariant.ascending);
+      small = rw (added c) (All-append Small _ _ (All-filter _ Small _ c.self.invariant.small)
+          (All-cons Small key _ c.key_of-key.ensures.small (All-filter _ Small _ c.self.invariant.small)));
+      few = omega (
+        arith,
+        ap length (refilled c.push.new.self.items c.move_last.new.items (long c)),
+        long c,
+        c.in_ok-push.ensures.len,
+        length-map c.self.inside.keys.items page_of,
+        ap length c.self.view_is,
+        c.requires.fewer,
+      );
+    }
 
 pub returns-clause-added : goal.returns-clause-added
-returns-clause-added c = added c ∙ ap (with_item c.args.page) c.self.view_is
+returns-clause-added c =
+    ap (map page_of) (added c)
+    ∙ ap (λ n. map page_of (with_key n c.self.inside.keys.items)) c.key_of-key.ensures.key
+    ∙ with_by_key c.args.page c.key_of-key.ensures.few c.self.inside.keys.items
+    ∙ ap (with_item c.args.page) c.self.view_is

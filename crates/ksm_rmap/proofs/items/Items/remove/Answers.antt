@@ -1,51 +1,77 @@
-use Rattle.std.proofs.Common.{◌≡◌, ◌∙◌, ◌+◌, ◌-◌, ◌<◌, ap, arith, length, refl, sym, take}
-use Rattle.std.specs.Prelude.{remove}
-use Rattle.std.specs.List.{copy_within, refill}
+use Rattle.std.proofs.Common.{◌≡◌, ◌∙◌, ◌+◌, ◌-◌, ◌<◌, ◌^◌, ap, arith, length, map, refl, sym, take, ℕ}
+use Rattle.std.specs.Prelude.{◌==◌, remove}
+use Rattle.std.specs.List.{copy_within, list_any, refill}
 use Rattle.std.proofs.lemmas.List.Edits.{length-remove}
-use Rattle.ksm_base.specs.declared.page.GuestPage.{GuestPage}
+use Rattle.std.proofs.lemmas.List.Elements.{All-filter}
 use Rattle.ksm_order.proofs.Moved.{moved_down}
-use Rattle.ksm_rmap.specs.Items.{without_item}
+use Rattle.ksm_rmap.specs.Items.{has_item, without_item}
+use Rattle.ksm_rmap.specs.Keys.{key_of, page_of, without_key}
+use Rattle.ksm_rmap.proofs.Keys.{has_by_key, numbers_ordered, without_by_key}
 use Rattle.ksm_rmap.proofs.Ordered.{remove_at, absent_kept, none_found, without_rises}
 use Rattle.ksm_rmap.proofs.Pages.{pages_ordered, refilled}
 use Rattle.ksm_rmap.proofs.items.Items.remove.Goals as goal
+use Rattle.ksm_rmap.proofs.items.Items.remove.Goals.{After-stands_at-found}
 
-within : (c : goal.After-truncate) → c.place_of-at.result < length c.self.inside.pages.items
+within : (c : goal.After-truncate) → c.place_of-at.result < length c.self.inside.keys.items
 within c = rw (sym c.as_slice-2.ensures) (c.if-found.ensures.within refl)
 
--- the page at its place goes
-gone : (c : goal.After-truncate) → c.truncate.new.self.items ≡ remove c.self.inside.pages.items c.place_of-at.result
+-- the key at its place goes
+gone : (c : goal.After-truncate) → c.truncate.new.self.items ≡ remove c.self.inside.keys.items c.place_of-at.result
 gone c =
-    let pages = c.self.inside.pages.items in
+    let keys = c.self.inside.keys.items in
     let at = c.place_of-at.result in
-    let value = c.as_mut_slice-pages.ensures.value in
-    let moved : c.copy_within.new.self ≡ copy_within pages (at + 1) (length pages) at =
+    let value = c.as_mut_slice-keys.ensures.value in
+    let moved : c.copy_within.new.self ≡ copy_within keys (at + 1) (length keys) at =
     c.copy_within.ensures.after ∙ λ i. copy_within (value i) (at + 1) (length (value i)) at in
-    let back : refill (length pages) pages c.copy_within.new.self ≡ c.copy_within.new.self =
-    refilled pages c.copy_within.new.self (c.copy_within.ensures.len ∙ ap length value) in
+    let back : refill (length keys) keys c.copy_within.new.self ≡ c.copy_within.new.self =
+    refilled keys c.copy_within.new.self (c.copy_within.ensures.len ∙ ap length value) in
     c.truncate.ensures.items
     ∙ (λ i. take (length (value i) - 1) (back i))
-    ∙ ap (take (length pages - 1)) moved
-    ∙ moved_down pages at (within c)
+    ∙ ap (take (length keys - 1)) moved
+    ∙ moved_down keys at (within c)
 
--- so the page is taken out
-removed : (c : goal.After-truncate) → c.truncate.new.self.items ≡ without_item c.args.page c.self.inside.pages.items
+-- so the key is taken out
+removed : (c : goal.After-truncate) → c.truncate.new.self.items ≡ without_key c.key_of-key.result c.self.inside.keys.items
 removed c =
-    let d : GuestPage = record { guest = 0; page = 0 } in
     gone c
-    ∙ remove_at pages_ordered (λ p. p) c.args.page _ c.self.invariant.0 c.as_slice.ensures c.as_slice-2.ensures
-    c.place_of-at.ensures.count d
-    (c.if-found.ensures.within refl) (c.if-found.ensures.here refl d)
+    ∙ remove_at numbers_ordered (λ k. k) c.key_of-key.result _ c.self.invariant.ascending c.as_slice.ensures c.as_slice-2.ensures
+    c.place_of-at.ensures.count 0
+    (c.if-found.ensures.within refl) (c.if-found.ensures.here refl 0)
+
+-- without its key the page is gone from the pages
+page_gone : (c : After-stands_at-found) → map page_of (without_key c.key_of-key.result c.self.inside.keys.items) ≡ without_item c.args.page c.args.self.now
+page_gone c =
+    ap (λ n. map page_of (without_key n c.self.inside.keys.items)) c.key_of-key.ensures.key
+    ∙ without_by_key c.args.page c.key_of-key.ensures.few c.self.inside.keys.items
+    ∙ ap (without_item c.args.page) c.self.view_is
+
+found : (c : After-stands_at-found) → c.stands_at-found.result ≡ has_item c.args.page c.args.self.now
+found c =
+    c.stands_at-found.ensures.found
+    ∙ ap (λ n. list_any (λ k. k == n) c.as_slice-2.result.now) c.key_of-key.ensures.key
+    ∙ ap (list_any (λ k. k == key_of c.args.page)) c.as_slice-2.ensures
+    ∙ sym (has_by_key c.args.page c.key_of-key.ensures.few _)
+    ∙ ap (has_item c.args.page) c.self.view_is
 
 pub invariant_of-self : goal.invariant_of-self
-invariant_of-self c = (
-  rw (removed c) (without_rises pages_ordered (λ p. p) c.args.page _ c.self.invariant.0),
-  omega (arith, ap length (gone c), length-remove c.self.inside.pages.items c.place_of-at.result (within c), c.self.invariant.1),
-)
+invariant_of-self c = record {
+  ascending = rw (removed c) (without_rises numbers_ordered (λ k. k) c.key_of-key.result _ c.self.invariant.ascending);
+  small = rw (removed c) (All-filter _ (λ (k : ℕ). k < 2 ^ 48) _ c.self.invariant.small);
+  few = omega (arith, ap length (gone c), length-remove c.self.inside.keys.items c.place_of-at.result (within c), c.self.invariant.few);
+}
+
+pub returns-then-found-clause-found : goal.returns-then-found-clause-found
+returns-then-found-clause-found c = found (goal.at.returns-then-found-clause-found c).After-stands_at-found
 
 pub returns-then-found-clause-removed : goal.returns-then-found-clause-removed
-returns-then-found-clause-removed c = grind (arith, removed)
+returns-then-found-clause-removed c =
+    ap (map page_of) (removed c) ∙ page_gone (goal.at.returns-then-found-clause-removed c).After-stands_at-found
+
+pub returns-else-found-clause-found : goal.returns-else-found-clause-found
+returns-else-found-clause-found c = found (goal.at.returns-else-found-clause-found c).After-stands_at-found
 
 pub returns-else-found-clause-removed : goal.returns-else-found-clause-removed
 returns-else-found-clause-removed c =
+    let found = found (goal.at.returns-else-found-clause-removed c).After-stands_at-found in
     absent_kept pages_ordered (λ p. p) c.args.page _
-    (none_found _ c.args.self.now (grind arith))
+    (none_found _ c.args.self.now (sym found ∙ c.if-found.false))

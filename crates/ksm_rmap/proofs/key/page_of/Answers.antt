@@ -1,5 +1,5 @@
-use Rattle.ksm_pages.proofs.Names.{arith, rules}
-use Rattle.ksm_pages.proofs.order.page_of.Goals as goal
+use Rattle.std.proofs.Common.{arith, rules}
+use Rattle.ksm_rmap.proofs.key.page_of.Goals as goal
 
 pub overflow_cast-result : goal.overflow_cast-result
 overflow_cast-result c = omega arith

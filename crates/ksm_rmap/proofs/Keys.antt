@@ -1,0 +1,46 @@
+-- The pages of a dup and their keys: what is asked and changed of the pages is asked and changed of the keys.
+use Rattle.std.proofs.Common.{◌≡◌, ℕ, ◌<◌, ◌^◌, List, [], ◌∷◌, arith, map, refl, true}
+use Rattle.std.specs.Prelude.{◌==◌, nat_lt}
+use Rattle.std.specs.List.{list_any}
+use Rattle.std.proofs.lemmas.Bool.Decides.{nat_tests}
+use Rattle.std.proofs.lemmas.List.{map-append}
+use Rattle.ksm_base.specs.declared.page.GuestPage.{GuestPage}
+use Rattle.ksm_base.specs.Rows.{comes_before, same_page}
+use Rattle.ksm_rmap.specs.Items.{AreAscending, has_item, with_item, without_item}
+use Rattle.ksm_rmap.specs.Keys.{AreKeys, key_of, page_of, with_key, without_key}
+use Rattle.ksm_rmap.proofs.Alike.{filter_mapped, pairs_mapped}
+use Rattle.ksm_rmap.proofs.Ordered.{IsOrder}
+
+-- numbers have an order
+pub numbers_ordered : IsOrder nat_lt (λ k l. k == l)
+numbers_ordered = grind arith
+
+-- where keys ascend, their pages do
+pub pages_rise : (keys : List ℕ) → AreKeys keys → AreAscending (map page_of keys)
+pages_rise keys are = pairs_mapped (λ k l. nat_lt k l ≡ true) (λ p q. comes_before p q ≡ true) (λ k. k < 2 ^ 48) page_of
+    (λ k l low high less. grind (arith, nat_tests)) keys are.small are.ascending
+
+module _ (page : GuestPage) (few : page.page < 2 ^ 32) where
+  -- the page of a key is a page exactly where the key is its key
+  pub same_as_key : (k : ℕ) → same_page (page_of k) page ≡ (k == key_of page)
+  same_as_key k = grind arith
+
+  -- pages come before one another as their keys do
+  pub before_as_key : (k : ℕ) → comes_before (page_of k) page ≡ nat_lt k (key_of page)
+  before_as_key k = grind arith
+
+  pub behind_as_key : (k : ℕ) → comes_before page (page_of k) ≡ nat_lt (key_of page) k
+  behind_as_key k = grind arith
+
+  -- a page is among the pages exactly where its key is among the keys
+  pub has_by_key : (keys : List ℕ) → has_item page (map page_of keys) ≡ list_any (λ k. k == key_of page) keys
+  has_by_key [] = refl
+  has_by_key (k ∷ keys) = grind (arith, same_as_key k, has_by_key keys)
+
+  -- with the key put in among the keys, they are of the pages with the page put in
+  pub with_by_key : (keys : List ℕ) → map page_of (with_key (key_of page) keys) ≡ with_item page (map page_of keys)
+  with_by_key keys = grind (arith, filter_mapped, before_as_key, behind_as_key, map-append)
+
+  -- without the key, they are of the pages without the page
+  pub without_by_key : (keys : List ℕ) → map page_of (without_key (key_of page) keys) ≡ without_item page (map page_of keys)
+  without_by_key keys = grind (arith, filter_mapped, same_as_key)
