@@ -1,4 +1,4 @@
-use Rattle.ksm_pages.proofs.Names.{default_knobs, lodging, lodgings_of, rows_of, seen}
+use Rattle.ksm_pages.proofs.Names.{arith, default_knobs, lodging, lodgings_of, rows_of, seen}
 use Rattle.ksm_tree.specs.Dups.{rows_of as dup_rows}
 use Rattle.ksm_pages.proofs.pages.Pages.open.Goals as goal
 
@@ -17,3 +17,6 @@ returns c = record {
       });
   fault = tt;
 }
+
+pub returns-in_err-vec-clause-fault : goal.returns-in_err-vec-clause-fault
+returns-in_err-vec-clause-fault c = grind (arith, c.from_residual-in_err-vec.ensures)
