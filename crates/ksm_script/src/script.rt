@@ -141,14 +141,14 @@ fn answer_at_hand<M: Lane<R, W>, N: Naming, T: Threads + Wait + Sync, R, W: Writ
     if is_heard {
         return Ok(false);
     }
+    if let Some(line) = take_short::<M, R, W>(reader) {
+        let told = session.answer_short::<Written<M>, T, W>(rt, line, writer);
+        return told.and(Ok(true));
+    }
     if names_content(M::at_hand(reader)) {
         return answer_page::<M, N, T, R, W>(rt, reader, writer, session);
     }
-    let Some(line) = take_short::<M, R, W>(reader) else {
-        return answer_rare::<M, N, T, R, W>(rt, reader, writer, session);
-    };
-    let told = session.answer_short::<Written<M>, T, W>(rt, line, writer);
-    told.and(Ok(true))
+    answer_rare::<M, N, T, R, W>(rt, reader, writer, session)
 }
 
 /// Answers the next line at once, first tried as one with a content.

@@ -3,7 +3,6 @@ ghost use Rattle.std.specs.Prelude.{◌≡◌, ◌≤◌, ℕ, List, [], length,
 ghost use Rattle.std.specs.Io.KnownBytes.{Consumes, IsAtEnd, Keeps};
 ghost use Rattle.ksm_base.specs.State.{opening};
 ghost use Rattle.ksm_base.specs.Reading.{mappers_of};
-ghost use Rattle.ksm_base.specs.Refusals.{is_known};
 ghost use Rattle.ksm_base.specs.declared.command.Command.TheVariants.{Scan as scan};
 ghost use Rattle.ksm_lines.specs.declared.line.Line.TheVariants as lines;
 ghost use Rattle.ksm_lines.specs.declared.line.RareLine.TheVariants as rares;
@@ -14,7 +13,6 @@ ghost use Rattle.frame_table.specs.Seats.{new_pass};
 ghost use Rattle.ksm_shared.specs.Locked.{EndsLawfully};
 ghost use Rattle.ksm_script.specs.declared.pass_state.PassState.TheVariants.{Idle as idle_state};
 ghost use Rattle.ksm_script.specs.Answering.{Answers, AllGivenBack, OnPasses, Commands, IsMappers, reply_to};
-ghost use Rattle.ksm_script.specs.Answering.{ticket_reply};
 ghost use Rattle.ksm_script.specs.Dialogue.{BreaksOff, Dialogue, IsWithin};
 ghost use Rattle.ksm_script.specs.Input.{EndsAs, IsPlain};
 ghost use Rattle.ksm_script.specs.declared.input.TheConstants.{LONGEST_LINE as longest_line};
@@ -159,13 +157,13 @@ impl<N: Naming> Session<N> {
     {
         match line {
             ShortLine::Get { page } => self.tell_content::<P, S>(page, to),
-            ShortLine::Ticket { page } => self.tell_ticket::<P, R, S>(rt, page, to),
+            ShortLine::Ticket { page } => self.tell_ticket::<P, S>(page, to),
             ShortLine::Find { pass, place } => self.tell_found::<P, S>(pass, place, to),
             ShortLine::Look { pass } => self.tell_held::<P, S>(pass, to),
             ShortLine::Leave { pass } => self.tell_left::<P, S>(pass, to),
             ShortLine::Scan { visits } => self.tell_visits::<P, R, S>(rt, visits, to),
-            ShortLine::Stat => self.tell_counters::<P, R, S>(rt, to),
-            ShortLine::Show { shown } => self.tell_value::<P, R, S>(rt, shown, to),
+            ShortLine::Stat => self.tell_counters::<P, S>(to),
+            ShortLine::Show { shown } => self.tell_value::<P, S>(shown, to),
         }
     }
 
@@ -181,19 +179,16 @@ impl<N: Naming> Session<N> {
     }
 
     #[inline(never)]
-    fn tell_ticket<P: Replies<S>, R: Wait, S>(
-        &mut self,
-        rt: &R,
-        page: GuestPage,
-        to: &mut S,
-    ) -> Told
+    fn tell_ticket<P: Replies<S>, S>(&mut self, page: GuestPage, to: &mut S) -> Told
         ensures answers { IsSaid P.takes (Answers (lines.Short (shorts.Ticket page))) self.old self.new
             to.old to.new result }
     {
-        // A page that is merged has a row, so the lock is taken once for it.
-        match self.ksm.ticket(rt, &mut self.share, page) {
+        match self.ksm.ticket_alone(&mut self.share, page) {
             Some(place) => P::reply(to, LineReply::Place(place)),
-            None => P::reply(to, self.without_ticket(rt, page)),
+            None if self.ksm.registered_alone(&mut self.share, page) => {
+                P::reply(to, LineReply::Private)
+            }
+            None => P::reply(to, LineReply::Refused(Refusal::Book(Fault::UnknownPage))),
         }
     }
 
@@ -230,20 +225,20 @@ impl<N: Naming> Session<N> {
     }
 
     #[inline(never)]
-    fn tell_counters<P: Replies<S>, R: Wait, S>(&mut self, rt: &R, to: &mut S) -> Told
+    fn tell_counters<P: Replies<S>, S>(&mut self, to: &mut S) -> Told
         ensures answers { IsSaid P.takes (Answers (lines.Short shorts.Stat)) self.old self.new to.old to.new result }
     {
-        P::reply(to, self.counters(rt))
+        P::reply(to, self.counters())
     }
 
     #[inline(never)]
-    fn tell_value<P: Replies<S>, R: Wait, S>(&mut self, rt: &R, shown: Shown, to: &mut S) -> Told
+    fn tell_value<P: Replies<S>, S>(&mut self, shown: Shown, to: &mut S) -> Told
         ensures answers { IsSaid P.takes (Answers (lines.Short (shorts.Show shown))) self.old self.new
             to.old to.new result }
     {
         let value = match shown {
-            Shown::Knob(knob) => { u64::from(knob.value_in(&self.ksm.knobs(rt, &mut self.share))) }
-            Shown::ZeroPages => self.ksm.counters(rt, &mut self.share).zero,
+            Shown::Knob(knob) => u64::from(knob.value_in(&self.ksm.knobs_alone(&mut self.share))),
+            Shown::ZeroPages => self.ksm.counters_alone(&mut self.share).zero,
         };
         P::reply(to, LineReply::Value(value))
     }
@@ -345,19 +340,8 @@ impl<N: Naming> Session<N> {
     fn tell_scanned<P: Replies<S>, R: Wait, S>(&mut self, rt: &R, to: &mut S) -> Told
         ensures answers { IsSaid P.takes (Answers (lines.Rare rares.ScanPages)) self.old self.new to.old to.new result }
     {
-        let knobs = self.ksm.knobs(rt, &mut self.share);
+        let knobs = self.ksm.knobs_alone(&mut self.share);
         self.tell_made::<P, R, S>(rt, &scan_of(knobs.pages_to_scan), to)
-    }
-
-    // The ticket of a page that is not merged.
-    fn without_ticket<R: Wait>(&mut self, rt: &R, page: GuestPage) -> LineReply
-        ensures reply { result ≡ ticket_reply (is_known self.old.state.book page) None }
-        ensures state { self.new.state ≡ self.old.state }
-    {
-        if self.ksm.registered(rt, &mut self.share, page) {
-            return LineReply::Private;
-        }
-        LineReply::Refused(Refusal::Book(Fault::UnknownPage))
     }
 
     #[inline(never)]
@@ -397,11 +381,11 @@ impl<N: Naming> Session<N> {
     ) -> Told
         ensures answers { IsSaid P.takes (Commands command.now) self.old self.new to.old to.new result }
     {
-        let answer = self.apply(rt, command);
-        if let Ok(Reply::Done) = answer {
-            return tell_done::<P, S>(to);
+        match self.apply(rt, command) {
+            Ok(Reply::Done) => tell_done::<P, S>(to),
+            Ok(reply) => tell_other::<P, S>(to, Ok(reply)),
+            Err(fault) => tell_other::<P, S>(to, Err(fault)),
         }
-        tell_other::<P, S>(to, answer)
     }
 
     // Makes a command. Nobody else has the book, so no lock is taken.
@@ -413,11 +397,11 @@ impl<N: Naming> Session<N> {
     }
 
     #[inline(always)]
-    fn counters<R: Wait>(&mut self, rt: &R) -> LineReply
+    fn counters(&mut self) -> LineReply
         ensures reply { result ≡ told.Counters (counters_of self.old.state.book) }
         ensures state { self.new.state ≡ self.old.state }
     {
-        LineReply::Counters(self.ksm.counters(rt, &mut self.share))
+        LineReply::Counters(self.ksm.counters_alone(&mut self.share))
     }
 }
 

@@ -185,6 +185,19 @@ impl<N: Naming> Ksm<N> {
         place
     }
 
+    /// The place of a page as `ticket` tells it, for whoever has the book alone: no lock is taken.
+    #[inline(always)]
+    pub fn ticket_alone(&mut self, share: &mut Share<N>, page: GuestPage) -> Option<u32>
+        ensures seen { SeesOn N.parts share.old share.new [] }
+        ensures part { part_of share.new ≡ part_of share.old }
+        ensures alone { N.parts.callers ≡ 1 → share.new ≡ share.old }
+        ensures ticket { result ≡ ticket_of page (state_seen N.parts share.new) }
+    {
+        let merge = self.merge.get_mut();
+        merge.show(share);
+        merge.book().ticket(page)
+    }
+
     /// The same of a page that is registered; none where it is not. The lock is taken once.
     pub fn ticket_if_known<R: Wait>(
         &self,
@@ -222,6 +235,19 @@ impl<N: Naming> Ksm<N> {
         known
     }
 
+    /// Whether the page is registered, for whoever has the book alone: no lock is taken.
+    #[inline(always)]
+    pub fn registered_alone(&mut self, share: &mut Share<N>, page: GuestPage) -> bool
+        ensures seen { SeesOn N.parts share.old share.new [] }
+        ensures part { part_of share.new ≡ part_of share.old }
+        ensures alone { N.parts.callers ≡ 1 → share.new ≡ share.old }
+        ensures registered { result ≡ is_known (state_seen N.parts share.new) page }
+    {
+        let merge = self.merge.get_mut();
+        merge.show(share);
+        merge.book().registered(page)
+    }
+
     /// The counters.
     pub fn counters<R: Wait>(&self, rt: &R, share: &mut Share<N>) -> Counters
         ensures seen { SeesOn N.parts share.old share.new [] }
@@ -236,6 +262,19 @@ impl<N: Naming> Ksm<N> {
         counters
     }
 
+    /// The counters, for whoever has the book alone: no lock is taken.
+    #[inline(always)]
+    pub fn counters_alone(&mut self, share: &mut Share<N>) -> Counters
+        ensures seen { SeesOn N.parts share.old share.new [] }
+        ensures part { part_of share.new ≡ part_of share.old }
+        ensures alone { N.parts.callers ≡ 1 → share.new ≡ share.old }
+        ensures counters { result ≡ counters_of (state_seen N.parts share.new) }
+    {
+        let merge = self.merge.get_mut();
+        merge.show(share);
+        merge.book().counters()
+    }
+
     /// The knobs.
     pub fn knobs<R: Wait>(&self, rt: &R, share: &mut Share<N>) -> Knobs
         ensures seen { SeesOn N.parts share.old share.new [] }
@@ -248,6 +287,19 @@ impl<N: Naming> Ksm<N> {
         let knobs = merge.book().knobs();
         MutexGuard::unlock(merge);
         knobs
+    }
+
+    /// The knobs, for whoever has the book alone: no lock is taken.
+    #[inline(always)]
+    pub fn knobs_alone(&mut self, share: &mut Share<N>) -> Knobs
+        ensures seen { SeesOn N.parts share.old share.new [] }
+        ensures part { part_of share.new ≡ part_of share.old }
+        ensures alone { N.parts.callers ≡ 1 → share.new ≡ share.old }
+        ensures knobs { result ≡ (state_seen N.parts share.new).knobs }
+    {
+        let merge = self.merge.get_mut();
+        merge.show(share);
+        merge.book().knobs()
     }
 
     /// The pages merged into the dup at a place, ascending; none where no dup with items stands there. Refused for

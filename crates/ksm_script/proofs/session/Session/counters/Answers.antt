@@ -4,7 +4,7 @@ use Rattle.ksm_script.proofs.session.Session.counters.Goals as goal
 pub returns-clause-reply : goal.returns-clause-reply
 returns-clause-reply g c =
     ap (λ counters. Counters counters) (
-    c.counters.ensures.counters
-    ∙ ap (λ (s : Caller). counters_of (state_seen g.N.Naming.parts s)) (c.counters.ensures.alone c.self.invariant.0)
+    c.counters_alone.ensures.counters
+    ∙ ap (λ (s : Caller). counters_of (state_seen g.N.Naming.parts s)) (c.counters_alone.ensures.alone c.self.invariant.0)
     ∙ ap (λ (v : SessionView). counters_of v.state.book) c.self.view_is
     )
