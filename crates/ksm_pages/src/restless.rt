@@ -261,6 +261,9 @@ impl Restless {
         ensures kept { self.new.known ≡ true → (self.old.known ≡ true) × ((page : GuestPage)
             → has_item page self.new.pages ≡ has_item page self.old.pages) }
     {
+        if self.added.is_empty() {
+            return;
+        }
         if put_all(&mut self.spots, self.added.as_mut_slice()).is_err() {
             self.known = false;
         }
