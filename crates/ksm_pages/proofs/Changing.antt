@@ -1,5 +1,5 @@
 -- The rows of what is held, once that of one page came, went or changed.
-use Rattle.ksm_pages.proofs.Names.{arith, Bool, change_held, change_row, Entry, GuestPage, Held, held_at, held_in, List, map, map-append, marked, Named, None, on_row, Option, option_map, refl, Row}
+use Rattle.ksm_pages.proofs.Names.{arith, Bool, change_held, change_row, Entry, GuestPage, Held, held_at, held_in, List, map-append, marked, Named, None, Option, option_map, refl, Row}
 use Rattle.ksm_pages.proofs.Names.{row_at, rows_of, rules, Slab, with_held, with_row, without_held, without_page, ℕ, [], ◌∷◌, ◌≡◌}
 use Rattle.ksm_pages.proofs.Options.{none_mapped}
 use Rattle.ksm_tree.proofs.Alike.{filter_mapped, find_mapped, map_mapped}
@@ -8,11 +8,6 @@ use Rattle.ksm_tree.proofs.Alike.{filter_mapped, find_mapped, map_mapped}
 pub rows_changed : (page : GuestPage) (f : Held → Held) (g : Row → Row) (held : List Held) → ((h : Held) → (f h).row ≡ g h.row) → rows_of (change_held page f held) ≡ change_row page g (rows_of held)
 rows_changed page f g [] is = refl
 rows_changed page f g (h ∷ hs) is = grind (arith, rows_changed page f g hs is)
-
--- where each row is changed, so are the rows of what is held
-pub rows_mapped : (f : Row → Row) (held : List Held) → rows_of (map (on_row f) held) ≡ map f (rows_of held)
-rows_mapped f [] = refl
-rows_mapped f (h ∷ hs) = grind (arith, rows_mapped f hs)
 
 -- the row of a page among the rows is the row of what is held of that page
 pub row_found : (page : GuestPage) (held : List Held) → row_at page (rows_of held) ≡ option_map (λ h. h.row) (held_at page held)

@@ -1,9 +1,9 @@
 -- Lists in the order of their pages: what a search finds once one came, went or changed, and what a write at a page's place leaves.
-use Rattle.ksm_pages.proofs.Names.{All, All-cons, AllPairs, ap, arith, before_irrefl, Bool, both_ways, cases_lt, comes_before, cond, count_by-le-length, false, filter, filter_passes, find}
-use Rattle.ksm_pages.proofs.Names.{find-append, find_none, find_nothing, find_over, find_passes, get_or, GuestPage, if◌then◌else◌, IsPartitionedBy, length, length-filter, length-insert, List, map}
-use Rattle.ksm_pages.proofs.Names.{map-append, None, not, not-true, Option, option_map, pages_ordered, pairs_head, pairs_tail, refl, rules, same_page, same_page_eq, same_page_refl, same_page_sym, set}
-use Rattle.ksm_pages.proofs.Names.{set-append_seam, Some, suc, sym, true, zero, ℕ, [], ◌++◌, ◌+◌, ◌<◌, ◌∙◌, ◌∷◌, ◌≡◌, ◌≤◌}
-use Rattle.ksm_rmap.proofs.Ordered.{absent_parts, found_at, found_parts, insert_at, none_same, none_same_low}
+use Rattle.ksm_pages.proofs.Names.{All, All-cons, AllPairs, ap, arith, before_irrefl, Bool, comes_before, cond, count_by-le-length, false, filter, filter_passes, find}
+use Rattle.ksm_pages.proofs.Names.{find-append, find_none, find_nothing, find_over, find_passes, get_or, GuestPage, if◌then◌else◌, length, length-filter, length-insert, List, map}
+use Rattle.ksm_pages.proofs.Names.{None, not, Option, option_map, pages_ordered, pairs_head, pairs_tail, refl, rules, same_page, same_page_eq, same_page_refl, same_page_sym}
+use Rattle.ksm_pages.proofs.Names.{Some, suc, sym, true, zero, ℕ, [], ◌++◌, ◌+◌, ◌∙◌, ◌∷◌, ◌≡◌, ◌≤◌}
+use Rattle.ksm_rmap.proofs.Ordered.{absent_parts, insert_at}
 use Rattle.ksm_tree.proofs.Alike.{change_none, find_mapped, pairs_mapped}
 
 -- what a search finds among all it finds among those that are kept, where the one found is kept
@@ -52,23 +52,9 @@ module _ {X : Type 0} (key : X → GuestPage) where
     abbrev place : List X → ℕ
     place xs = length (filter low xs)
 
-    -- in a list in order, those not behind the page stand before all others
-    pub parted_behind : (xs : List X) → AllPairs Before xs → IsPartitionedBy (λ y. not (high y)) xs
-    parted_behind xs rise i j d le lt later = search (rules, cases_lt, both_ways, not-true, pages_ordered)
-
     -- a change of a page that is not there leaves the list
     pub absent_unchanged : (f : X → X) {xs : List X} → find is_it xs ≡ None → xs ≡ map (λ y. if is_it y then f y else y) xs
     absent_unchanged f absent = sym (change_none _ f _ (find_none _ _ absent))
-
-    -- a write behind those before a page that is there changes the element of that page, and no other
-    pub write_at : (f : X → X) {xs : List X} → AllPairs Before xs → {s t : List X} → s ≡ xs → t ≡ xs → {n : ℕ} → n ≡ place s → (d : X) → n < length t
-        → is_it (get_or t n d) ≡ true → set xs n (f (get_or xs n d)) ≡ map (λ y. if is_it y then f y else y) xs
-    write_at f {xs} rise {s} {t} read again {n} count d within here =
-        let x = get_or xs n d in
-        let split = found_parts pages_ordered key page _ x rise (grind (arith, found_at, pages_ordered)) in
-        let ahead = change_none is_it f _ (none_same_low pages_ordered key page _ (filter_passes low xs)) in
-        let behind = change_none is_it f _ (none_same pages_ordered key page _ (filter_passes high xs)) in
-        grind (arith, split, ahead, behind, set-append_seam (filter low xs) x (filter high xs) (f x), map-append)
 
     -- a list in order stays in order where the element of a page is changed, but for its page
     pub write_rises : (f : X → X) → ((y : X) → key (f y) ≡ key y) → (xs : List X) → AllPairs Before xs → AllPairs Before (map (λ y. if is_it y then f y else y) xs)

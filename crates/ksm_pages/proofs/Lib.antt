@@ -23,7 +23,7 @@ pub mod Entering
 pub mod Partners
 pub mod Visiting
 pub mod Paired
-pub mod Merging
+pub mod Sorting
 pub mod Moving
 pub mod Asked
 pub mod Beside

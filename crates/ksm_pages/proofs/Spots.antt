@@ -2,16 +2,13 @@
 use Rattle.std.specs.Prelude.{◌||◌}
 use Rattle.ksm_pages.proofs.Names.{before_irrefl, IsPartitionedBy, cases_Bool, inl, inr, list_any-append, map-append, suc, zero}
 use Rattle.ksm_pages.proofs.Names.{after_cursor, All, All-map, ap, AreInOrder, arith, Bool, comes_before, Entry, false, filter, filter_none, find, find_filter, find_none, find_passes, get, get_or}
-use Rattle.ksm_pages.proofs.Names.{get_or_default, GuestPage, has_item, IfSome, if◌then◌else◌, is_some, is_useless, IsInVain, length, length-map, List, Listing, map, Named, None, not}
-use Rattle.ksm_pages.proofs.Names.{not-true, Option, pages_of, pages_ordered, pairs_head, pairs_tail, point_is_count, refl, rules, same_page, same_page_eq, Slab, slice_get, Some, Spot, sym, true}
-use Rattle.ksm_pages.proofs.Names.{true≢false, ℕ, [], ◌++◌, ◌-◌, ◌<◌, ◌∙◌, ◌∷◌, ◌≡◌, ◌≤◌, ◌⊎◌}
+use Rattle.ksm_pages.proofs.Names.{get_or_default, GuestPage, has_item, IfSome, is_some, is_useless, IsInVain, length, List, Named, None, not}
+use Rattle.ksm_pages.proofs.Names.{not-true, Option, pages_of, pairs_head, pairs_tail, point_is_count, refl, rules, same_page, same_page_eq, Slab, slice_get, Some, Spot, sym, true}
+use Rattle.ksm_pages.proofs.Names.{ℕ, [], ◌++◌, ◌-◌, ◌<◌, ◌∙◌, ◌∷◌, ◌≡◌, ◌≤◌, ◌⊎◌}
 use Rattle.std.specs.Option.{is_none}
-use Rattle.std.proofs.lemmas.Bool.{false_from_ne_true}
-use Rattle.ksm_rmap.specs.Items.{AreAscending}
-use Rattle.ksm_tree.proofs.Alike.{filter_mapped, find_mapped, map_mapped, pairs_mapped}
-use Rattle.ksm_pages.proofs.Found.{first_found}
+use Rattle.ksm_tree.proofs.Alike.{find_mapped}
 use Rattle.std.specs.Prelude.{IfNone}
-use Rattle.ksm_rmap.proofs.Ordered.{any_found, parted, with_rises}
+use Rattle.ksm_rmap.proofs.Ordered.{any_found}
 use Rattle.ksm_pages.proofs.Options.{some_mapped}
 
 -- the page of a spot

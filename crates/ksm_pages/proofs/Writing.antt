@@ -43,10 +43,6 @@ nothing s are page told f is =
     let same = absent_unchanged (λ (h : Held). h.row.page) page f absent in
     grind (arith, same)
 
--- what is listed later was listed before
-listed_known : (old : Listing) {now : Listing} (pages : List GuestPage) → now ≡ record old { pages = pages } → now.known ≡ true → old.known ≡ true
-listed_known old pages is known = grind arith
-
 module _ (s : Inside) (are : AreRows s) where
   abbrev held : List Held
   held = held_in s.pass s.entries s.order

@@ -66,7 +66,7 @@ impl Model for Restless {
       ready = r.known && length r.added.items == 0;
     } };
 
-    ghost invariant = { λ r. AreInOrder r.spots.items × FitSpots r.added.items };
+    ghost invariant = { λ r. AreInOrder r.spots.items × FitSpots r.spots.items × FitSpots r.added.items };
 }
 
 /// How many of the pages do not come behind a cursor: the index of the first that does. The guess is right where the
@@ -80,7 +80,11 @@ fn place_behind(spots: &[Spot], guess: usize, cursor: Option<GuestPage>) -> usiz
     let Some(page) = cursor else {
         return 0;
     };
-    if 0 < guess && guess <= spots.len() && spots[guess - 1].page == page && follows(spots, guess, page) {
+    if 0 < guess
+        && guess <= spots.len()
+        && spots[guess - 1].page == page
+        && follows(spots, guess, page)
+    {
         return guess;
     }
     spots.partition_point(|spot| !page.comes_before(spot.page))
@@ -108,8 +112,10 @@ fn is_last(spots: &[Spot], page: GuestPage) -> bool
 
 /// Puts each of some spots in its place among others, which are in order, and so are all together then.
 fn put_each(spots: &mut Vec<Spot>, added: &[Spot]) -> Result<(), AllocError>
-    requires { AreInOrder spots.old.items }
+    requires order { AreInOrder spots.old.items }
+    requires fit { FitSpots spots.old.items × FitSpots added.now }
     ensures order { AreInOrder spots.new.items }
+    ensures fit { FitSpots spots.new.items }
     ensures all { OnOk result ((page : GuestPage) → has_item page (pages_of spots.new.items)
         ≡ (has_item page (pages_of spots.old.items) || has_item page (pages_of added.now))) }
 {
@@ -120,43 +126,20 @@ fn put_each(spots: &mut Vec<Spot>, added: &[Spot]) -> Result<(), AllocError>
     Ok(())
 }
 
-/// Puts spots among others, from the last on. Both are in order, and so are all together then.
-fn interleave(spots: &mut Vec<Spot>, added: &[Spot]) -> Result<(), AllocError>
+/// Puts spots in order among others, which are. Many are sorted together with these, by a sort that keeps runs.
+fn put_all(spots: &mut Vec<Spot>, added: &[Spot]) -> Result<(), AllocError>
     requires order { AreInOrder spots.old.items }
-    requires added { AreInOrder added.now }
-    ensures order { AreInOrder spots.new.items }
+    requires fit { FitSpots spots.old.items × FitSpots added.now }
+    ensures order { OnOk result (AreInOrder spots.new.items) }
+    ensures fit { OnOk result (FitSpots spots.new.items) }
     ensures all { OnOk result ((page : GuestPage) → has_item page (pages_of spots.new.items)
         ≡ (has_item page (pages_of spots.old.items) || has_item page (pages_of added.now))) }
-{
-    let mut from = spots.len();
-    let mut left = added.len();
-    spots.extend_from_slice(added)?;
-    while 0 < left {
-        let last = added[left - 1];
-        if 0 < from && last.page.comes_before(spots[from - 1].page) {
-            from -= 1;
-            spots[from + left] = spots[from];
-        } else {
-            left -= 1;
-            spots[from + left] = last;
-        }
-    }
-    Ok(())
-}
-
-/// Puts spots in order among others, which are.
-fn put_all(spots: &mut Vec<Spot>, added: &mut [Spot]) -> Result<(), AllocError>
-    requires order { AreInOrder spots.old.items }
-    requires fit { FitSpots added.old }
-    ensures order { AreInOrder spots.new.items }
-    ensures all { OnOk result ((page : GuestPage) → has_item page (pages_of spots.new.items)
-        ≡ (has_item page (pages_of spots.old.items) || has_item page (pages_of added.old))) }
 {
     if added.len() < spots.len() / DEAR {
         return put_each(spots, added);
     }
-    added.sort_unstable_by_key(|spot: &Spot| key_of(spot.page));
-    interleave(spots, added)?;
+    spots.extend_from_slice(added)?;
+    spots.sort_by_key(|spot: &Spot| key_of(spot.page))?;
     Ok(())
 }
 
@@ -255,7 +238,8 @@ impl Restless {
         Ok(())
     }
 
-    /// Puts the pages in order that were added. Where memory for that is refused, the list is no longer known.
+    /// Puts the pages in order that were added. Where memory for that is refused, no page is listed any more, and the
+    /// list is no longer known.
     pub fn put_in_order(&mut self)
         ensures ready { self.new.ready ≡ self.new.known }
         ensures kept { self.new.known ≡ true → (self.old.known ≡ true) × ((page : GuestPage)
@@ -264,7 +248,8 @@ impl Restless {
         if self.added.is_empty() {
             return;
         }
-        if put_all(&mut self.spots, self.added.as_mut_slice()).is_err() {
+        if put_all(&mut self.spots, self.added.as_slice()).is_err() {
+            self.spots.clear();
             self.known = false;
         }
         self.added.clear();

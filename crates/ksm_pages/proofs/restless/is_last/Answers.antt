@@ -1,6 +1,6 @@
 use Rattle.ksm_pages.proofs.Names.{arith, get_or, length, slice_get_past, ◌-◌, ◌<◌, ◌≡◌}
 use Rattle.std.proofs.lemmas.Option.{slice_get_read}
-use Rattle.ksm_pages.proofs.Merging.{last_least}
+use Rattle.ksm_pages.proofs.Sorting.{last_least}
 use Rattle.ksm_pages.proofs.restless.is_last.Goals as goal
 
 pub returns-in-Some : goal.returns-in-Some

@@ -1,4 +1,4 @@
-use Rattle.ksm_pages.proofs.Names.{InPageOrder, refl, rows_of, sym, ◌∙◌}
+use Rattle.ksm_pages.proofs.Names.{InPageOrder, refl, rows_of}
 use Rattle.ksm_pages.proofs.Filing.{rows_rise}
 use Rattle.ksm_pages.proofs.Gathering.{found_next, listed_next}
 use Rattle.ksm_pages.proofs.rows.Rows.next_restless.Goals as goal
