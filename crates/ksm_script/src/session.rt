@@ -276,6 +276,7 @@ impl<N: Naming> Session<N> {
     }
 
     /// Does what a line that comes seldom says, and hands its reply over.
+    #[inline(always)]
     pub(crate) fn answer_rare<P: Replies<S>, R: Threads + Wait + Sync, S>(
         &mut self,
         rt: &R,
@@ -371,8 +372,8 @@ impl<N: Naming> Session<N> {
     }
 
     // Makes a command, and hands its reply over. Mostly that is `ok`, which is told apart: so no value with room for
-    // any reply is cleared before it. It is not inlined, so that an answer is used where it is made.
-    #[inline(never)]
+    // any reply is cleared before it.
+    #[inline(always)]
     fn tell_made<P: Replies<S>, R: Wait, S>(
         &mut self,
         rt: &R,
