@@ -4,8 +4,7 @@ use Rattle.ksm_book.proofs.Names.{get_or, GuestPage, has_item, is_some, length, 
 use Rattle.ksm_book.proofs.Names.{true, [], ◌&&◌, ◌++◌, ◌==◌, ◌||◌, ◌∙◌, ◌∷◌, ◌≡◌}
 use Rattle.std.proofs.lemmas.List.Folds.{list_any-append}
 use Rattle.ksm_pages.proofs.Found.{first_found as found_first}
-use Rattle.ksm_book.specs.Due.{FindsFirst}
-use Rattle.ksm_pages.specs.Held.{pages_of}
+use Rattle.ksm_book.specs.Due.{FindsFirst, pages_of}
 use Rattle.ksm_pages.specs.declared.named.Named.{Named}
 use Rattle.ksm_pages.specs.declared.row.Spot.{Spot}
 use Rattle.ksm_pages.specs.Ordered.{AreAscending, is_of, with_named, without_named}

@@ -1,5 +1,5 @@
 -- Passes that visit only the pages that are due: what waits, and would wait again, is left as it is (own).
-use Rattle.std.specs.Prelude.{◌≡◌, Bool, true, false, not, ◌&&◌, All, List, ◌∷◌, fold, Option, Some, None, is_none, if◌then◌else◌}
+use Rattle.std.specs.Prelude.{◌≡◌, Bool, true, false, not, ◌&&◌, All, List, ◌∷◌, fold, map, Option, Some, None, is_none, if◌then◌else◌}
 use Rattle.ksm_base.specs.declared.page.GuestPage.{GuestPage}
 use Rattle.ksm_base.specs.declared.row.Row.{Row}
 use Rattle.ksm_base.specs.Rows.{change_rows, comes_before, row_at, same_page, settled, waiting_state}
@@ -7,6 +7,7 @@ use Rattle.ksm_base.specs.State.{BookState}
 use Rattle.ksm_base.specs.Visit.{after_cursor, best_dup, is_for_zero, partner, waits_for}
 use Rattle.ksm_rmap.specs.Items.{has_item}
 use Rattle.ksm_pages.specs.Paged.{is_restless}
+use Rattle.ksm_pages.specs.declared.row.Spot.{Spot}
 use Rattle.ksm_book.specs.Folded.{visited}
 
 -- the pages that are due; whether all of them are known; and whether they are, and stand in order
@@ -14,6 +15,10 @@ pub record DueView : Type 0 where
   pub pages : List GuestPage
   pub known : Bool
   pub ready : Bool
+
+-- the pages of spots
+abbrev pub pages_of : List Spot → List GuestPage
+pages_of spots = map (λ s. s.page) spots
 
 -- the first of the pages behind a cursor; where none is found, none is there
 abbrev pub FindsFirst : Option GuestPage → List GuestPage → Option GuestPage → Type 0

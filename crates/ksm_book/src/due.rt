@@ -32,9 +32,8 @@ pub struct Due {
 
 impl Model for Due {
     ghost use Rattle.std.specs.Prelude.{◌++◌, ◌&&◌, ◌==◌, length, map};
-    ghost use Rattle.ksm_pages.specs.Held.{pages_of};
     ghost use Rattle.ksm_pages.specs.Ordered.{AreAscending};
-    ghost use Rattle.ksm_book.specs.Due.{DueView};
+    ghost use Rattle.ksm_book.specs.Due.{DueView, pages_of};
 
     ghost Value = { DueView };
 

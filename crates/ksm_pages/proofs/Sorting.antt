@@ -1,95 +1,151 @@
--- Spots that are put among others in order, and what is listed then.
-use Rattle.std.specs.Prelude.{◌||◌, insert}
-use Rattle.ksm_pages.proofs.Names.{All, AreInOrder, arith, comes_before, filter, filter_none, has_item, length, List, pages_of, pairs_head, pairs_tail, same_page, Some, Spot, suc, sym, false, zero, ℕ, [], ◌++◌, ◌∷◌, ◌≡◌, ◌<◌, ◌∙◌, GuestPage}
-use Rattle.ksm_pages.proofs.Names.{ap, cases_Bool, get_or, inl, inr, ◌+◌}
-use Rattle.std.proofs.Math.Seq.{take-suc}
-use Rattle.std.proofs.Common.{take}
+-- Listed pages in order: the place of a key, and pages that are put among others.
+use Rattle.std.specs.Prelude.{◌||◌, drop, insert, nat_lt, take}
+use Rattle.ksm_pages.proofs.Names.{All, AreInOrder, arith, filter, has_item, length, List, pages_of, same_page, suc, zero, ℕ, [], ◌++◌, ◌∷◌, ◌≡◌, ◌<◌, ◌≤◌, ◌∙◌, GuestPage}
+use Rattle.ksm_pages.proofs.Names.{All-cons, ap, All-append, cases_Bool, filter_none, get_or, inl, inr, nat_tests, pairs_head, pairs_tail, point_is_count, sym, ◌+◌, ◌-◌}
+use Rattle.ksm_pages.specs.declared.restless.Listed.{Listed}
+use Rattle.ksm_pages.specs.Held.{AreSmall, HasGap, IsPlace, IsPutAmong}
+use Rattle.std.proofs.lemmas.List.{take-append-drop}
+use Rattle.std.proofs.lemmas.List.Elements.{All-drop, All-take}
+use Rattle.std.specs.Prelude.{◌^◌}
+use Rattle.std.specs.List.{AllWithin}
+use Rattle.ksm_base.proofs.Orders.{pairs_append}
+use Rattle.std.proofs.lemmas.List.{get_or-drop, get_or-take, length-drop, length-take}
+use Rattle.ksm_pages.proofs.Names.{slice_get, Some}
 use Rattle.std.proofs.Math.Nat.{eq-or-lt_of_le}
+use Rattle.std.proofs.Math.Seq.{take-suc}
 use Rattle.std.specs.List.Sorted.{IsNonDecreasingBy, IsPermutation}
-use Rattle.std.proofs.lemmas.List.Sorted.{IsPermutation-map, list_any-IsPermutation}
-use Rattle.ksm_pages.specs.Held.{FitSpots}
-use Rattle.ksm_rmap.specs.Keys.{key_of}
 use Rattle.std.proofs.lemmas.List.{get_or_default}
-use Rattle.ksm_pages.proofs.Names.{◌-◌}
 use Rattle.std.proofs.lemmas.List.Kept.{AllPairs-cons}
-use Rattle.ksm_pages.proofs.Spots.{appended_has, page_of, passed}
+use Rattle.std.proofs.lemmas.List.Sorted.{All-permutation, IsPermutation-insert, IsPermutation-map, list_any-IsPermutation}
+use Rattle.ksm_pages.proofs.Spots.{appended_has, page_by, Up}
 
--- the second page does not come before the first
-abbrev pub Follows : Spot → Spot → Type 0
-Follows s t = comes_before t.page s.page ≡ false
+-- where the page at an index of pages in order does not come before a key, no page behind it does
+pub all_from : (from : ℕ) (listed : List Listed) → AreInOrder listed → (at : ℕ) (d : Listed) → (at < length listed → from ≤ (get_or listed at d).page)
+    → AllWithin (λ l. from ≤ l.page) listed at (length listed)
+all_from from listed rise at d high k x start lt = grind (arith, high, get_or_default listed at x d, rise at k x, eq-or-lt_of_le)
 
-module _ (spot : Spot) where
-  abbrev place : List Spot → ℕ
-  place spots = length (filter (passed (Some spot.page)) spots)
+-- where the page in front of an index comes before a key, and the one at the index does not, that is the place of the key
+pub place_here : (from : ℕ) (listed : List Listed) → AreInOrder listed → (at : ℕ) (d : Listed) → at ≤ length listed
+    → (0 < at → (get_or listed (at - 1) d).page < from) → (at < length listed → from ≤ (get_or listed at d).page) → IsPlace from listed at
+place_here from listed rise at d within low high = record {
+  count = point_is_count (λ l. nat_lt l.page from) listed at within
+      (λ k x start lt. grind (arith, ahead k x start lt, nat_tests))
+      (λ k x start lt. grind (arith, behind k x start lt, nat_tests));
+  within = within;
+  ahead = ahead;
+  behind = behind;
+}
+  where
+    ahead : AllWithin (λ l. l.page < from) listed 0 at
+    ahead k x start lt = grind (arith, low, get_or_default listed (at - 1) x d, rise k (at - 1) x, eq-or-lt_of_le)
 
-  -- what holds of all spots and of one that is put in holds of all then
-  pub all_put : (P : Spot → Type 0) (spots : List Spot) (at : ℕ) → All P spots → P spot → All P (insert spots at spot)
-  all_put P [] zero all one zero d lt = one
-  all_put P [] (suc at) all one zero d lt = one
-  all_put P [] zero all one (suc k) d lt = absurd (omega arith)
-  all_put P [] (suc at) all one (suc k) d lt = absurd (omega arith)
-  all_put P (s ∷ spots) zero all one zero d lt = one
-  all_put P (s ∷ spots) zero all one (suc k) d lt = all k d (omega arith)
-  all_put P (s ∷ spots) (suc at) all one zero d lt = all zero d (omega arith)
-  all_put P (s ∷ spots) (suc at) all one (suc k) d lt = all_put P spots at (λ j e less. all (suc j) e (omega arith)) one k d (omega arith)
+    behind : AllWithin (λ l. from ≤ l.page) listed at (length listed)
+    behind = all_from from listed rise at d high
 
-  -- a page is listed with one that is put in exactly where it was, or is that one
-  pub put_has : (page : GuestPage) (spots : List Spot) (at : ℕ)
-      → has_item page (pages_of (insert spots at spot)) ≡ (has_item page (pages_of spots) || same_page spot.page page)
-  put_has page [] zero = grind arith
-  put_has page [] (suc at) = grind arith
-  put_has page (s ∷ spots) zero = grind arith
-  put_has page (s ∷ spots) (suc at) = grind (arith, put_has page spots at)
+-- a page is among those that are listed in whatever order they stand
+pub shuffled_has : {listed later : List Listed} → IsPermutation listed later → (page : GuestPage) → has_item page (pages_of later) ≡ has_item page (pages_of listed)
+shuffled_has moved page = sym (list_any-IsPermutation (λ p. same_page p page) _ _ (IsPermutation-map page_by _ _ moved))
 
-  -- where a spot of a list in order comes behind it, so do all others from there on
-  all_behind : (s : Spot) (spots : List Spot) → AreInOrder (s ∷ spots) → passed (Some spot.page) s ≡ false → All (λ t. passed (Some spot.page) t ≡ false) (s ∷ spots)
-  all_behind s spots rise behind zero d lt = behind
-  all_behind s spots rise behind (suc k) d lt = grind (arith, pairs_head Follows s spots rise k d)
+module _ (one : Listed) where
+  -- what holds of all pages and of one that is put in holds of all then
+  pub all_put : (P : Listed → Type 0) (listed : List Listed) (at : ℕ) → All P listed → P one → All P (insert listed at one)
+  all_put P listed at all this = All-permutation P (one ∷ listed) _ (IsPermutation-insert listed at one) (All-cons P one listed this all)
 
-  -- spots in order stay in order with one that is put in behind those that do not come behind it
-  pub put_rises : (spots : List Spot) → AreInOrder spots → AreInOrder (insert spots (place spots) spot)
+  -- a page is listed with one that is put in exactly where it is that one, or was listed
+  pub put_has : (page : GuestPage) (listed : List Listed) (at : ℕ)
+      → has_item page (pages_of (insert listed at one)) ≡ (same_page (page_by one) page || has_item page (pages_of listed))
+  put_has page listed at = shuffled_has (IsPermutation-insert listed at one) page
+
+  -- how many come before it
+  abbrev pub count : List Listed → ℕ
+  count listed = length (filter (λ l. nat_lt l.page one.page) listed)
+
+  -- where a page does not come before it, no page behind that does
+  none_ahead : (l : Listed) (listed : List Listed) → AreInOrder (l ∷ listed) → one.page ≤ l.page → All (λ m. one.page ≤ m.page) (l ∷ listed)
+  none_ahead l listed rise behind zero d lt = behind
+  none_ahead l listed rise behind (suc k) d lt = omega (arith, behind, pairs_head Up l listed rise k d (omega arith))
+
+  -- pages in order stay in order with one that is put in at its place
+  put_rises : (listed : List Listed) → AreInOrder listed → AreInOrder (insert listed (count listed) one)
   put_rises [] rise = λ i j d less lt. absurd (omega arith)
-  put_rises (s ∷ spots) rise = elim (cases_Bool (passed (Some spot.page) s)) [
-    | inl here ↦
-        let more : place (s ∷ spots) ≡ suc (place spots) = grind arith in
+  put_rises (l ∷ listed) rise = elim (cases_Bool (nat_lt l.page one.page)) [
+    | inl ahead ↦
+        let more : count (l ∷ listed) ≡ suc (count listed) = grind (arith, ahead) in
         rw more
-        (AllPairs-cons Follows s _ (all_put (Follows s) spots _ (pairs_head Follows s spots rise) (grind arith))
-        (put_rises spots (pairs_tail Follows s spots rise)))
+        (AllPairs-cons Up l _ (all_put (Up l) listed (count listed) (pairs_head Up l listed rise) (grind (arith, ahead, nat_tests)))
+        (put_rises listed (pairs_tail Up l listed rise)))
     | inr behind ↦
-        let all = all_behind s spots rise behind in
-        let none : place (s ∷ spots) ≡ 0 = ap length (filter_none (passed (Some spot.page)) (s ∷ spots) all) in
-        rw none (AllPairs-cons Follows spot (s ∷ spots) (λ k d lt. grind (arith, all k d)) rise)
+        let all = none_ahead l listed rise (grind (arith, behind, nat_tests)) in
+        let none : count (l ∷ listed) ≡ 0 = ap length (filter_none (λ m. nat_lt m.page one.page) (l ∷ listed) (λ k d lt. grind (arith, all k d, nat_tests))) in
+        rw none (AllPairs-cons Up one (l ∷ listed) all rise)
   ]
 
-  -- a spot is put in at its place: the spots stay in order, and its page is listed too
-  pub put_in : {spots read now : List Spot} {at : ℕ} → AreInOrder spots → read ≡ spots → at ≡ place read → now ≡ insert spots at spot
-      → AreInOrder now × ((page : GuestPage) → has_item page (pages_of now) ≡ (has_item page (pages_of spots) || same_page spot.page page))
-  put_in {spots} {read} {now} {at} rise is here put =
-      let there : now ≡ insert spots (place spots) spot = put ∙ ap (λ n. insert spots n spot) (here ∙ ap place is) in (
-        rw there (put_rises spots rise),
-        λ page. ap (λ ss. has_item page (pages_of ss)) put ∙ put_has page spots at,
-      )
+  -- where it is put in at its place, the pages stay in order
+  pub put_in : {listed read : List Listed} {at : ℕ} → AreInOrder listed → read ≡ listed → at ≡ count read → AreInOrder (insert listed at one)
+  put_in {listed} {read} {at} rise is here = rw (here ∙ ap count is) (put_rises listed rise)
 
--- the pages of one spot more of a list
-pub taken_has : (page : GuestPage) (spots : List Spot) (i : ℕ) (d : Spot) → i < length spots
-    → has_item page (pages_of (take (i + 1) spots)) ≡ (has_item page (pages_of (take i spots)) || same_page (get_or spots i d).page page)
-taken_has page spots i d lt =
+-- pages that were added, in front of an index of others
+module _ (listed added : List Listed) (rise : AreInOrder listed) (at : ℕ) (within : at ≤ length listed) where
+  front_rises : AreInOrder (take at listed)
+  front_rises i j d less lt = grind (arith, length-take at listed, get_or-take at listed i d, get_or-take at listed j d, rise i j d)
+
+  back_rises : AreInOrder (drop at listed)
+  back_rises i j d less lt = grind (arith, length-drop at listed, get_or-drop at listed i d, get_or-drop at listed j d, rise (at + i) (at + j) d)
+
+  -- where the pages in front of the index come before the first that was added, and the last of these before those behind, they
+  -- are in order there
+  pub gap_here : (low high : ℕ) → AllWithin (λ l. l.page < low) listed 0 at → AllWithin (λ l. high ≤ l.page) listed at (length listed)
+      → AreInOrder added → All (λ l. low ≤ l.page) added → All (λ l. l.page ≤ high) added → HasGap listed added at
+  gap_here low high ahead behind up from to = (
+    within,
+    pairs_append Up (take at listed) (added ++ drop at listed) front_rises
+        (pairs_append Up added (drop at listed) up back_rises
+        (λ k d lt j e less. grind (arith, to k d lt, behind (at + j) e, get_or-drop at listed j e, length-drop at listed)))
+        (λ k d lt. All-append (Up (get_or (take at listed) k d)) added (drop at listed)
+        (λ j e less. grind (arith, from j e less, ahead k d, get_or-take at listed k d, length-take at listed))
+        (λ j e less. grind (arith, lt, less, rise k (at + j), get_or-take at listed k d, length-take at listed, get_or-drop at listed j e, length-drop at listed, get_or_default listed k e d))),
+  )
+
+-- what was added in front of an index where it is in order is put among the others
+pub put_between : (listed added : List Listed) (at : ℕ) → AreSmall listed → AreSmall added → HasGap listed added at
+    → IsPutAmong listed added (take at listed ++ (added ++ drop at listed))
+put_between listed added at small new gap =
+    let Small : Listed → Type 0 = λ l. l.page < 2 ^ 48 in
+    record {
+      order = gap.1;
+      small = All-append Small (take at listed) (added ++ drop at listed) (All-take Small at listed small)
+          (All-append Small added (drop at listed) new (All-drop Small at listed small));
+      all = λ page. grind (
+        arith,
+        appended_has page (take at listed) (added ++ drop at listed),
+        appended_has page added (drop at listed),
+        appended_has page (take at listed) (drop at listed),
+        take-append-drop at listed,
+      );
+    }
+
+-- where what was added is in order, none of it comes before the first, or behind the last
+pub first_of : (added : List Listed) → AreInOrder added → (first : Listed) → slice_get added 0 ≡ Some first → All (λ l. first.page ≤ l.page) added
+first_of [] up first is k d lt = absurd (omega (arith, lt))
+first_of (l ∷ added) up first is zero d lt = grind (arith, is)
+first_of (l ∷ added) up first is (suc k) d lt = grind (arith, is, pairs_head Up l added up k d)
+
+-- the pages of one more of a list
+pub taken_has : (page : GuestPage) (listed : List Listed) (i : ℕ) (d : Listed) → i < length listed
+    → has_item page (pages_of (take (i + 1) listed)) ≡ (has_item page (pages_of (take i listed)) || same_page (page_by (get_or listed i d)) page)
+taken_has page listed i d lt =
     let next : i + 1 ≡ suc i = omega arith in
-    let more : take (i + 1) spots ≡ take i spots ++ get_or spots i d ∷ [] = ap (λ n. take n spots) next ∙ take-suc spots i d lt in
-    ap (λ ss. has_item page (pages_of ss)) more ∙ appended_has page (take i spots) (get_or spots i d ∷ []) ∙ grind arith
+    let more : take (i + 1) listed ≡ take i listed ++ get_or listed i d ∷ [] = ap (λ n. take n listed) next ∙ take-suc listed i d lt in
+    ap (λ ls. has_item page (pages_of ls)) more ∙ appended_has page (take i listed) (get_or listed i d ∷ []) ∙ grind arith
 
--- spots are in order where the keys of their pages do not fall
-pub sorted_rise : (spots : List Spot) → FitSpots spots → IsNonDecreasingBy (λ s. key_of s.page) spots → AreInOrder spots
-sorted_rise spots fit up i j d less lt = grind (arith, fit i d, fit j d, up i j d)
+-- pages whose keys do not fall are in order
+pub sorted_rise : (listed : List Listed) → IsNonDecreasingBy (λ l. l.page) listed → AreInOrder listed
+sorted_rise listed up i j d less lt = up i j d (omega arith) lt
 
--- a page is among the pages of spots in whatever order they stand
-pub shuffled_has : {spots later : List Spot} → IsPermutation spots later → (page : GuestPage) → has_item page (pages_of later) ≡ has_item page (pages_of spots)
-shuffled_has moved page = sym (list_any-IsPermutation (λ p. same_page p page) _ _ (IsPermutation-map page_of _ _ moved))
-
--- where no page is in front of the last of spots in order, none is in front of the others
-pub last_least : (page : GuestPage) (spots : List Spot) → AreInOrder spots → (e : Spot) → 0 < length spots
-    → comes_before page (get_or spots (length spots - 1) e).page ≡ false → All (λ s. comes_before page s.page ≡ false) spots
-last_least page spots rise e some last k d lt = elim (eq-or-lt_of_le {n = k} {m = length spots - 1} (omega arith)) [
-  | inl is ↦ rw (is, get_or_default spots (length spots - 1) d e (omega arith)) last
-  | inr less ↦ grind (arith, last, rise k (length spots - 1) d less (omega arith), get_or_default spots (length spots - 1) d e)
+-- where the last of pages in order does not come behind a key, no other does
+pub last_least : (key : ℕ) (listed : List Listed) → AreInOrder listed → (e : Listed) → 0 < length listed
+    → (get_or listed (length listed - 1) e).page ≤ key → All (λ l. l.page ≤ key) listed
+last_least key listed rise e some last k d lt = elim (eq-or-lt_of_le {n = k} {m = length listed - 1} (omega arith)) [
+  | inl is ↦ rw (is, get_or_default listed (length listed - 1) d e (omega arith)) last
+  | inr less ↦ grind (arith, last, rise k (length listed - 1) d less (omega arith), get_or_default listed (length listed - 1) d e)
 ]

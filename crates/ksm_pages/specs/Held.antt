@@ -1,5 +1,7 @@
 -- Rows as they are kept, in the order of their pages, each with the frame of its own if it has one. (own)
-use Rattle.std.specs.Prelude.{◌≡◌, ℕ, ◌<◌, ◌^◌, Bool, true, false, not, ◌&&◌, ◌||◌, ◌==◌, All, AllPairs, bytes_eq, List, ◌∷◌, ◌++◌, filter, find, map, option_map, Option, None, Some, if◌then◌else◌}
+use Rattle.std.specs.Prelude.{◌≡◌, ℕ, ◌<◌, ◌≤◌, ◌^◌, ◌%◌, Bool, true, false, not, ◌&&◌, ◌||◌, ◌==◌, bytes_eq, nat_lt, if◌then◌else◌}
+use Rattle.std.specs.Prelude.{All, AllPairs, List, [], ◌∷◌, ◌++◌, drop, filter, find, length, map, take, option_map, Option, None, Some}
+use Rattle.std.specs.List.{AllWithin}
 use Rattle.ksm_base.specs.declared.page.GuestPage.{GuestPage}
 use Rattle.ksm_base.specs.declared.row.PageState.{PageState}
 use Rattle.ksm_base.specs.declared.row.PageState.TheVariants.{Private, Waiting, Merged, Zero}
@@ -12,6 +14,8 @@ use Rattle.ksm_pages.specs.declared.row.Kind.{Kind}
 use Rattle.ksm_pages.specs.declared.row.Kind.TheVariants as kinds
 use Rattle.ksm_pages.specs.declared.row.Entry.{Entry}
 use Rattle.ksm_pages.specs.declared.row.Spot.{Spot}
+use Rattle.ksm_pages.specs.declared.restless.Listed.{Listed}
+use Rattle.ksm_rmap.specs.Keys.{page_of}
 
 -- a row, the frame of its own, and whether the unstable tree leads to it
 pub record Held : Type 0 where
@@ -25,17 +29,43 @@ pub record Listing : Type 0 where
   pub known : Bool
   pub ready : Bool
 
--- no page of the spots comes before the page of one that stands in front of it
-abbrev pub AreInOrder : List Spot → Type 0
-AreInOrder spots = AllPairs (λ s t. comes_before t.page s.page ≡ false) spots
+-- what is listed of a page, as a spot: its page by the lower 48 bits of the key
+abbrev pub low_spot : Listed → Spot
+low_spot l = record { page = page_of (l.page % 2 ^ 48); key = l.row }
 
--- the number of each spot's page fits 32 bits
-abbrev pub FitSpots : List Spot → Type 0
-FitSpots spots = All (λ s. s.page.page < 2 ^ 32) spots
+-- the keys of the pages do not fall
+abbrev pub AreInOrder : List Listed → Type 0
+AreInOrder listed = AllPairs (λ l m. l.page ≤ m.page) listed
 
--- the pages of spots
-abbrev pub pages_of : List Spot → List GuestPage
-pages_of spots = map (λ s. s.page) spots
+-- the key of each page has at most 48 bits
+abbrev pub AreSmall : List Listed → Type 0
+AreSmall listed = All (λ l. l.page < 2 ^ 48) listed
+
+-- the pages that are listed
+abbrev pub pages_of : List Listed → List GuestPage
+pages_of listed = map (λ l. page_of l.page) listed
+
+-- the pages in front of an index come before a key, and the others do not
+pub record IsPlace (from : ℕ) (listed : List Listed) (at : ℕ) : Type 0 where
+  pub count : at ≡ length (filter (λ l. nat_lt l.page from) listed)
+  pub within : at ≤ length listed
+  pub ahead : AllWithin (λ l. l.page < from) listed 0 at
+  pub behind : AllWithin (λ l. from ≤ l.page) listed at (length listed)
+
+-- what was added is in order in front of an index
+abbrev pub HasGap : List Listed → List Listed → ℕ → Type 0
+HasGap listed added at = (at ≤ length listed) × AreInOrder (take at listed ++ (added ++ drop at listed))
+
+-- the pages of two lists, in order
+pub record IsPutAmong (old added new : List Listed) : Type 0 where
+  pub order : AreInOrder new
+  pub small : AreSmall new
+  pub all : (page : GuestPage)
+      → has_item page (pages_of new) ≡ (has_item page (pages_of old) || has_item page (pages_of added))
+
+-- where it is told that all pages are known and in order, they are
+abbrev pub IsReady : List Listed → Bool → Bool → Type 0
+IsReady added known ready = ready ≡ true → (known ≡ true) × (added ≡ [])
 
 -- a page is listed from now on, and so are those that were, or else the list is no longer known
 abbrev pub IsAddedTo : GuestPage → Listing → Listing → Type 0

@@ -7,21 +7,22 @@
 //! rows where memory is refused again: so no command is refused for it, and no contract speaks of the list. So it is
 //! where more than half of the list is there in vain.
 
-ghost use Rattle.std.specs.Prelude.{◌≡◌, ◌⊎◌, ◌≤◌, ◌<◌, [], true, false, filter, length, not, All, OnOk, ◌||◌};
-ghost use Rattle.std.specs.Prelude.{IfNone, IfSome, IsTrue, slice_index_or};
+ghost use Rattle.std.specs.Prelude.{◌≡◌, ◌⊎◌, ◌≤◌, ◌||◌, [], true, false, filter, length, not, All, OnOk};
+ghost use Rattle.std.specs.Prelude.{IfNone, IfSome, IsTrue};
 ghost use Rattle.ksm_base.specs.declared.page.GuestPage.{GuestPage};
 ghost use Rattle.ksm_base.specs.Rows.{comes_before, same_page};
 ghost use Rattle.ksm_base.specs.Visit.{after_cursor};
 ghost use Rattle.ksm_rmap.specs.Items.{has_item};
+ghost use Rattle.ksm_rmap.specs.Keys.{page_of};
 ghost use Rattle.ksm_pages.specs.Filed.{IsInVain, is_useless as is_of_no_use};
-ghost use Rattle.ksm_pages.specs.Held.{AreInOrder, FitSpots, IsAddedTo, pages_of};
+ghost use Rattle.ksm_pages.specs.Held.{AreInOrder, AreSmall, HasGap, IsAddedTo, IsPlace, IsPutAmong, low_spot};
 ghost use Rattle.slab.specs.Slab.{get};
 
 use crate::order::Order;
 use crate::row::{Entry, Spot};
 use ksm_base::GuestPage;
 use ksm_order::insert_at;
-use ksm_rmap::key_of;
+use ksm_rmap::{key_of, page_of};
 use slab::Slab;
 use std::alloc::{AllocError, Global};
 use std::marker::Model;
@@ -29,25 +30,35 @@ use std::marker::Model;
 /// Room for so many pages that were added is kept once they are in order.
 const MANY: usize = 16_384;
 
-/// To put one page in its place costs as much as to look at so many of those behind it.
-const DEAR: usize = 16;
+/// So many pages or fewer are put in one by one. A sort costs a step for each listed page, and so does each move of
+/// those behind a page, though a cheaper one: so it does not matter how many are listed.
+const FEW: usize = 12;
 
 /// A visit of a page without a row searches for it, so it weighs as much as so many whose row is found.
 const WEIGHT_OF_A_SEARCH: usize = 4;
 
+/// A page that is listed, by its key, below 2^48; and a guess of the key of its row.
+#[derive(Clone, Copy, Debug)]
+pub struct Listed {
+    page: u64,
+    row: usize,
+}
+
 /// Pages, each with a guess of the key of its row, and whether all that a visit may change are among them.
 ///
-/// To add a page costs a step. Those that did not come in order are put in order when a scan begins, which costs a sort
-/// of these, and a move of those behind the first of them. Once there are more than two pages for each row, the next
-/// scan makes the list anew by a walk over all rows.
+/// To add a page costs a step. Those that did not come in order are put in order when a scan begins. Where they fit
+/// between two others, or are few, that costs a move of those behind; else a sort of all. Once there are more than two
+/// pages for each row, the next scan makes the list anew by a walk over all rows.
 #[derive(Drop)]
 pub struct Restless {
     alloc: Global,
     /// In order.
-    spots: Vec<Spot>,
+    listed: Vec<Listed>,
     /// Those that came since and are not in order yet.
-    added: Vec<Spot>,
+    added: Vec<Listed>,
     known: bool,
+    /// All are known, and in order.
+    ready: bool,
     /// How many pages have come to be listed in vain since `sweep` looked, by their weight.
     useless: usize,
     /// A guess of the index of the next page that a scan asks for.
@@ -55,101 +66,165 @@ pub struct Restless {
 }
 
 impl Model for Restless {
-    ghost use Rattle.std.specs.Prelude.{◌++◌, ◌&&◌, ◌==◌, length};
-    ghost use Rattle.ksm_pages.specs.Held.{AreInOrder, FitSpots, Listing, pages_of};
+    ghost use Rattle.std.specs.Prelude.{◌++◌};
+    ghost use Rattle.ksm_pages.specs.Held.{AreInOrder, AreSmall, IsReady, Listing, pages_of};
 
     ghost Value = { Listing };
 
     ghost view = { λ r. record {
-      pages = pages_of r.spots.items ++ pages_of r.added.items;
+      pages = pages_of r.listed.items ++ pages_of r.added.items;
       known = r.known;
-      ready = r.known && length r.added.items == 0;
+      ready = r.ready;
     } };
 
-    ghost invariant = { λ r. AreInOrder r.spots.items × FitSpots r.spots.items × FitSpots r.added.items };
+    ghost invariant = { λ r. AreInOrder r.listed.items × AreSmall r.listed.items × AreSmall r.added.items
+        × IsReady r.added.items r.known r.ready };
 }
 
-/// How many of the pages do not come behind a cursor: the index of the first that does. The guess is right where the
-/// page before it stands at the cursor, and its own behind that.
+/// Whether the first page from a key on stands at an index, or would.
 #[inline(always)]
-fn place_behind(spots: &[Spot], guess: usize, cursor: Option<GuestPage>) -> usize
-    requires { AreInOrder spots.now }
-    ensures count { result ≡ length (filter (λ s. not (after_cursor cursor s.page)) spots.now) }
-    ensures within { result ≤ length spots.now }
+fn is_place(listed: &[Listed], at: usize, from: u64) -> bool
+    requires { AreInOrder listed.now }
+    ensures { IsTrue result → IsPlace from listed.now at }
+{
+    if at > listed.len() {
+        return false;
+    }
+    if at > 0 && listed[at - 1].page >= from {
+        return false;
+    }
+    at == listed.len() || listed[at].page >= from
+}
+
+/// The index of the first page from a key on.
+fn place_of(listed: &[Listed], from: u64) -> usize
+    requires { AreInOrder listed.now }
+    ensures { IsPlace from listed.now result }
+{
+    listed.partition_point(|one| one.page < from)
+}
+
+/// The same, with a guess.
+fn search(listed: &[Listed], guess: usize, from: u64) -> usize
+    requires { AreInOrder listed.now }
+    ensures { IsPlace from listed.now result }
+{
+    if is_place(listed, guess, from) {
+        return guess;
+    }
+    place_of(listed, from)
+}
+
+/// The index of the first page behind a cursor: how many do not come behind it. The guess is right where the page told
+/// last was visited, and the one before where it was not.
+#[inline(always)]
+fn place_behind(listed: &[Listed], guess: usize, cursor: Option<GuestPage>) -> usize
+    requires { AreInOrder listed.now }
+    ensures count { result ≡ length (filter (λ l. not (after_cursor cursor (page_of l.page))) listed.now) }
+    ensures within { result ≤ length listed.now }
 {
     let Some(page) = cursor else {
         return 0;
     };
-    if 0 < guess
-        && guess <= spots.len()
-        && spots[guess - 1].page == page
-        && follows(spots, guess, page)
-    {
+    let from = key_of(page) + 1;
+    if is_place(listed, guess, from) {
         return guess;
     }
-    spots.partition_point(|spot| !page.comes_before(spot.page))
+    search(listed, guess.wrapping_sub(1), from)
 }
 
-/// Whether the page at an index, if there is one, comes behind a page.
+/// Whether no page comes behind this one.
 #[inline(always)]
-fn follows(spots: &[Spot], at: usize, page: GuestPage) -> bool
-    ensures { IsTrue result → at < length spots.now → (d : Spot) → comes_before page (slice_index_or spots.now at d).page ≡ true }
+fn is_last(listed: &[Listed], page: u64) -> bool
+    requires { AreInOrder listed.now }
+    ensures { IsTrue result → All (λ l. l.page ≤ page) listed.now }
 {
-    at >= spots.len() || page.comes_before(spots[at].page)
-}
-
-/// Whether no page comes behind a page.
-#[inline(always)]
-fn is_last(spots: &[Spot], page: GuestPage) -> bool
-    requires { AreInOrder spots.now }
-    ensures { IsTrue result → All (λ s. comes_before page s.page ≡ false) spots.now }
-{
-    match spots.last() {
-        Some(last) => !page.comes_before(last.page),
+    match listed.last() {
+        Some(last) => last.page <= page,
         None => true,
     }
 }
 
-/// Puts each of some spots in its place among others, which are in order, and so are all together then.
-fn put_each(spots: &mut Vec<Spot>, added: &[Spot]) -> Result<(), AllocError>
-    requires order { AreInOrder spots.old.items }
-    requires fit { FitSpots spots.old.items × FitSpots added.now }
-    ensures order { AreInOrder spots.new.items }
-    ensures fit { FitSpots spots.new.items }
-    ensures all { OnOk result ((page : GuestPage) → has_item page (pages_of spots.new.items)
-        ≡ (has_item page (pages_of spots.old.items) || has_item page (pages_of added.now))) }
+/// Whether the pages are in order.
+fn are_in_order(added: &[Listed]) -> bool
+    ensures { IsTrue result → AreInOrder added.now }
 {
-    for spot in added {
-        let at = place_behind(spots.as_slice(), 0, Some(spot.page));
-        insert_at(spots, at, *spot)?;
+    for i in 1..added.len() {
+        if added[i].page < added[i - 1].page {
+            return false;
+        }
+    }
+    true
+}
+
+/// The index in front of which all that were added are in order, where there is one, and they are in order themselves.
+fn gap_for(listed: &[Listed], added: &[Listed]) -> Option<usize>
+    requires { AreInOrder listed.now }
+    ensures { IfSome result (HasGap listed.now added.now) }
+{
+    let first = added.first()?;
+    let last = added.last()?;
+    let at = place_of(listed, first.page);
+    if at < listed.len() && listed[at].page < last.page {
+        return None;
+    }
+    if are_in_order(added) { Some(at) } else { None }
+}
+
+/// Puts what was added between others, in front of an index.
+fn put_between(listed: &mut Vec<Listed>, at: usize, added: &[Listed]) -> Result<(), AllocError>
+    requires small { AreSmall listed.old.items × AreSmall added.now }
+    requires gap { HasGap listed.old.items added.now at }
+    ensures { OnOk result (IsPutAmong listed.old.items added.now listed.new.items) }
+{
+    let behind = listed.split_off(at)?;
+    listed.extend_from_slice(added)?;
+    listed.extend_from_slice(behind.as_slice())?;
+    Ok(())
+}
+
+/// Puts each page that was added in its place among others. A guess of an index stays right.
+fn put_each(listed: &mut Vec<Listed>, guess: &mut usize, added: &[Listed]) -> Result<(), AllocError>
+    requires order { AreInOrder listed.old.items }
+    requires small { AreSmall listed.old.items × AreSmall added.now }
+    ensures { OnOk result (IsPutAmong listed.old.items added.now listed.new.items) }
+{
+    for one in added {
+        let at = place_of(listed.as_slice(), one.page);
+        insert_at(listed, at, *one)?;
+        if at < *guess {
+            *guess = guess.saturating_add(1);
+        }
     }
     Ok(())
 }
 
-/// Puts spots in order among others, which are. Many are sorted together with these, by a sort that keeps runs.
-fn put_all(spots: &mut Vec<Spot>, added: &[Spot]) -> Result<(), AllocError>
-    requires order { AreInOrder spots.old.items }
-    requires fit { FitSpots spots.old.items × FitSpots added.now }
-    ensures order { OnOk result (AreInOrder spots.new.items) }
-    ensures fit { OnOk result (FitSpots spots.new.items) }
-    ensures all { OnOk result ((page : GuestPage) → has_item page (pages_of spots.new.items)
-        ≡ (has_item page (pages_of spots.old.items) || has_item page (pages_of added.now))) }
+/// Puts pages that were added in order among others. Many that fit between none are sorted together with these, by a
+/// sort that keeps runs.
+fn put_all(listed: &mut Vec<Listed>, guess: &mut usize, added: &[Listed]) -> Result<(), AllocError>
+    requires order { AreInOrder listed.old.items }
+    requires small { AreSmall listed.old.items × AreSmall added.now }
+    ensures { OnOk result (IsPutAmong listed.old.items added.now listed.new.items) }
 {
-    if added.len() < spots.len() / DEAR {
-        return put_each(spots, added);
+    if added.len() <= FEW {
+        return put_each(listed, guess, added);
     }
-    spots.extend_from_slice(added)?;
-    spots.sort_by_key(|spot: &Spot| key_of(spot.page))?;
+    if let Some(at) = gap_for(listed.as_slice(), added) {
+        return put_between(listed, at, added);
+    }
+    listed.extend_from_slice(added)?;
+    listed.sort_by_key(|one: &Listed| one.page)?;
     Ok(())
 }
 
-/// Whether it is certain that a spot is listed in vain.
-fn is_useless(entries: &Slab<Entry>, order: &Order, spot: &Spot) -> bool
-    ensures { result ≡ is_of_no_use order.now spot.now (get entries.now spot.now.key) }
+/// Whether it is certain that a page is listed in vain.
+fn is_useless(entries: &Slab<Entry>, order: &Order, listed: &Listed) -> bool
+    ensures { result ≡ is_of_no_use order.now (low_spot listed.now) (get entries.now listed.now.row) }
 {
-    match entries.get(spot.key) {
-        Some(entry) if entry.page == spot.page => !entry.is_restless(),
-        _ => order.find(spot.page).is_none(),
+    let page = page_of(listed.page % (1 << 48));
+    match entries.get(listed.row) {
+        Some(entry) if entry.page == page => !entry.is_restless(),
+        _ => order.find(page).is_none(),
     }
 }
 
@@ -160,9 +235,10 @@ impl Restless {
     {
         Restless {
             alloc,
-            spots: Vec::new(alloc),
+            listed: Vec::new(alloc),
             added: Vec::new(alloc),
             known: true,
+            ready: true,
             useless: 0,
             told: 0,
         }
@@ -181,16 +257,17 @@ impl Restless {
         ensures ready { result ≡ self.now.ready }
         ensures known { IsTrue result → self.now.known ≡ true }
     {
-        self.known && self.added.is_empty()
+        self.ready
     }
 
     /// No page is listed any more, and all are about to be.
     pub fn clear(&mut self)
         ensures { self.new ≡ record { pages = []; known = true; ready = true } }
     {
-        self.spots.clear();
+        self.listed.clear();
         self.added.clear();
         self.known = true;
+        self.ready = true;
         self.useless = 0;
     }
 
@@ -203,9 +280,16 @@ impl Restless {
         ensures next { IfSome result (λ spot. (after_cursor cursor spot.page ≡ true)
             × All (λ p. after_cursor cursor p ≡ true → comes_before p spot.page ≡ false) self.old.pages) }
     {
-        let at = place_behind(self.spots.as_slice(), self.told, cursor);
+        let at = place_behind(self.listed.as_slice(), self.told, cursor);
         self.told = at + 1;
-        self.spots.get(at).copied()
+        if at >= self.listed.len() {
+            return None;
+        }
+        let next = self.listed[at];
+        Some(Spot {
+            page: page_of(next.page),
+            key: next.row,
+        })
     }
 
     /// The page of a spot is listed, where there are so many rows. Where memory for it is refused, or the list is long
@@ -217,9 +301,10 @@ impl Restless {
         if !self.known {
             return;
         }
-        let listed = self.spots.len().saturating_add(self.added.len());
+        let listed = self.listed.len().saturating_add(self.added.len());
         if listed / 2 > rows || self.push(spot).is_err() {
             self.known = false;
+            self.ready = false;
         }
     }
 
@@ -230,10 +315,15 @@ impl Restless {
         ensures added { OnOk result ((page : GuestPage)
             → has_item page self.new.pages ≡ (same_page spot.page page || has_item page self.old.pages)) }
     {
-        if self.added.is_empty() && is_last(self.spots.as_slice(), spot.page) {
-            self.spots.push(spot)?;
+        let listed = Listed {
+            page: key_of(spot.page),
+            row: spot.key,
+        };
+        if self.ready && is_last(self.listed.as_slice(), listed.page) {
+            self.listed.push(listed)?;
         } else {
-            self.added.push(spot)?;
+            self.ready = false;
+            self.added.push(listed)?;
         }
         Ok(())
     }
@@ -245,14 +335,15 @@ impl Restless {
         ensures kept { self.new.known ≡ true → (self.old.known ≡ true) × ((page : GuestPage)
             → has_item page self.new.pages ≡ has_item page self.old.pages) }
     {
-        if self.added.is_empty() {
+        if self.ready {
             return;
         }
-        if put_all(&mut self.spots, self.added.as_slice()).is_err() {
-            self.spots.clear();
+        if put_all(&mut self.listed, &mut self.told, self.added.as_slice()).is_err() {
+            self.listed.clear();
             self.known = false;
         }
         self.added.clear();
+        self.ready = self.known;
         if self.added.capacity() > MANY {
             self.added = Vec::new(self.alloc);
         }
@@ -280,8 +371,9 @@ impl Restless {
         ensures kept { (page : GuestPage) → has_item page self.old.pages ≡ true
             → (has_item page self.new.pages ≡ true) ⊎ IsInVain entries.now order.now page }
     {
-        if self.useless > self.spots.len() / 2 {
-            self.spots.retain(|spot| !is_useless(entries, order, spot));
+        if self.useless > self.listed.len() / 2 {
+            self.listed
+                .retain(|listed| !is_useless(entries, order, listed));
             self.useless = 0;
         }
     }

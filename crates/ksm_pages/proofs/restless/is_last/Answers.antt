@@ -5,8 +5,8 @@ use Rattle.ksm_pages.proofs.restless.is_last.Goals as goal
 
 pub returns-in-Some : goal.returns-in-Some
 returns-in-Some c is =
-    let spots = c.args.spots.now in
+    let listed = c.args.listed.now in
     let last = c.in-Some.last.now in
-    let some : 0 < length spots = grind (arith, c.in-Some.ensures.value, slice_get_past) in
-    let here : get_or spots (length spots - 1) last ≡ last = grind (arith, c.in-Some.ensures.value, slice_get_read, slice_get_past) in
-    last_least c.args.page spots c.requires last some (grind (arith, is, here, c.comes_before.ensures))
+    let some : 0 < length listed = grind (arith, c.in-Some.ensures.value, slice_get_past) in
+    let here : get_or listed (length listed - 1) last ≡ last = grind (arith, c.in-Some.ensures.value, slice_get_read, slice_get_past) in
+    last_least c.args.page listed c.requires last some (grind (arith, is, here))

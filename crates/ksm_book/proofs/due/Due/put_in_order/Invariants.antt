@@ -1,5 +1,5 @@
 use Rattle.ksm_book.proofs.Names.{GuestPage, has_item, true, ◌||◌, ◌≡◌}
-use Rattle.ksm_pages.specs.Held.{pages_of}
+use Rattle.ksm_book.specs.Due.{pages_of}
 use Rattle.ksm_book.proofs.due.Due.put_in_order.Given as goal
 
 abbrev pub invariant-added : goal.invariant-added
