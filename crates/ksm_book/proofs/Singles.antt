@@ -1,4 +1,6 @@
 -- The commands on single pages, and on one dup, carried out.
+use Rattle.ksm_pages.specs.Paged.{HasRow}
+use Rattle.ksm_base.specs.Rows.{private_state}
 use Rattle.ksm_book.proofs.Names.{absent_parts, All, Answer, ap, arith, BookState, BookValue, BookView, change_row, comes_before, Command, Done, Drop, DupRow, Err, false, filter, filter_passes}
 use Rattle.ksm_book.proofs.Names.{find_passes, find_put, FindsNone, frame_at, frames_of, fresh_row, GuestPage, HasNewFrame, HasRemounted, Held, holding, Houses, IfSome, if◌then◌else◌, inl}
 use Rattle.ksm_book.proofs.Names.{InPageOrder, is_some, IsCarried, IsHeld, IsLaid, IsReadable, IsSound, IsWritable, KeeperView, leaving, length, lies_on, List, live_dup_at, lying, MakesSteps}
@@ -172,6 +174,10 @@ module _ {p m : PagesView} {page : GuestPage} {node : ℕ} {bytes : List ℕ} (n
   -- a page that came has a row
   pub come_known : is_some (row_at page m.rows) ≡ true
   come_known = grind (arith, found_fresh)
+
+  -- and that is Private
+  pub come_private : HasRow page m.rows (λ r. private_state r.state ≡ true)
+  come_private = grind (arith, found_fresh)
 
   -- `Register` is carried out, and all lies lawfully, where the page comes on a frame taken with its bytes
   pub register_come : {k l : KeeperView} {cursor : Option GuestPage} {passes : ℕ} {q : PagesView} {g : ℕ} → IsLaid p k → q ≡ record m { rows = change_row page on_its_own m.rows; frame = lies_on page (Some g) m.frame } → Provides k l node bytes g → HasNewFrame k l node bytes g

@@ -149,7 +149,7 @@ impl State {
             self.pages.remove(spot);
             return Err(Fault::NoFrame(node));
         };
-        self.pages.resettle(spot, frame);
+        self.pages.lay(spot, frame);
         Ok(Reply::Done)
     }
 

@@ -1,6 +1,6 @@
 -- What each change of one row, found under its key, leaves: rows still, and what is seen of them.
 use Rattle.ksm_pages.proofs.Options.{none_mapped}
-use Rattle.ksm_pages.proofs.Names.{ap, AreListed, arith, Bool, CanMove, change_held, Entry, false, find, get, GuestPage, has_item, Held, held_at, held_in, held_of}
+use Rattle.ksm_pages.proofs.Names.{private_state, ap, AreListed, arith, Bool, CanMove, change_held, Entry, false, find, get, GuestPage, has_item, Held, held_at, held_in, held_of}
 use Rattle.ksm_pages.proofs.Names.{held_under, IfSome, inl, InPageOrder, inr, is_of, is_restless, is_some, IsAddedTo, IsInVain, IsMoved, IsRows, IsUnder, key_in, length}
 use Rattle.ksm_pages.proofs.Names.{length-map, List, Listing, marked, Named, named_of, nat_tests, None, option_map, pages_ordered, PageState, Private, refl, row_at, rows_of}
 use Rattle.ksm_pages.proofs.Names.{RowsView, rules, same_page_refl, same_Some, shared_state, Slab, Some, state_of, sym, Tally, true, true≢false, Updates-with_value, Waiting, with_held}
@@ -66,6 +66,11 @@ module _ (s : Inside) (are : AreRows s) where
     pub own_there : {v : RowsView} → view_of s ≡ v → IfSome (held_at page v.held) (λ h. shared_state h.row.state ≡ false)
         → e.kind ≡ kinds.Own
     own_there seen_as alone = grind (arith, row_there)
+
+    -- the row of an entry is Private where that of its page is
+    pub private_there : {v : RowsView} → view_of s ≡ v → IfSome (held_at page v.held) (λ h. private_state h.row.state ≡ true)
+        → private_state (state_of s.pass e) ≡ true
+    private_there seen_as private = grind (arith, row_there)
 
     -- the unstable tree leads to the entry of a page where it leads to the page's row
     pub led_there : {v : RowsView} → view_of s ≡ v → IfSome (held_at page v.held) (λ h. is_in h.in_tree ≡ true)

@@ -13,8 +13,8 @@ use crate::row::{Kind, Spot};
 use ksm_base::{Fault, GuestPage, PageBytes};
 
 impl Pages {
-    /// Adds a page that has no row, at home on a node; which frame is its own is told next, by `resettle`. Refused for
-    /// memory alone, it changes nothing.
+    /// Adds a page that has no row, at home on a node; which frame is its own is told next, by `lay`. Refused for memory
+    /// alone, it changes nothing.
     pub fn insert(&mut self, page: GuestPage, node: u32, bytes: &PageBytes) -> Result<Spot, Fault>
         requires { row_at page self.old.rows ≡ None }
         ensures spot { IfOk result (λ spot. spot.page ≡ page) }
@@ -49,6 +49,18 @@ impl Pages {
             entry.number = 0;
         });
         left
+    }
+
+    /// A Private page lies on this frame of its own.
+    #[inline(always)]
+    pub fn lay(&mut self, spot: Spot, frame: u32)
+        requires { HasRow spot.page self.old.rows (λ r. private_state r.state ≡ true) }
+        ensures { seen self.new ≡ record (seen self.old) {
+          rows = change_row spot.page on_its_own self.old.rows;
+          frame = lies_on spot.page (Some frame) (seen self.old).frame;
+        } }
+    {
+        self.rows.lay(spot, frame);
     }
 
     /// The page goes, and leaves its dup if it was merged. Gives the frame where it lay, if it had one.

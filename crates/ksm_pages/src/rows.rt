@@ -11,13 +11,13 @@ ghost use Rattle.std.specs.Prelude.{length, map, not, option_map, slice_get};
 ghost use Rattle.std.specs.Fn.{FnOnceReturnsAtMut};
 ghost use Rattle.ksm_base.specs.declared.limits.TheConstants.{MOST_FRAMES};
 ghost use Rattle.ksm_base.specs.declared.page.GuestPage.{GuestPage};
-ghost use Rattle.ksm_base.specs.declared.row.PageState.TheVariants.{Merged, Waiting, Zero};
+ghost use Rattle.ksm_base.specs.declared.row.PageState.TheVariants.{Merged, Private, Waiting, Zero};
 ghost use Rattle.ksm_base.specs.Apply.{fresh_row, let_go as as_let_go};
-ghost use Rattle.ksm_base.specs.Rows.{InPageOrder, settled, shared_state, waiting_state};
+ghost use Rattle.ksm_base.specs.Rows.{InPageOrder, settled, shared_state, waiting_state, private_state};
 ghost use Rattle.ksm_base.specs.Visit.{after_cursor};
 ghost use Rattle.ksm_pages.specs.Ahead.{EndsAt, FindsNext, last_of, mergeable_pages, pages_behind, pages_between};
 ghost use Rattle.ksm_pages.specs.Filed.{AreFiled, AreListed, IsMade, IsTally, IsUnder, KeepsPage, key_in};
-ghost use Rattle.ksm_pages.specs.Held.{AreInTree, IsFree, change_held, held_at, held_of, is_in, on_row, out_of_tree};
+ghost use Rattle.ksm_pages.specs.Held.{AreInTree, IsFree, change_held, held_at, held_of, is_in, on_row, out_of_tree, mapped};
 ghost use Rattle.ksm_pages.specs.Held.{in_tree_by, page_in_tree, rows_of, shares, waiting_in, with_held, without_held, written};
 ghost use Rattle.ksm_pages.specs.Ordered.{AreAscending};
 ghost use Rattle.ksm_pages.specs.Unstable.{AreLed, IsFreeAt, LeadsAt};
@@ -407,6 +407,18 @@ impl Rows {
             self.restless.add(spot, rows);
         }
         was_restless
+    }
+
+    /// A Private row has this frame of its own.
+    #[inline(always)]
+    pub fn lay(&mut self, spot: Spot, frame: u32)
+        requires { IfSome (held_at spot.page self.old.held) (λ h. private_state h.row.state ≡ true) }
+        ensures { self.new ≡ record self.old { held = change_held spot.page (mapped Private (Some frame)) self.old.held } }
+    {
+        let Some(key) = key_of(&self.entries, &self.order, spot) else {
+            return;
+        };
+        self.entries[key].at = frame;
     }
 
     /// The row has these bytes, and waits no more. Where its bytes were others, it is not unchanged.

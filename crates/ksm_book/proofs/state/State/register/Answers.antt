@@ -1,6 +1,6 @@
 use Rattle.std.proofs.Common.{arith}
 use Rattle.ksm_book.proofs.Names.{Done, Err, NoFrame, Ok, refl, Register, seen}
-use Rattle.ksm_book.proofs.Singles.{carried_so, Carries, come_known, HasCome, register_come, register_turned, lawful}
+use Rattle.ksm_book.proofs.Singles.{carried_so, Carries, come_known, come_private, HasCome, register_come, register_turned, lawful}
 use Rattle.ksm_book.proofs.state.State.register.Goals as goal
 use Rattle.ksm_book.proofs.state.State.register.Goals.{In_ok-spot}
 
@@ -23,14 +23,14 @@ returns-in_default c = carried_so c.self.view_is refl (turned c).0
 pub invariant_of-self-in_default : goal.invariant_of-self-in_default
 invariant_of-self-in_default c = lawful c.self.invariant.0 (turned c)
 
-pub resettle-requires : goal.resettle-requires
-resettle-requires c = rw c.in_ok-spot.ensures.spot (come_known (new ((goal.at.resettle-requires c).In_ok-spot)))
+pub lay-requires : goal.lay-requires
+lay-requires c = rw c.in_ok-spot.ensures.spot (come_private (new ((goal.at.lay-requires c).In_ok-spot)))
 
-come : (c : goal.After-resettle) → Carries (seen c.self.inside.pages) c.self.inside.keeper (seen c.resettle.new.self)
+come : (c : goal.After-lay) → Carries (seen c.self.inside.pages) c.self.inside.keeper (seen c.lay.new.self)
     c.take_frame.new.keeper c.self.inside.cursor c.self.inside.passes (Register c.args.page c.args.node c.args.bytes.now) (Ok Done)
 come c =
     register_come {m = seen c.insert.new.self} (grind arith) c.self.invariant.1
-    (rw (← c.in_ok-spot.ensures.spot) c.resettle.ensures.settled) c.in-Some.ensures.provides c.in-Some.ensures.took
+    (rw (← c.in_ok-spot.ensures.spot) c.lay.ensures) c.in-Some.ensures.provides c.in-Some.ensures.took
 
 pub returns : goal.returns
 returns c = carried_so c.self.view_is refl (come c).0
