@@ -42,7 +42,7 @@ pub use Rattle.ksm_rmap.specs.Keys.{key_of, page_of}
 pub use Rattle.ksm_tree.proofs.Bridge.{best_found, choice_alike, choice_exists, live_count, live_placed, stale_alike}
 pub use Rattle.ksm_tree.proofs.Chained.{found_passing}
 pub use Rattle.ksm_tree.proofs.Changes.{all_rows, row_found, rows_items, rows_new, rows_out, rows_without}
-pub use Rattle.ksm_tree.proofs.Tied.{at_mapped, tied_counted}
+pub use Rattle.ksm_tree.proofs.Tied.{tied_counted}
 pub use Rattle.ksm_tree.proofs.Ties.{number_found, tied_absent, tied_count, tied_dropped, tied_inserted, tied_joined, tied_left, tied_made, tied_mapped, tied_pruned}
 pub use Rattle.ksm_tree.specs.Bridge.{AreTied, let_out}
 pub use Rattle.ksm_tree.specs.Chains.{in_group}

@@ -1,28 +1,26 @@
 -- The dups in their groups: what is found there, and how that stays right with a change of items, with a dup that goes, and with a new one.
-use Rattle.ksm_tree.proofs.Names.{All, All-cons, All-filter, ap, AreChained, AreTotals, arith, Bool, chain_in, change_at, change_items, content_of, Dup, dup_at, dup_of, DupRow, dups_seen, DupsState, false}
-use Rattle.ksm_tree.proofs.Names.{filter, filter_all, find, find_none, find_nothing, get, Group, group_places, Groups, GuestPage, has_number, if◌then◌else◌, in_group, InPlaceOrder, is_some}
-use Rattle.ksm_tree.proofs.Names.{IsCountedAnew, IsMoved, items_in, length, List, MOST_FRAMES, nat_lt, None, not, number_of, Option, option_map, pairs_head, pairs_tail, refl, rows_of, rules, SameChains}
-use Rattle.ksm_tree.proofs.Names.{SameNumbers, SlotsState, Some, stands_at, subst, Tells, true, with_dup, with_new, with_place, without, without_place, ℕ, [], ◌&&◌, ◌+◌, ◌<◌, ◌==◌, ◌∙◌, ◌∷◌, ◌≡◌, ◌≤◌}
+use Rattle.ksm_tree.proofs.Names.{absent_kept, numbers_ordered, sym, suc, place_of, All, All-filter, ap, AreChained, AreTotals, arith, Bool, chain_in, change_at, change_items, content_of, Dup, dup_at, dup_of, DupRow, dups_seen, DupsState, false}
+use Rattle.ksm_tree.proofs.Names.{filter, find, find_none, find_nothing, get, Group, group_places, Groups, GuestPage, has_number, if◌then◌else◌, in_group, InPlaceOrder}
+use Rattle.ksm_tree.proofs.Names.{IsCountedAnew, IsMoved, length, List, MOST_FRAMES, nat_lt, None, not, number_in, Option, pairs_head, pairs_tail, refl, rows_of, rules, SameChains}
+use Rattle.ksm_tree.proofs.Names.{SlotsState, Some, stands_at, subst, Tells, with_dup, with_new, with_place, without, without_place, ℕ, [], ◌&&◌, ◌+◌, ◌<◌, ◌==◌, ◌∙◌, ◌∷◌, ◌≡◌, ◌≤◌}
 use Rattle.ksm_tree.proofs.Alike.{chosen, find_alike, map_alike}
 use Rattle.ksm_tree.proofs.OneSlot.{found_stands}
-use Rattle.ksm_tree.proofs.Grouped.{IsMore, more_there, more_with, totals_less, totals_more, totals_tell}
-use Rattle.ksm_tree.proofs.Rows.{alone, group_joined, group_passed, group_unlike, own_group, self_group}
+use Rattle.ksm_tree.proofs.Grouped.{IsMore, more_there, more_with, places_size, totals_less, totals_more, totals_tell}
+use Rattle.ksm_tree.proofs.Rows.{group_joined, group_passed, own_group, self_group}
+use Rattle.ksm_base.proofs.Edits.{none_counted}
 use Rattle.ksm_base.proofs.Orders.{all_with_dup, dups_with, Lower, ordered_filter}
-use Rattle.ksm_tree.proofs.Changes.{all_rows, one_dup, row_found, rows_new, rows_same, rows_without}
+use Rattle.ksm_tree.proofs.Changes.{all_rows, alone, one_dup, row_found, rows_new, rows_same, rows_without}
 
--- where the place of a number is told, a search by the number finds the dup at that place
-placed_found : (q : ℕ) {p : ℕ} (dups : List Dup) → InPlaceOrder (rows_of dups) → Some p ≡ option_map (λ d. d.row.place) (dup_of q dups) → dup_of q dups ≡ dup_at p dups
-placed_found q dups rise is = grind (arith, find_alike, one_dup)
-
--- the row found at a place is the row of the dup found there
-pub row_at_place : (p : ℕ) (dups : List Dup) {d : Option Dup} → dup_at p dups ≡ d → find (λ r. r.place == p) (rows_of dups) ≡ option_map (λ e. e.row) d
-row_at_place p dups is = grind (arith, row_found)
+-- where no dup of a group stands at the place, the places of the group stay without that place
+group_unlike : (p t : ℕ) (b : List ℕ) (dups : List Dup) → All (λ d. (stands_at p d && in_group t b d.row) ≡ false) dups → without p (group_places t b (rows_of dups)) ≡ group_places t b (rows_of dups)
+group_unlike p t b [] none = refl
+group_unlike p t b (d ∷ dups) none =
+    grind (arith, none 0 d (omega arith), group_unlike p t b dups (λ k e lt. none (suc k) e (omega arith)))
 
 -- where a dup of another group stands, the places of a group stay without that place
 not_in_group : (p t : ℕ) (b : List ℕ) (dups : List Dup) {d : Dup} → InPlaceOrder (rows_of dups) → dup_at p dups ≡ Some d → in_group t b d.row ≡ false → without p (group_places t b (rows_of dups)) ≡ group_places t b (rows_of dups)
-not_in_group p t b dups rise found outside =
-    let one = alone (λ r. r.place == p) _ _ rise (row_at_place p _ found) in
-    group_unlike p t b _ (λ k e lt. grind (arith, found_stands dups found, one k e lt))
+not_in_group p t b dups rise found outside = group_unlike p t b dups
+    (λ k e lt. grind (arith, found_stands dups found, alone (stands_at p) dups _ rise found k e lt))
 
 -- slots with other dups
 abbrev pub with_dups : SlotsState → List Dup → Bool → SlotsState
@@ -62,12 +60,11 @@ module _ {s : SlotsState} {next : ℕ} {groups : Groups} (h : AreChained s next 
       let law = h.lawful in
       let test = λ (r : DupRow). not (r.place == p) in
       let at = found_stands s.dups found in
-      let at_p = row_at_place p s.dups found in
       let rise = ordered_filter test rows law.in_place_order in
       let grouped : (t : ℕ) (b : List ℕ) → chain_in t b new ≡ group_places t b (filter test rows) = λ t b.
       let kept = chosen (λ (r : DupRow). r.place) (in_group t b) (λ q. not (q == p)) rows in
       grind (arith, kept, not_in_group p t b s.dups law.in_place_order found, own_group t b d.row) in
-      let more = more_there p rows d.row law.in_place_order at_p in
+      let more = more_there p rows d.row law.in_place_order (grind (arith, row_found (stands_at p) (λ r. r.place == p) (λ d. refl) s.dups)) in
       by_rows (filter test rows) (rows_without p s.dups) h.few rise
       (All-filter test (λ r. r.place < s.places) rows law.places_below)
       (All-filter test (λ r. r.number < next) rows law.numbers_below)
@@ -75,28 +72,23 @@ module _ {s : SlotsState} {next : ℕ} {groups : Groups} (h : AreChained s next 
       grouped
 
 -- where callers are told the place of a number
-module _ (q : ℕ) {p : ℕ} {s : SlotsState} {next : ℕ} {groups : Groups} {seen : DupsState} (h : AreChained s next groups) (view : dups_seen s next groups ≡ seen) (is : Some p ≡ option_map (λ d. d.row.place) (dup_of q seen.dups)) where
-  is_inside : Some p ≡ option_map (λ d. d.row.place) (dup_of q s.dups)
-  is_inside = grind arith
+module _ (q : ℕ) {p : ℕ} {s : SlotsState} {next : ℕ} {groups : Groups} {seen : DupsState} (h : AreChained s next groups) (view : dups_seen s next groups ≡ seen) (is : Some p ≡ place_of (dup_of q seen.dups)) where
+  each_same : All (λ d. has_number q d ≡ stands_at p d) s.dups
+  each_same = one_dup q s.dups h.lawful.in_place_order (grind arith)
 
-  -- a dup stands at that place
-  pub told_there : is_some (dup_at p s.dups) ≡ true
-  told_there = grind (arith, placed_found, is_inside)
-
-  -- the items at that place are those of the number
-  pub told_items : items_in (dup_at p s.dups) ≡ items_in (dup_of q seen.dups)
-  told_items = grind (arith, placed_found q s.dups h.lawful.in_place_order is_inside)
+  -- the dup at that place is the one of the number
+  pub told_dup : dup_at p s.dups ≡ dup_of q seen.dups
+  told_dup = grind (arith, find_alike (has_number q) (stands_at p) s.dups each_same)
 
   -- a change of the items at that place is seen as a change of the number's items
   pub told_changed : (f : List GuestPage → List GuestPage) (ready : Bool) → dups_seen (with_dups s (change_at p f s.dups) ready) next groups ≡ record seen { dups = change_items q f seen.dups }
   told_changed f ready =
-      let one = one_dup q s.dups h.lawful.in_place_order is_inside in
       rw (← view) (ap (λ dups. dups_seen (with_dups s dups ready) next groups)
-      (map_alike _ _ s.dups (λ k d lt. grind (arith, one k d lt))))
+      (map_alike _ _ s.dups (λ k d lt. grind (arith, each_same k d lt))))
 
 -- the group under the number of a tree and bytes is of these, and has the places of their dups
 module _ {s : SlotsState} {next : ℕ} {groups : Groups} (h : AreChained s next groups) (tree : ℕ) (bytes : List ℕ) where
-  module _ {number : ℕ} {g : Group} (is : number_of tree bytes groups.numbers.entries ≡ Some number) (at : Some g ≡ get groups.groups number) where
+  module _ {number : ℕ} {g : Group} (is : number_in tree bytes groups ≡ Some number) (at : Some g ≡ get groups.groups number) where
     -- the group under the number of a tree and bytes lists the places of the dups of that tree and bytes
     pub group_here : g.places.list.items ≡ group_places tree bytes (rows_of s.dups)
     group_here = grind (arith)
@@ -105,32 +97,21 @@ module _ {s : SlotsState} {next : ℕ} {groups : Groups} (h : AreChained s next 
     pub content_here : g.content ≡ content_of tree bytes
     content_here = grind (arith, groups.lawful (content_of tree bytes) number)
 
--- where a tree and bytes have no place, no dup is of these
-none_of_them : (t : ℕ) (b : List ℕ) (dups : List Dup) → group_places t b (rows_of dups) ≡ [] → All (λ d. in_group t b d.row ≡ false) dups
-none_of_them t b [] none = λ k d lt. absurd (omega arith)
-none_of_them t b (d ∷ dups) none =
-    All-cons (λ d. in_group t b d.row ≡ false) d dups (grind arith) (none_of_them t b dups (grind arith))
-
 -- where a tree and bytes have no number, no dup is of these
-pub ungrouped : {s : SlotsState} {next : ℕ} {groups : Groups} → AreChained s next groups → (t : ℕ) (b : List ℕ) → number_of t b groups.numbers.entries ≡ None → All (λ d. in_group t b d.row ≡ false) s.dups
-ungrouped {s} h t b none = none_of_them t b s.dups (grind (arith, h.grouped t b))
+pub ungrouped : {s : SlotsState} {next : ℕ} {groups : Groups} → AreChained s next groups → (t : ℕ) (b : List ℕ) → number_in t b groups ≡ None → All (λ d. in_group t b d.row ≡ false) s.dups
+ungrouped {s} h t b none = all_rows (λ r. in_group t b r ≡ false) s.dups
+    (none_counted (in_group t b) (rows_of s.dups) (grind (arith, h.grouped t b, places_size t b (rows_of s.dups))))
 
 -- once the dup of a place has gone, none stands there
 pub none_left : (p : ℕ) (dups : List Dup) → dup_at p (without_place p dups) ≡ None
 none_left p [] = refl
 none_left p (d ∷ dups) = grind (arith, none_left p dups)
 
--- where no dup stands, none goes
-pub none_gone : (p : ℕ) (dups : List Dup) → dup_at p dups ≡ None → without_place p dups ≡ dups
-none_gone p dups none = filter_all _ dups (λ k d lt. ap not (find_none (stands_at p) dups none k d lt))
-
 -- the dup found at a place is the one that has its number
-pub stands_numbered : (p q : ℕ) (dups : List Dup) (d : Dup) → InPlaceOrder (rows_of dups) → dup_at p dups ≡ Some d → d.row.number ≡ q → Some p ≡ option_map (λ d. d.row.place) (dup_of q dups)
+pub stands_numbered : (p q : ℕ) (dups : List Dup) (d : Dup) → InPlaceOrder (rows_of dups) → dup_at p dups ≡ Some d → d.row.number ≡ q → Some p ≡ place_of (dup_of q dups)
 stands_numbered p q dups d rise found is =
-    let only = alone (λ r. r.place == p) _ _ rise (row_at_place p _ found) in
-    let one = all_rows (λ r. (r.place == p) ≡ (r.number == q)) dups
-    (λ k e lt. grind (arith, found_stands dups found, only k e lt)) in
-    grind (arith, found_stands dups found, find_alike (stands_at p) (has_number q) dups one)
+    let one = λ (k : ℕ) (e : Dup) (lt : k < length dups). alone (stands_at p) dups d rise found k e lt in
+    grind (arith, found_stands dups found, find_alike (stands_at p) (has_number q) dups (λ k e lt. grind (arith, found_stands dups found, one k e lt)))
 
 -- the dup found at a place, if it passes a test
 abbrev pub passing : (Dup → Bool) → Option Dup → Option Dup
@@ -155,11 +136,10 @@ fresh_chained {s} {next} {groups} {new} dup ready h number within none joined co
     let all = with_dup r rows in
     let rise = h.lawful.in_place_order in
     let new_rise : InPlaceOrder all = dups_with _ _ rise (λ k d lt. grind (arith, h.lawful.numbers_below k d lt)) in
-    let apart = find_none (λ (e : DupRow). e.place == r.place) rows (row_at_place r.place s.dups none) in
-    let kept : filter (λ e. not (e.place == r.place)) rows ≡ rows = filter_all _ rows (λ k d lt. ap not (apart k d lt)) in
+    let kept = sym (absent_kept numbers_ordered (λ (e : DupRow). e.place) r.place rows (grind (arith, row_found (stands_at r.place) (λ e. e.place == r.place) (λ d. refl) s.dups))) in
     let more = subst (λ l. IsMore r l all) kept (more_with r.place rows r rise) in
     let grouped : (t : ℕ) (b : List ℕ) → chain_in t b new ≡ group_places t b all = λ t b.
-    let unlike = group_unlike r.place t b rows (λ k d lt. grind (arith, apart k d lt)) in
+    let unlike = group_unlike r.place t b s.dups (λ k d lt. grind (arith, find_none (stands_at r.place) s.dups none k d lt)) in
     grind (arith, own_group t b r, group_joined t b r rows, group_passed t b r rows rise) in
     by_rows all (rows_new dup s.dups) h.few new_rise
     (all_with_dup (λ e. e.place < s.places) _ _ within h.lawful.places_below)
@@ -177,8 +157,3 @@ new_again dup dups = grind (arith, lower dups, higher dups)
     higher : (ds : List Dup) → filter (λ d. nat_lt dup.row.place d.row.place) (without_place dup.row.place ds) ≡ filter (λ d. nat_lt dup.row.place d.row.place) ds
     higher [] = refl
     higher (d ∷ ds) = grind (arith, higher ds)
-
--- once a dup is made, callers see that dup among the others, and the next number one higher
-pub seen_made : (s : SlotsState) (next : ℕ) (groups new : Groups) (dup : ℕ → Dup) (ready : Bool) {old : DupsState} → dups_seen s next groups ≡ old → SameNumbers groups new
-    → dups_seen (with_dups s (with_new (dup next) s.dups) ready) (next + 1) new ≡ record old { dups = with_new (dup old.next) old.dups; next = old.next + 1 }
-seen_made s next groups new dup ready view same = grind arith

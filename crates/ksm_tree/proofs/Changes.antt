@@ -1,9 +1,9 @@
 -- Dups and their rows: what a dup that comes or goes and a change of items changes of the rows, and where a dup is found.
-use Rattle.ksm_tree.proofs.Names.{All, ap, arith, Bool, change_items, Dup, dup_of, DupRow, filter, find, find_passes, get_or-map, GuestPage, has_number, if◌then◌else◌, InPlaceOrder}
-use Rattle.ksm_tree.proofs.Names.{length-map, let_out, List, map, map-append, Merged, None, not, Option, option_map, PageState, refl, rows_of, Some, stands_at, subst, sym, with_dup}
-use Rattle.ksm_tree.proofs.Names.{with_new, without_place, ℕ, [], ◌==◌, ◌∙◌, ◌∷◌, ◌≡◌}
+use Rattle.ksm_tree.proofs.Names.{All, arith, Bool, change_items, Dup, dup_of, DupRow, filter, find, find_passes, get_or-map, GuestPage, has_number, if◌then◌else◌, InPlaceOrder}
+use Rattle.ksm_tree.proofs.Names.{find_all, get_or, length-map, let_out, Lower, nat_tests, true, ◌||◌, place_of, List, map, map-append, Merged, None, not, Option, option_map, PageState, refl, rows_of, Some, stands_at, subst, with_dup}
+use Rattle.ksm_tree.proofs.Names.{with_new, without_place, ℕ, [], ◌==◌, ◌∷◌, ◌≡◌}
 use Rattle.ksm_tree.proofs.Alike.{filter_mapped, find_mapped}
-use Rattle.ksm_tree.proofs.Rows.{alone}
+use Rattle.ksm_base.proofs.Orders.{one_of_each}
 
 -- the row of a new dup is added to the rows
 pub rows_new : (dup : Dup) (dups : List Dup) → rows_of (with_new dup dups) ≡ with_dup dup.row (rows_of dups)
@@ -36,13 +36,22 @@ pub all_rows : (P : DupRow → Type 0) (dups : List Dup) → All P (rows_of dups
 all_rows P dups each k d lt =
     subst P (get_or-map (λ (d : Dup). d.row) dups k d) (each k d.row (rw (length-map dups (λ d. d.row)) lt))
 
+-- a row with the place or the number of another is that one
+abbrev IsOne : DupRow → DupRow → Type 0
+IsOne e r = (r.place == e.place || r.number == e.number) ≡ true → r ≡ e
+
+-- a dup that is found is the only one of its place, and the only one of its number
+pub alone : (test : Dup → Bool) (dups : List Dup) (e : Dup) → InPlaceOrder (rows_of dups) → find test dups ≡ Some e → All (λ d. IsOne e.row d.row) dups
+alone test dups e rise found =
+    let each = one_of_each Lower (λ r s. r.place == s.place || r.number == s.number) (rows_of dups)
+    (λ r s h. grind (arith, nat_tests)) (λ r s h. grind (arith, nat_tests)) rise in
+    find_all test (λ e. All (λ d. IsOne e.row d.row) dups) dups e found
+    (all_rows (λ r. All (λ d. IsOne r d.row) dups) dups (λ k r lt. all_rows (IsOne (get_or (rows_of dups) k r)) dups (each k r lt)))
+
 -- number and place tell one dup
-pub one_dup : (q : ℕ) {p : ℕ} (dups : List Dup) → InPlaceOrder (rows_of dups) → Some p ≡ option_map (λ d. d.row.place) (dup_of q dups) → All (λ d. has_number q d ≡ stands_at p d) dups
+pub one_dup : (q : ℕ) {p : ℕ} (dups : List Dup) → InPlaceOrder (rows_of dups) → Some p ≡ place_of (dup_of q dups) → All (λ d. has_number q d ≡ stands_at p d) dups
 one_dup q {p} dups rise is = by (dup_of q dups) refl
   where
     by : (o : Option Dup) → dup_of q dups ≡ o → All (λ d. has_number q d ≡ stands_at p d) dups
     by None none = grind arith
-    by (Some e) found =
-        let row = sym (row_found (has_number q) (λ r. r.number == q) (λ d. refl) dups) ∙ ap (option_map (λ d. d.row)) found in
-        all_rows (λ r. (r.number == q) ≡ (r.place == p)) _
-        (λ k d lt. grind (arith, find_passes, alone (λ r. r.number == q) _ e.row rise row k d lt))
+    by (Some e) found = λ k d lt. grind (arith, find_passes, alone (has_number q) dups e rise found k d lt)

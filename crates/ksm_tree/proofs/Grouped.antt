@@ -51,7 +51,7 @@ module _ (t : ℕ) (b : List ℕ) where
   size rows = count_by of_it rows
 
   -- a group has as many places as dups
-  places_size : (rows : List DupRow) → length (group_places t b rows) ≡ size rows
+  pub places_size : (rows : List DupRow) → length (group_places t b rows) ≡ size rows
   places_size rows = length-map (filter of_it rows) _ ∙ length-filter _ rows
 
   -- how many dups of other groups pass a test
@@ -101,7 +101,7 @@ module _ (t : ℕ) (b : List ℕ) where
 
     -- one row more in the group changes nothing of how many dups of other groups are in chains or lead them
     apart_kept : (apart (in_chain more) more ≡ apart (in_chain less) less) × (apart (leads more) more ≡ apart (leads less) less)
-    apart_kept = (grind (arith, count_alike, same_size), grind (arith, count_alike, same_size))
+    apart_kept = grind (arith, count_alike, same_size)
 
     -- the totals of rows change as the group does that has one row more
     regrouped : IsRegrouped (length (group_places t b less)) (length (group_places t b more)) (totals_of less) (totals_of more)

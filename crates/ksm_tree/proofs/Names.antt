@@ -25,10 +25,10 @@ pub use Rattle.ksm_tree.specs.Chains.{AreChained, dups_seen, group_places, in_gr
 pub use Rattle.ksm_tree.specs.Choosing.{ArePlacesToJoin, best_of, candidate_of, choice_of, empty_place, found_at, is_best, is_no_worse, may_join}
 pub use Rattle.ksm_tree.specs.CountedSets.{IsMarked, MayBeMarked}
 pub use Rattle.ksm_tree.specs.Counts.{is_open, places_where}
-pub use Rattle.ksm_tree.specs.Dups.{change_items, dup_at, dup_of, DupsState, has_number, is_live, is_stale, items_in, places_open, rows_of, stands_at, with_new, without_place}
+pub use Rattle.ksm_tree.specs.Dups.{change_items, dup_at, dup_of, DupsState, has_number, is_live, is_stale, items_in, place_of, places_open, rows_of, stands_at, with_new, without_place}
 pub use Rattle.ksm_tree.specs.Grouping.{AreGroups, content_in, has_place, places_in}
-pub use Rattle.ksm_tree.specs.Groups.{chain_in, is_used_in, IsCountedAnew, IsMoved, IsSwept, SameChains, SameNumbers, under}
-pub use Rattle.ksm_tree.specs.NumberSets.{AreSummed, has, HasNoBit, HasNone, IsLeast, IsLowestBit, IsSummed, Marks}
+pub use Rattle.ksm_tree.specs.Groups.{chain_in, is_used_in, number_in, IsCountedAnew, IsMoved, IsSwept, SameChains, SameNumbers, under}
+pub use Rattle.ksm_tree.specs.NumberSets.{AreSummed, FindsLeast, has, HasNoBit, HasNone, IsLeast, IsLowestBit, IsSummed, Marks}
 pub use Rattle.ksm_tree.specs.Numbered.{content_of, content_order, IsUnused, number_of, Numbers}
 pub use Rattle.ksm_tree.specs.Places.{with_place, without}
 pub use Rattle.ksm_tree.specs.Shelf.{change_items_of, change_slot, has_room, kept_at, ShelfState, slots_by}

@@ -1,13 +1,12 @@
 -- What the words of a set, and their summary, say of its numbers.
-use Rattle.ksm_tree.proofs.Names.{bit_at_ones, AreSummed, arith, bit_and, bit_at, bit_at_clear_other, bit_at_clear_same, bit_at_set_other, bit_at_set_same, bit_or, Bool, false, get_or}
+use Rattle.ksm_tree.proofs.Names.{FindsLeast, bit_at_ones, AreSummed, arith, bit_and, bit_at, bit_at_clear_other, bit_at_clear_same, bit_at_set_other, bit_at_set_same, bit_or, Bool, false, get_or}
 use Rattle.ksm_tree.proofs.Names.{get_or-replicate, get_or-set_other, get_or-set_same, get_or_past, has, HasNoBit, HasNone, IsLeast, IsLowestBit, IsSummed, length, length-set, List, Marks}
 use Rattle.ksm_tree.proofs.Names.{length-replicate, MatchOption, not, Option, replicate, set, shr-shr, true, w64, ℕ, ◌%◌, ◌*◌, ◌+◌, ◌-◌, ◌/◌, ◌<◌, ◌==◌, ◌^◌, ◌≡◌, ◌≢◌, ◌≤◌}
 
 module _ (words : List ℕ) where
   -- what the words behind one answer holds from a number of that word on, where the word has no bit from there on
   pub further : (from : ℕ) {w : ℕ} → w ≡ from / 64 → HasNoBit (get_or words w 0) (from % 64) → (found : Option ℕ)
-      → MatchOption found (HasNone words ((w + 1) * 64) (64 * length words)) (IsLeast words ((w + 1) * 64) (64 * length words))
-      → MatchOption found (HasNone words from (64 * length words)) (IsLeast words from (64 * length words))
+      → FindsLeast words ((w + 1) * 64) (64 * length words) found → FindsLeast words from (64 * length words) found
   further from at none found h = grind arith
 
   module _ {upper : List ℕ} (h : IsSummed words upper) where

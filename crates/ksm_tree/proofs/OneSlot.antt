@@ -1,8 +1,8 @@
 -- What a change of one slot does to the dups and to the places whose slots pass a test.
-use Rattle.ksm_tree.proofs.Names.{absent_kept, All, ap, ArePlaced, AreSlots, arith, Bool, change_at, change_items_of, change_slot, count_by-le-length, count_in, CountedSet, Dup, dup_at, empty_from}
+use Rattle.ksm_tree.proofs.Names.{place_of, absent_kept, All, ap, ArePlaced, AreSlots, arith, Bool, change_at, change_items_of, change_slot, count_by-le-length, count_in, CountedSet, Dup, dup_at, empty_from}
 use Rattle.ksm_tree.proofs.Names.{empty_place, eqb-true, false, filter_all, filter_none, find, find_nothing, find_passes, get_or, get_or-le-sum_by, get_or-set_other, get_or-set_same, get_or_past}
 use Rattle.ksm_tree.proofs.Names.{GuestPage, has_item, HasNone, holds, if◌then◌else◌, is_none, is_some, is_stale, IsLeast, IsMarked, IsSetOf, items_in, length, length-append, length-map}
-use Rattle.ksm_tree.proofs.Names.{length-set, List, map, map-set, MatchOption, MayBeMarked, MOST_FRAMES, None, none_found, Option, option_map, pages_ordered, present, refl, rows_of, set, set-get_or}
+use Rattle.ksm_tree.proofs.Names.{length-set, List, map, map-set, FindsLeast, MayBeMarked, MOST_FRAMES, None, none_found, Option, option_map, pages_ordered, present, refl, rows_of, set, set-get_or}
 use Rattle.ksm_tree.proofs.Names.{ShelfState, slots_seen, SlotsState, Some, stands_at, suc, sum_by-set, true, with_item, with_new, without_item, without_place, zero, ℕ, [], ◌+◌, ◌<◌, ◌==◌, ◌∙◌, ◌∷◌}
 use Rattle.ksm_tree.proofs.Names.{◌≡◌, ◌≤◌}
 use Rattle.ksm_tree.proofs.Alike.{change_none}
@@ -10,10 +10,6 @@ use Rattle.ksm_tree.proofs.Alike.{change_none}
 -- the set once a slot is put, and its place marked as the slot passes
 set_marked : {test : Option Dup → Bool} {slots : List (Option Dup)} {p : ℕ} (s : Option Dup) {old new : CountedSet} → p < length slots → IsMarked old new p (test s) → IsSetOf test slots old → IsSetOf test (set slots p s) new
 set_marked s within marked h = grind (arith, length-set, get_or-set_same, get_or-set_other, sum_by-set)
-
--- a place is marked as its slot passes
-pub set_same : {test : Option Dup → Bool} {slots : List (Option Dup)} {places : CountedSet} {p : ℕ} {b : Bool} → IsSetOf test slots places → p < length slots → b ≡ test (get_or slots p None) → IsMarked places places p b
-set_same h within same = grind arith
 
 -- the place of a slot may be marked
 pub may_be_marked : {test : Option Dup → Bool} {slots : List (Option Dup)} {places : CountedSet} {p : ℕ} → IsSetOf test slots places → length slots ≤ MOST_FRAMES → p < length slots → MayBeMarked places p
@@ -116,16 +112,12 @@ stands : (p : ℕ) (dups : List Dup) (f : List GuestPage → List GuestPage) (s 
 stands p dups f None is = tt
 stands p dups f (Some d) is = (found_stands dups is, tt)
 
--- what the least place of a set may be
-abbrev FoundLeast : CountedSet → Slots → Option ℕ → Type 0
-FoundLeast places slots found = MatchOption found (HasNone places.set 0 (length slots)) (IsLeast places.set 0 (length slots))
-
 module _ {slots : Slots} {counts : List ℕ} {empty stale : CountedSet} (h : AreSlots slots counts empty stale) where
   before : {test : Option Dup → Bool} {places : CountedSet} {p : ℕ} → IsSetOf test slots places → p ≤ length slots → HasNone places.set 0 p → NoneBefore test slots p
   before set within none j less = grind (arith, set.each j)
 
   -- the least place in the set of the empty ones is the least that no dup has
-  pub first_empty : (found : Option ℕ) → FoundLeast empty slots found → found ≡ empty_place (length slots) (rows_of (present slots))
+  pub first_empty : (found : Option ℕ) → FindsLeast empty.set 0 (length slots) found → found ≡ empty_place (length slots) (rows_of (present slots))
   first_empty None none =
       let first = empty_first 0 (length slots) slots h.placed (before h.empties (omega arith) none) (omega arith) in
       grind (arith, get_or_past, first)
@@ -134,7 +126,7 @@ module _ {slots : Slots} {counts : List ℕ} {empty stale : CountedSet} (h : Are
       grind (arith, least.there, empty_first 0 p slots h.placed none (omega (arith, least.high_is)))
 
   -- the least place in the set of the stale ones is that of the first stale dup
-  pub first_stale : (found : Option ℕ) → FoundLeast stale slots found → found ≡ option_map (λ d. d.row.place) (find is_stale (present slots))
+  pub first_stale : (found : Option ℕ) → FindsLeast stale.set 0 (length slots) found → found ≡ place_of (find is_stale (present slots))
   first_stale None none =
       let first = first_found is_stale (length slots) slots (before h.stales (omega arith) none) in
       grind (arith, get_or_past, first (λ less. absurd (omega arith)))
@@ -160,12 +152,12 @@ module _ {slots : Slots} {counts : List ℕ} {empty stale : CountedSet} (h : Are
   slots_changed p {n} f {stale'} some is marked =
       let within : p < length slots = grind (arith, get_or_past) in
       let at = stands p _ f _ (slot_found 0 p p slots (omega arith) h.placed) in
-      slots_set p _ within (grind arith) at (set_same h.empties within (grind arith)) (grind arith)
+      slots_set p _ within (grind arith) at (grind (arith, h.empties)) (grind arith)
 
   -- the slots are right once the items of one dup changed, which is stale if it was
   pub slots_kept : (p : ℕ) {n : ℕ} (f : List GuestPage → List GuestPage) → is_some (get_or slots p None) ≡ true → n ≡ length (f (items_in (get_or slots p None)))
       → (n == 0) ≡ holds is_stale (get_or slots p None) → AreSlots (change_slot p f slots) (set counts p n) empty stale
-  slots_kept p f some is same = slots_changed p f some is (set_same h.stales (grind (arith, get_or_past)) same)
+  slots_kept p f some is same = slots_changed p f some is (grind (arith, get_or_past, h.stales))
 
 -- items with one more are not none, and were not where they are not one
 pub grown : (page : GuestPage) (pages : List GuestPage) {n : ℕ} → n ≡ length (with_item page pages) → ((n == 0) ≡ false) × ((n ≡ 1 → ⊥) → (length pages == 0) ≡ false)
@@ -177,13 +169,9 @@ module _ (p : ℕ) (shelf : ShelfState) {s : SlotsState} (view : slots_seen shel
   pub seen_slot : dup_at p s.dups ≡ get_or shelf.slots p None
   seen_slot = grind (arith, slot_found)
 
-  -- the slot of a place where a dup is seen is not empty
-  pub slot_filled : is_some (dup_at p s.dups) ≡ true → is_some (get_or shelf.slots p None) ≡ true
-  slot_filled known = rw (← seen_slot) known
-
   -- a place where a dup is seen has a slot
   pub seen_within : is_some (dup_at p s.dups) ≡ true → p < length shelf.slots
-  seen_within known = grind (arith, get_or_past, slot_filled known)
+  seen_within known = grind (arith, get_or_past, seen_slot)
 
 -- a change of the items in a slot is seen as that change of the dup at its place
 pub view_changed : (p : ℕ) (old new : ShelfState) {s : SlotsState} (f : List GuestPage → List GuestPage) → slots_seen old ≡ s → ArePlaced 0 old.slots → new.slots ≡ change_slot p f old.slots → slots_seen new ≡ record s { dups = change_at p f s.dups; ready = new.ready }
@@ -204,4 +192,4 @@ pub slots_same : (p : ℕ) (page : GuestPage) (slots : Slots) → has_item page 
 slots_same p page slots absent = grind (arith, same_items, set-get_or)
 
 -- what the slots say of the dups that are seen
-pub ruleset steps = (first_empty, first_stale, length-map, length-set, may_be_marked, seen_slot, seen_within, slot_emptied, slot_filled, slot_put, view_changed)
+pub ruleset steps = (first_empty, first_stale, length-map, length-set, may_be_marked, seen_slot, seen_within, slot_emptied, slot_put, view_changed)

@@ -1,12 +1,12 @@
 -- What a change of one group makes of the chains, and which contents are in use.
 use Rattle.ksm_tree.proofs.Names.{is_at, ap, AreGroups, arith, BTreeMap, bytes_eq, bytes_eq-Decides, cases_Bool, chain_in, Content, content_in, content_of, content_order, false}
 use Rattle.ksm_tree.proofs.Names.{get, Group, Groups, has_place, if◌then◌else◌, inl, inr, is_some, is_used_in, IsSwept, IsUnused, length}
-use Rattle.ksm_tree.proofs.Names.{List, None, number_of, Numbers, Option, places_in, SameNumbers, Slab, Some, sym, true, under, Updates, Updates-with_value}
+use Rattle.ksm_tree.proofs.Names.{List, None, number_in, number_of, Numbers, Option, places_in, SameNumbers, Slab, Some, sym, true, under, Updates, Updates-with_value}
 use Rattle.ksm_tree.proofs.Names.{with_value, ℕ, [], ◌&&◌, ◌+◌, ◌==◌, ◌≡◌}
 use Rattle.slab.specs.Slab.{Updates as Fills}
 use Rattle.ksm_tree.proofs.Numbering.{same_content, told_equal}
 use Rattle.ksm_tree.proofs.Rows.{eq_bytes}
-use Rattle.ksm_tree.specs.Reserve.{KeepsReserve}
+use Rattle.ksm_tree.specs.Groups.{KeepReserve}
 use Rattle.ksm_tree.specs.declared.places.Places.{Places}
 use Rattle.std.specs.Prelude.{◌⊎◌}
 
@@ -15,7 +15,7 @@ abbrev chain_by : Numbers → Slab Group → ℕ → List ℕ → List ℕ
 chain_by numbers groups t b = under [] (λ n. places_in (get groups n)) (number_of t b numbers)
 
 -- under the number of a tree and bytes a group stands
-pub stands_under : (g : Groups) (t : ℕ) (b : List ℕ) {n : ℕ} → number_of t b g.numbers.entries ≡ Some n → None ≡ get g.groups n → ⊥
+pub stands_under : (g : Groups) (t : ℕ) (b : List ℕ) {n : ℕ} → number_in t b g ≡ Some n → None ≡ get g.groups n → ⊥
 stands_under g t b {n} is none = grind (arith, (g.lawful (content_of t b) n).0 is)
 
 -- a group that stands under a number has it
@@ -35,7 +35,7 @@ module _ (g : Groups) (number : ℕ) (was : Group) (places : Places) (stood : So
   rewritten k n = grind (arith, fills, g.lawful k n)
 
   -- the chain of the group's content is changed as its places are, and no other
-  pub rechained : (change : List ℕ → List ℕ) → places.list.items ≡ change was.places.list.items → (tree : ℕ) (bytes : List ℕ) → number_of tree bytes g.numbers.entries ≡ Some number
+  pub rechained : (change : List ℕ → List ℕ) → places.list.items ≡ change was.places.list.items → (tree : ℕ) (bytes : List ℕ) → number_in tree bytes g ≡ Some number
       → (t : ℕ) (b : List ℕ) → chain_by g.numbers.entries new t b ≡ (if t == tree && bytes_eq b bytes then change (chain_in t b g) else chain_in t b g)
   rechained change is tree bytes named t b =
       let here = (g.lawful (content_of tree bytes) number).0 named in
@@ -50,7 +50,7 @@ module _ (g : Groups) {later : Slab Group} (numbers : BTreeMap Content ℕ) (k :
     (updates : Updates content_order g.numbers numbers k named) (fills : Fills g.groups later number slot)
     (was : places_in (get g.groups number) ≡ []) (now : places_in slot ≡ []) where
   keeps : AreGroups numbers.entries later
-      → under [] (λ n. places_in (get later n)) named ≡ under [] (λ n. places_in (get g.groups n)) (number_of k.tree k.bytes g.numbers.entries) → Keeps g later numbers
+      → under [] (λ n. places_in (get later n)) named ≡ under [] (λ n. places_in (get g.groups n)) (number_in k.tree k.bytes g) → Keeps g later numbers
   keeps lawful here = record {
     lawful = lawful;
     chains = λ t b. elim (cases_Bool (is_at (content_order k) (content_of t b))) [
@@ -60,7 +60,7 @@ module _ (g : Groups) {later : Slab Group} (numbers : BTreeMap Content ℕ) (k :
   }
 
   -- a group without a dup came with a content that had no number
-  pub came : number_of k.tree k.bytes g.numbers.entries ≡ None → get g.groups number ≡ None → named ≡ Some number → content_in slot ≡ Some k → Keeps g later numbers
+  pub came : number_in k.tree k.bytes g ≡ None → get g.groups number ≡ None → named ≡ Some number → content_in slot ≡ Some k → Keeps g later numbers
   came none vacant name content =
       keeps (λ q n. grind (arith, same_content {p = k} {q = q}, updates.0 q, g.lawful q n, fills))
       (grind (arith, fills.changed))
@@ -73,7 +73,7 @@ module _ (g : Groups) {later : Slab Group} (numbers : BTreeMap Content ℕ) (k :
 
 -- where a dup stands in each group, each content with a number is in use
 pub all_used : (g : Groups) → ((n : ℕ) → is_some (get g.groups n) ≡ true → has_place (get g.groups n) ≡ true)
-    → (t : ℕ) (b : List ℕ) → is_some (number_of t b g.numbers.entries) ≡ true → is_used_in g t b ≡ true
+    → (t : ℕ) (b : List ℕ) → is_some (number_in t b g) ≡ true → is_used_in g t b ≡ true
 all_used g occupied t b has = grind (arith, g.lawful (content_of t b))
 
 -- a content that had no number gets one: there is one more, and no other content got one
@@ -89,9 +89,8 @@ one_more old new tree bytes key none was long updates = (
 )
 
 -- where the others lost their numbers, or nothing happened, and no content got one, the reserve is kept
-pub reserve_left : (old : Groups) {g : Groups} {tree : ℕ} {bytes : List ℕ} → (IsSwept g ⊎ SameNumbers old g)
-    → KeepsReserve (is_used_in g) tree bytes old.numbers.entries g.numbers.entries old.most g.most
-reserve_left old is = grind (arith)
+pub reserve_left : (old : Groups) {g : Groups} {tree : ℕ} {bytes : List ℕ} → (IsSwept g ⊎ SameNumbers old g) → KeepReserve tree bytes old g
+reserve_left old is = grind arith
 
 -- what a number and a content say of the groups
 pub ruleset steps = (not_unused, reserve_left, stands_under)

@@ -10,12 +10,6 @@ pub at_written : (row : Row) (q : GuestPage) (rows : List Row) → row_at q (cha
 at_written row q [] = grind arith
 at_written row q (r ∷ rs) = grind (arith, at_written row q rs)
 
--- a change that keeps each row's page finds at a page the changed row that was found there
-pub at_mapped : (f : Row → Row) (q : GuestPage) (rows : List Row) → All (λ r. (f r).page ≡ r.page) rows → row_at q (map f rows) ≡ option_map f (row_at q rows)
-at_mapped f q [] keeps = refl
-at_mapped f q (r ∷ rs) keeps =
-    grind (arith, keeps 0 r (omega arith), at_mapped f q rs (λ k d lt. keeps (suc k) d (omega arith)))
-
 abbrev pub page_of : Row → GuestPage
 page_of r = r.page
 

@@ -1,5 +1,5 @@
 -- Dups with their items, in the order of their places (mm/ksm: stable nodes, chains).
-use Rattle.std.specs.Prelude.{All, Bool, false, filter, find, if◌then◌else◌, length, List, map, nat_lt, None, not, Option, Some, ℕ, [], ◌&&◌, ◌++◌, ◌+◌, ◌<◌, ◌==◌, ◌^◌, ◌∷◌, ◌≡◌}
+use Rattle.std.specs.Prelude.{All, Bool, false, filter, find, if◌then◌else◌, length, List, map, nat_lt, None, not, Option, option_map, Some, ℕ, [], ◌&&◌, ◌++◌, ◌+◌, ◌<◌, ◌==◌, ◌^◌, ◌∷◌, ◌≡◌}
 use Rattle.ksm_base.specs.declared.page.GuestPage.{GuestPage}
 use Rattle.ksm_base.specs.declared.row.DupRow.{DupRow}
 use Rattle.ksm_base.specs.Rows.{InPlaceOrder, same_page}
@@ -43,6 +43,10 @@ dup_of number dups = find (has_number number) dups
 
 abbrev pub dup_at : ℕ → List Dup → Option Dup
 dup_at place dups = find (stands_at place) dups
+
+-- the place of a dup, if there is one
+abbrev pub place_of : Option Dup → Option ℕ
+place_of dup = option_map (λ d. d.row.place) dup
 
 abbrev pub items_in : Option Dup → List GuestPage
 items_in None = []

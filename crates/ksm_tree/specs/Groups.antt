@@ -7,6 +7,7 @@ use Rattle.ksm_tree.specs.declared.groups.Groups.{Groups}
 use Rattle.ksm_tree.specs.declared.groups.TheConstants.{MOST_SPARE}
 use Rattle.ksm_tree.specs.Grouping.{places_in}
 use Rattle.ksm_tree.specs.Numbered.{number_of}
+use Rattle.ksm_tree.specs.Reserve.{KeepsReserve}
 use Rattle.ksm_tree.specs.Totals.{IsRegrouped, Tells}
 
 -- what stands under a number, where there is one
@@ -14,10 +15,13 @@ abbrev pub under : {X : Type 0} → X → (ℕ → X) → Option ℕ → X
 under none at None = none
 under none at (Some number) = at number
 
+-- the number of a tree and bytes, if they have one
+abbrev pub number_in : ℕ → List ℕ → Groups → Option ℕ
+number_in tree bytes groups = number_of tree bytes groups.numbers.entries
+
 -- the places of the group of a tree and bytes
 abbrev pub chain_in : ℕ → List ℕ → Groups → List ℕ
-chain_in tree bytes groups =
-    under [] (λ number. places_in (get groups.groups number)) (number_of tree bytes groups.numbers.entries)
+chain_in tree bytes groups = under [] (λ number. places_in (get groups.groups number)) (number_in tree bytes groups)
 
 -- dups of the tree and bytes are there
 abbrev pub is_used_in : Groups → ℕ → List ℕ → Bool
@@ -25,7 +29,7 @@ is_used_in groups tree bytes = nat_lt 0 (length (chain_in tree bytes groups))
 
 -- every content that has a number is in use, and at most so many more may get one as the reserve has
 pub record IsSwept (groups : Groups) : Type 0 where
-  pub used : (tree : ℕ) (bytes : List ℕ) → is_some (number_of tree bytes groups.numbers.entries) ≡ true
+  pub used : (tree : ℕ) (bytes : List ℕ) → is_some (number_in tree bytes groups) ≡ true
       → is_used_in groups tree bytes ≡ true
   pub least : length groups.numbers.entries ≤ groups.most
   pub most : groups.most ≤ length groups.numbers.entries + MOST_SPARE
@@ -57,3 +61,8 @@ IsCounted tree bytes groups = Tells (length (chain_in tree bytes groups)) groups
 abbrev pub IsCountedAnew : ℕ → List ℕ → Groups → Groups → Type 0
 IsCountedAnew tree bytes old new =
     IsRegrouped (length (chain_in tree bytes old)) (length (chain_in tree bytes new)) old.totals new.totals
+
+-- a tree and bytes were asked for their number, and the reserve is kept
+abbrev pub KeepReserve : ℕ → List ℕ → Groups → Groups → Type 0
+KeepReserve tree bytes old new =
+    KeepsReserve (is_used_in new) tree bytes old.numbers.entries new.numbers.entries old.most new.most

@@ -4,6 +4,7 @@ pub mod Choosing
 pub mod CountedSets
 pub mod Counts
 pub mod Dups
+pub mod Faults
 pub mod Grouping
 pub mod Groups
 pub mod Guesses

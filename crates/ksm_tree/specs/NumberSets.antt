@@ -1,5 +1,5 @@
 -- Sets of numbers as words of bits. (own)
-use Rattle.std.specs.Prelude.{Bool, false, length, List, not, slice_index, true, ℕ, ◌%◌, ◌*◌, ◌/◌, ◌<◌, ◌==◌, ◌^◌, ◌≡◌, ◌≢◌, ◌≤◌}
+use Rattle.std.specs.Prelude.{Bool, false, length, List, MatchOption, not, Option, slice_index, true, ℕ, ◌%◌, ◌*◌, ◌/◌, ◌<◌, ◌==◌, ◌^◌, ◌≡◌, ◌≢◌, ◌≤◌}
 use Rattle.std.specs.Int.{bit_at}
 
 -- the bit of the number is set
@@ -16,6 +16,10 @@ pub record IsLeast (words : List ℕ) (low high n : ℕ) : Type 0 where
   pub high_is : n < high
   pub there : has words n ≡ true
   pub least : HasNone words low n
+
+-- the least of them is found, if there is one
+abbrev pub FindsLeast : List ℕ → ℕ → ℕ → Option ℕ → Type 0
+FindsLeast words low high found = MatchOption found (HasNone words low high) (IsLeast words low high)
 
 -- the number is in the set after it, or is not; the other numbers are as they were
 pub record Marks (old new : List ℕ) (number : ℕ) (marked : Bool) : Type 0 where

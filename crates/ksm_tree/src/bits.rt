@@ -1,7 +1,8 @@
 //! Sets of numbers of any height: words of bits, and above them the set of those words that are not 0. So the least
 //! number is found in a step for each height, wherever it is, and so is that there is none.
-ghost use Rattle.std.specs.Prelude.{◌≡◌, ◌≢◌, ℕ, ◌+◌, ◌*◌, ◌/◌, ◌^◌, ◌<◌, ◌≤◌, [], ◌∷◌, List, true, false, length, IfErr, IfOk, MatchOption};
-ghost use Rattle.ksm_tree.specs.NumberSets.{has, HasNoBit, HasNone, IsLeast, IsLowestBit, Marks};
+ghost use Rattle.std.specs.Prelude.{◌≡◌, ◌≢◌, ℕ, ◌+◌, ◌*◌, ◌/◌, ◌^◌, ◌<◌, ◌≤◌, [], ◌∷◌, List, true, false, length, IfOk, MatchOption};
+ghost use Rattle.ksm_tree.specs.Faults.{FailsForMemory};
+ghost use Rattle.ksm_tree.specs.NumberSets.{FindsLeast, has, HasNoBit, IsLowestBit, Marks};
 
 use ksm_base::Fault;
 use std::alloc::Global;
@@ -24,8 +25,7 @@ pub trait Bits: Drop {
     /// The least number from one on.
     fn first_from(&self, from: u32) -> Option<u32>
         requires { from < 64 * length (words self.now) }
-        ensures { let end = 64 * length (words self.now) in
-            MatchOption result (HasNone (words self.now) from end) (IsLeast (words self.now) from end) };
+        ensures { FindsLeast (words self.now) from (64 * length (words self.now)) result };
 }
 
 /// Numbers below 64, each by its bit.
@@ -100,7 +100,7 @@ impl<S: Bits, const MOST: usize> Words<S, MOST> {
         requires room { 1 < MOST → words < 64 * length (S.words summary) }
         requires none { (w : ℕ) → has (S.words summary) w ≡ false }
         ensures none { IfOk result (λ set. set ≡ replicate words 0) }
-        ensures memory { IfErr result (λ fault. fault ≡ Fault.Memory) }
+        ensures memory { FailsForMemory result }
     {
         Ok(Words {
             words: vec![in alloc; 0; words]?,
@@ -115,7 +115,7 @@ impl<S: Bits, const MOST: usize> Words<S, MOST> {
         requires room { words < 64 * length (S.words summary) }
         requires none { (w : ℕ) → has (S.words summary) w ≡ false }
         ensures all { IfOk result (λ set. set ≡ replicate words 18446744073709551615) }
-        ensures memory { IfErr result (λ fault. fault ≡ Fault.Memory) }
+        ensures memory { FailsForMemory result }
     {
         let mut all = summary;
         for at in 0..words {
@@ -150,8 +150,7 @@ impl<S: Bits, const MOST: usize> Words<S, MOST> {
     #[inline(always)]
     fn first_behind(&self, at: u32) -> Option<u32>
         requires { at < length self.now }
-        ensures { let end = 64 * length self.now in
-            MatchOption result (HasNone self.now ((at + 1) * 64) end) (IsLeast self.now ((at + 1) * 64) end) }
+        ensures { FindsLeast self.now ((at + 1) * 64) (64 * length self.now) result }
     {
         let _ = &self.words;
         if MOST <= 1 {

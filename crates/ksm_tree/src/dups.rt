@@ -10,14 +10,15 @@
 //! full. So while there is a long one in a small table, the open places of all contents are kept, and such a page walks
 //! along these if they are fewer.
 ghost use Rattle.std.specs.Prelude.{◌≡◌, ℕ, All, List, ◌+◌, ◌^◌, ◌<◌, ◌≤◌, [], ◌∷◌, ◌&&◌, true, false, None, Some, count_by, filter, find, length, is_some, option_copied, option_map, slice_get};
-ghost use Rattle.std.specs.Prelude.{if◌then◌else◌, IfErr, IfNone, IfOk, IsTrue, OnErr, OnOk};
+ghost use Rattle.std.specs.Prelude.{if◌then◌else◌, IfNone, IfOk, IsTrue, OnErr, OnOk};
+ghost use Rattle.ksm_tree.specs.Faults.{FailsForMemory};
 ghost use Rattle.ksm_base.specs.Counting.{in_chain, leads_group};
 ghost use Rattle.ksm_base.specs.Rows.{same_page};
 ghost use Rattle.ksm_base.specs.declared.limits.TheConstants.{MOST_FRAMES, MOST_REFERENCES};
 ghost use Rattle.ksm_rmap.specs.Items.{has_item, with_item, without_item};
 ghost use Rattle.ksm_tree.specs.Chains.{AreChained, group_places, in_group, is_in_use};
 ghost use Rattle.ksm_tree.specs.Choosing.{ArePlacesToJoin, best_of, candidate_of, choice_of, found_at};
-ghost use Rattle.ksm_tree.specs.Dups.{AreDups, MayBecomeDup, change_items, dup_at, dup_of, is_live, is_stale, items_in, items_of, rows_of, stands_at, with_new, without_place};
+ghost use Rattle.ksm_tree.specs.Dups.{AreDups, MayBecomeDup, change_items, dup_at, dup_of, is_live, is_stale, items_in, items_of, place_of, rows_of, stands_at, with_new, without_place};
 ghost use Rattle.ksm_tree.specs.Groups.{HasRoomAt, IsCounted, SameNumbers};
 ghost use Rattle.ksm_tree.specs.Numbered.{IsUnused, number_of};
 ghost use Rattle.ksm_tree.specs.Reserve.{KeepsReserve};
@@ -86,7 +87,7 @@ impl Dups {
           most = dups.most;
         }) }
         ensures room { IfOk result (λ dups. dups.most ≤ MOST_SPARE) }
-        ensures memory { IfErr result (λ fault. fault ≡ Fault.Memory) }
+        ensures memory { FailsForMemory result }
     {
         Ok(Dups {
             alloc,
@@ -127,7 +128,7 @@ impl Dups {
         ensures kept { self.new ≡ record self.old { numbers = self.new.numbers; most = self.new.most } }
         ensures reserve { KeepsReserve (is_in_use self.new) tree bytes.now self.old.numbers self.new.numbers
             self.old.most self.new.most }
-        ensures memory { IfErr result (λ fault. fault ≡ Fault.Memory) }
+        ensures memory { FailsForMemory result }
         ensures lawful { AreDups self.old }
     {
         self.groups.numbered(self.alloc, guess, tree, bytes)
@@ -243,7 +244,7 @@ impl Dups {
           most = self.new.most;
         }) }
         ensures kept { OnErr result (self.new ≡ record self.old { numbers = self.new.numbers; most = self.new.most }) }
-        ensures memory { IfErr result (λ fault. fault ≡ Fault.Memory) }
+        ensures memory { FailsForMemory result }
     {
         let group = self.group(NO_NUMBER, tree, bytes)?;
         self.found(group, place, tree, bytes, first, second)
@@ -270,7 +271,7 @@ impl Dups {
           next = self.old.next + 1;
         }) }
         ensures kept { OnErr result (self.new ≡ self.old) }
-        ensures memory { IfErr result (λ fault. fault ≡ Fault.Memory) }
+        ensures memory { FailsForMemory result }
         ensures lawful { AreDups self.old }
     {
         let number = self.next;
@@ -297,12 +298,12 @@ impl Dups {
         requires known { is_some (dup_of dup self.old.dups) ≡ true }
         requires fewer { length (items_of dup self.old.dups) < MOST_REFERENCES }
         requires absent { has_item page (items_of dup self.old.dups) ≡ false }
-        ensures place { IfOk result (λ place. Some place ≡ option_map (λ d. d.row.place) (dup_of dup self.old.dups)) }
+        ensures place { IfOk result (λ place. Some place ≡ place_of (dup_of dup self.old.dups)) }
         ensures joined { OnOk result (self.new ≡ record self.old {
           dups = change_items dup (with_item page) self.old.dups;
         }) }
         ensures kept { OnErr result (self.new ≡ self.old) }
-        ensures memory { IfErr result (λ fault. fault ≡ Fault.Memory) }
+        ensures memory { FailsForMemory result }
     {
         self.join_at(NO_PLACE, dup, page)
     }
@@ -313,12 +314,12 @@ impl Dups {
         requires known { is_some (dup_of dup self.old.dups) ≡ true }
         requires fewer { length (items_of dup self.old.dups) < MOST_REFERENCES }
         requires absent { has_item page (items_of dup self.old.dups) ≡ false }
-        ensures place { IfOk result (λ place. Some place ≡ option_map (λ d. d.row.place) (dup_of dup self.old.dups)) }
+        ensures place { IfOk result (λ place. Some place ≡ place_of (dup_of dup self.old.dups)) }
         ensures joined { OnOk result (self.new ≡ record self.old {
           dups = change_items dup (with_item page) self.old.dups;
         }) }
         ensures kept { OnErr result (self.new ≡ self.old) }
-        ensures memory { IfErr result (λ fault. fault ≡ Fault.Memory) }
+        ensures memory { FailsForMemory result }
     {
         let Some(place) = self.place_by(guess, dup) else {
             unreachable!()
@@ -330,7 +331,7 @@ impl Dups {
     /// A page is no item of a dup any more. Where there is no such dup or item, nothing changes. Gives the place of the
     /// dup.
     pub fn leave(&mut self, dup: u64, page: GuestPage) -> Option<u32>
-        ensures place { result ≡ option_map (λ d. d.row.place) (dup_of dup self.old.dups) }
+        ensures place { result ≡ place_of (dup_of dup self.old.dups) }
         ensures left { self.new ≡ record self.old { dups = change_items dup (without_item page) self.old.dups } }
     {
         self.leave_at(NO_PLACE, dup, page)
@@ -339,7 +340,7 @@ impl Dups {
     /// The same, where the place of the dup is guessed.
     #[inline(always)]
     pub fn leave_at(&mut self, guess: u32, dup: u64, page: GuestPage) -> Option<u32>
-        ensures place { result ≡ option_map (λ d. d.row.place) (dup_of dup self.old.dups) }
+        ensures place { result ≡ place_of (dup_of dup self.old.dups) }
         ensures left { self.new ≡ record self.old { dups = change_items dup (without_item page) self.old.dups } }
     {
         let place = self.place_by(guess, dup)?;
@@ -372,7 +373,7 @@ impl Dups {
 
     /// The place of a dup.
     pub fn place(&self, dup: u64) -> Option<u32>
-        ensures place { result ≡ option_map (λ d. d.row.place) (dup_of dup self.now.dups) }
+        ensures place { result ≡ place_of (dup_of dup self.now.dups) }
         ensures lawful { AreDups self.now }
     {
         self.slots.numbered(dup).map(|dup| dup.row.place)
@@ -382,7 +383,7 @@ impl Dups {
     #[tactic(auto, using(crate::proofs::Chained::stands_numbered))]
     #[inline(always)]
     pub fn place_by(&self, guess: u32, dup: u64) -> Option<u32>
-        ensures { result ≡ option_map (λ d. d.row.place) (dup_of dup self.now.dups) }
+        ensures { result ≡ place_of (dup_of dup self.now.dups) }
     {
         match self.slots.at(guess) {
             Some(found) if found.row.number == dup => Some(guess),
@@ -423,7 +424,7 @@ impl Dups {
 
     /// The least place of a stale dup.
     pub fn stale(&self) -> Option<u32>
-        ensures place { result ≡ option_map (λ d. d.row.place) (find is_stale self.now.dups) }
+        ensures place { result ≡ place_of (find is_stale self.now.dups) }
         ensures lawful { AreDups self.now }
     {
         self.slots.first_stale()
@@ -541,7 +542,7 @@ fn vacate(slots: &mut Slots, groups: &mut Groups, place: u32)
 fn pair(alloc: Global, first: GuestPage, second: GuestPage) -> Result<Items, Fault>
     requires { same_page first second ≡ false }
     ensures both { IfOk result (λ items. items ≡ with_item second (first ∷ [])) }
-    ensures memory { IfErr result (λ fault. fault ≡ Fault.Memory) }
+    ensures memory { FailsForMemory result }
 {
     let mut items = Items::new(alloc);
     items.add(first)?;

@@ -9,12 +9,11 @@
 //! steps. How many groups are chains is kept beside them, so the counters of chains are read.
 #![tactic(auto, using(crate::proofs::Standing::steps))]
 
-ghost use Rattle.std.specs.Prelude.{◌≡◌, ◌≢◌, ◌⊎◌, ℕ, ◌+◌, ◌≤◌, List, [], Some, IfErr, IfOk, IfSome, IsTrue, OnOk, false, is_some, length, true, option_copied};
+ghost use Rattle.std.specs.Prelude.{◌≡◌, ◌≢◌, ◌⊎◌, ℕ, ◌+◌, ◌≤◌, List, [], Some, IfOk, IfSome, IsTrue, OnOk, false, is_some, length, true, option_copied};
 ghost use Rattle.slab.specs.Slab.{get};
+ghost use Rattle.ksm_tree.specs.Faults.{FailsForMemory};
 ghost use Rattle.ksm_tree.specs.Grouping.{AreGroups, has_place, places_in};
-ghost use Rattle.ksm_tree.specs.Numbered.{number_of};
 ghost use Rattle.ksm_tree.specs.Places.{with_place, without};
-ghost use Rattle.ksm_tree.specs.Reserve.{KeepsReserve};
 ghost use Rattle.ksm_base.specs.declared.limits.TheConstants.{MOST_FRAMES as most_frames};
 ghost use Rattle.ksm_tree.specs.declared.groups.TheConstants.{MOST_SPARE as most_spare};
 
@@ -61,7 +60,7 @@ pub struct Groups {
 }
 
 impl Groups {
-    ghost use Rattle.ksm_tree.specs.Groups.{HasRoomAt, IsCounted, IsCountedAnew, IsMoved, IsSwept, SameChains, SameNumbers, chain_in, is_used_in};
+    ghost use Rattle.ksm_tree.specs.Groups.{HasRoomAt, IsCounted, IsCountedAnew, IsMoved, IsSwept, SameChains, SameNumbers, KeepReserve, chain_in, number_in};
 
     /// No groups, in a table with so many places.
     pub fn new(alloc: Global, places: u32) -> Groups
@@ -89,7 +88,7 @@ impl Groups {
     /// The number of a group, if it has one. The guess is tried first.
     #[inline(always)]
     pub fn number(&self, guess: u32, tree: u32, bytes: &PageBytes) -> Option<u32>
-        ensures { result ≡ number_of tree bytes.now self.now.numbers.entries }
+        ensures { result ≡ number_in tree bytes.now self.now }
     {
         if self.is_of(guess, tree, bytes) {
             return Some(guess);
@@ -100,7 +99,7 @@ impl Groups {
     /// Whether the group with a number is that of a tree and bytes.
     #[inline(always)]
     pub fn is_of(&self, number: u32, tree: u32, bytes: &PageBytes) -> bool
-        ensures { IsTrue result → number_of tree bytes.now self.now.numbers.entries ≡ Some number }
+        ensures { IsTrue result → number_in tree bytes.now self.now ≡ Some number }
     {
         match self.groups.get(number as usize) {
             Some(group) => group.content.tree == tree && same_bytes(&group.content.bytes, bytes),
@@ -111,7 +110,7 @@ impl Groups {
     // The same, where nothing is guessed.
     #[inline(never)]
     fn search(&self, tree: u32, bytes: &PageBytes) -> Option<u32>
-        ensures { result ≡ number_of tree bytes.now self.now.numbers.entries }
+        ensures { result ≡ number_in tree bytes.now self.now }
     {
         self.numbers.get(&Content::of(tree, bytes)).copied()
     }
@@ -128,7 +127,7 @@ impl Groups {
     /// where a search finds the group.
     #[inline(always)]
     pub fn known(&mut self, guess: u32, tree: u32, bytes: &PageBytes) -> Option<u32>
-        ensures number { result ≡ number_of tree bytes.now self.old.numbers.entries }
+        ensures number { result ≡ number_in tree bytes.now self.old }
         ensures chains { SameChains self.old self.new }
         ensures numbers { SameNumbers self.old self.new }
     {
@@ -144,7 +143,7 @@ impl Groups {
     // The number of a group, where it is the guess or the one that is kept here.
     #[inline(always)]
     fn guessed(&self, guess: u32, tree: u32, bytes: &PageBytes) -> Option<u32>
-        ensures { IfSome result (λ number. number_of tree bytes.now self.now.numbers.entries ≡ Some number) }
+        ensures { IfSome result (λ number. number_in tree bytes.now self.now ≡ Some number) }
     {
         if self.is_of(guess, tree, bytes) {
             return Some(guess);
@@ -166,11 +165,10 @@ impl Groups {
         tree: u32,
         bytes: &PageBytes,
     ) -> Result<u32, Fault>
-        ensures numbered { IfOk result (λ number. number_of tree bytes.now self.new.numbers.entries ≡ Some number) }
+        ensures numbered { IfOk result (λ number. number_in tree bytes.now self.new ≡ Some number) }
         ensures chains { SameChains self.old self.new }
-        ensures reserve { KeepsReserve (is_used_in self.new) tree bytes.now
-            self.old.numbers.entries self.new.numbers.entries self.old.most self.new.most }
-        ensures memory { IfErr result (λ fault. fault ≡ Fault.Memory) }
+        ensures reserve { KeepReserve tree bytes.now self.old self.new }
+        ensures memory { FailsForMemory result }
     {
         if let Some(number) = self.guessed(guess, tree, bytes) {
             return Ok(number);
@@ -183,11 +181,10 @@ impl Groups {
     // The same, where nothing is guessed. One search finds the group, or the place for it.
     #[inline(never)]
     fn search_or_enter(&mut self, alloc: Global, tree: u32, bytes: &PageBytes) -> Result<u32, Fault>
-        ensures numbered { IfOk result (λ number. number_of tree bytes.now self.new.numbers.entries ≡ Some number) }
+        ensures numbered { IfOk result (λ number. number_in tree bytes.now self.new ≡ Some number) }
         ensures chains { SameChains self.old self.new }
-        ensures reserve { KeepsReserve (is_used_in self.new) tree bytes.now
-            self.old.numbers.entries self.new.numbers.entries self.old.most self.new.most }
-        ensures memory { IfErr result (λ fault. fault ≡ Fault.Memory) }
+        ensures reserve { KeepReserve tree bytes.now self.old self.new }
+        ensures memory { FailsForMemory result }
     {
         self.make_room();
         let content = Content {
@@ -269,7 +266,7 @@ impl Groups {
         ensures room { OnOk result (HasRoomAt number self.new) }
         ensures chains { SameChains self.old self.new }
         ensures numbers { SameNumbers self.old self.new }
-        ensures memory { IfErr result (λ fault. fault ≡ Fault.Memory) }
+        ensures memory { FailsForMemory result }
     {
         match self.groups.get_mut(number as usize) {
             Some(group) => group.places.reserve(),
@@ -281,9 +278,9 @@ impl Groups {
     pub fn add(&mut self, number: u32, place: u32)
         requires room { HasRoomAt number self.old }
         requires counted { (t : ℕ) (b : List ℕ) → IsCounted t b self.old }
-        ensures added { (t : ℕ) (b : List ℕ) → number_of t b self.old.numbers.entries ≡ Some number
+        ensures added { (t : ℕ) (b : List ℕ) → number_in t b self.old ≡ Some number
             → IsMoved t b (with_place place) self.old self.new }
-        ensures totals { (t : ℕ) (b : List ℕ) → number_of t b self.old.numbers.entries ≡ Some number
+        ensures totals { (t : ℕ) (b : List ℕ) → number_in t b self.old ≡ Some number
             → IsCountedAnew t b self.old self.new }
         ensures numbers { SameNumbers self.old self.new }
     {

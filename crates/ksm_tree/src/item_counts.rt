@@ -6,8 +6,9 @@
 //! all chains are short that costs more than it saves.
 #![tactic(auto, using(crate::proofs::Where::steps, crate::proofs::Opened::none_kept))]
 
-ghost use Rattle.std.specs.Prelude.{◌≡◌, ℕ, ◌<◌, ◌≤◌, All, IfErr, IfOk, IfSome, length, not, replicate, slice_index, slice_set};
+ghost use Rattle.std.specs.Prelude.{◌≡◌, ℕ, ◌<◌, ◌≤◌, All, IfOk, IfSome, length, not, replicate, slice_index, slice_set};
 ghost use Rattle.std.specs.List.{list_all};
+ghost use Rattle.ksm_tree.specs.Faults.{FailsForMemory};
 ghost use Rattle.ksm_base.specs.declared.limits.TheConstants.{MOST_FRAMES};
 ghost use Rattle.ksm_tree.specs.Counts.{is_open as is_open_count, places_where};
 
@@ -43,7 +44,7 @@ impl Counts {
     /// `Memory`.
     pub fn open(alloc: Global, places: u32) -> Result<Counts, Fault>
         ensures none { IfOk result (λ counts. counts ≡ replicate places 0) }
-        ensures memory { IfErr result (λ fault. fault ≡ Fault.Memory) }
+        ensures memory { FailsForMemory result }
     {
         let room = places as usize;
         Ok(Counts {

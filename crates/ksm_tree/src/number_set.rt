@@ -1,10 +1,11 @@
 //! Sets of the numbers of frames, or of places, as words of bits with as many heights above them as their limit wants.
 #![tactic(auto, using(crate::proofs::NumberBits::replicated))]
 
-ghost use Rattle.std.specs.Prelude.{◌≡◌, ◌*◌, ◌<◌, ◌≤◌, ℕ, true, false, length, IfErr, IfOk, MatchOption};
+ghost use Rattle.std.specs.Prelude.{◌≡◌, ◌*◌, ◌<◌, ◌≤◌, ℕ, true, false, length, IfOk};
+ghost use Rattle.ksm_tree.specs.Faults.{FailsForMemory};
 ghost use Rattle.ksm_base.specs.declared.limits.TheConstants.{MOST_FRAMES as most_frames};
 ghost use Rattle.ksm_tree.specs.declared.number_set.TheConstants.{WORDS as most_words};
-ghost use Rattle.ksm_tree.specs.NumberSets.{has, HasNone, IsLeast, Marks};
+ghost use Rattle.ksm_tree.specs.NumberSets.{FindsLeast, has, Marks};
 
 use crate::bits::{Bits, Word, Words};
 use ksm_base::{Fault, MOST_FRAMES};
@@ -46,7 +47,7 @@ impl NumberSet {
         requires { limit ≤ most_frames }
         ensures wide { IfOk result (λ set. limit ≤ 64 * length set) }
         ensures all { IfOk result (λ set. (n : ℕ) → n < limit → has set n ≡ true) }
-        ensures memory { IfErr result (λ fault. fault ≡ Fault.Memory) }
+        ensures memory { FailsForMemory result }
     {
         let words = words_for(limit);
         Ok(NumberSet {
@@ -59,7 +60,7 @@ impl NumberSet {
         requires { limit ≤ most_frames }
         ensures wide { IfOk result (λ set. limit ≤ 64 * length set) }
         ensures none { IfOk result (λ set. (n : ℕ) → has set n ≡ false) }
-        ensures memory { IfErr result (λ fault. fault ≡ Fault.Memory) }
+        ensures memory { FailsForMemory result }
     {
         let words = words_for(limit);
         Ok(NumberSet {
@@ -111,7 +112,7 @@ impl NumberSet {
     #[inline(always)]
     pub fn least(&self, from: u32, end: u32) -> Option<u32>
         requires { end ≤ 64 * length self.now }
-        ensures { MatchOption result (HasNone self.now from end) (IsLeast self.now from end) }
+        ensures { FindsLeast self.now from end result }
     {
         if end <= from {
             return None;
@@ -135,7 +136,7 @@ fn upper(alloc: Global, words: usize) -> Result<Upper, Fault>
     requires { words ≤ most_words }
     ensures room { IfOk result (λ set. words < 64 * length set) }
     ensures none { IfOk result (λ set. (n : ℕ) → has set n ≡ false) }
-    ensures memory { IfErr result (λ fault. fault ≡ Fault.Memory) }
+    ensures memory { FailsForMemory result }
 {
     let above = words / 64 + 1;
     let top = if ABOVE > 1 { above / 64 + 1 } else { 0 };

@@ -5,7 +5,8 @@
 //! written where no dup is, and a key that leads to a dup of another place leads nowhere.
 #![tactic(auto, using(crate::proofs::Shelved::steps))]
 
-ghost use Rattle.std.specs.Prelude.{◌≡◌, ◌<◌, ◌≤◌, true, false, None, Some, length, option_copied, option_map, replicate, if◌then◌else◌, is_some, slice_index_or, slice_set, IfErr, IfOk, OnErr, OnOk};
+ghost use Rattle.std.specs.Prelude.{◌≡◌, ◌<◌, ◌≤◌, true, false, None, Some, length, option_copied, option_map, replicate, if◌then◌else◌, is_some, slice_index_or, slice_set, IfOk, OnErr, OnOk};
+ghost use Rattle.ksm_tree.specs.Faults.{FailsForMemory};
 ghost use Rattle.ksm_base.specs.declared.limits.TheConstants.{MOST_FRAMES, MOST_REFERENCES};
 ghost use Rattle.ksm_rmap.specs.Items.{has_item, with_item, without_item};
 ghost use Rattle.ksm_tree.specs.Dups.{dup_of, items_in};
@@ -53,7 +54,7 @@ impl Shelf {
     /// So many empty places. The one fault is `Memory`.
     pub fn open(alloc: Global, places: u32) -> Result<Shelf, Fault>
         ensures empty { IfOk result (λ shelf. shelf.slots ≡ replicate places None) }
-        ensures memory { IfErr result (λ fault. fault ≡ Fault.Memory) }
+        ensures memory { FailsForMemory result }
     {
         Ok(Shelf {
             keys: vec![in alloc; 0; places as usize]?,
@@ -106,7 +107,7 @@ impl Shelf {
     pub fn reserve(&mut self) -> Result<(), Fault>
         ensures slots { self.new.slots ≡ self.old.slots }
         ensures ready { OnOk result (self.new.ready ≡ true) }
-        ensures memory { IfErr result (λ fault. fault ≡ Fault.Memory) }
+        ensures memory { FailsForMemory result }
     {
         self.dups.reserve(1)?;
         if self.dups.vacant_key() > u32::MAX as usize {
@@ -149,7 +150,7 @@ impl Shelf {
         ensures kept { OnErr result (self.new.slots ≡ self.old.slots) }
         ensures count { IfOk result (λ count.
             count ≡ length (with_item page (items_in (slice_index_or self.old.slots place None)))) }
-        ensures memory { IfErr result (λ fault. fault ≡ Fault.Memory) }
+        ensures memory { FailsForMemory result }
     {
         let key = self.keys[place as usize];
         let Some(kept) = self.dups.get_mut(key as usize) else {

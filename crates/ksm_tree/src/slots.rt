@@ -1,11 +1,12 @@
 //! The dups by their places, a slot for each: a place leads to its dup in two steps, and an empty one takes few bytes.
 #![tactic(auto, using(crate::proofs::OneSlot::steps, crate::proofs::Opened::open_seen, crate::proofs::Opened::stale_slots, crate::proofs::Opened::three_kinds))]
 
-ghost use Rattle.std.specs.Prelude.{◌≡◌, ℕ, ◌<◌, ◌≤◌, [], true, false, None, Some, count_by, find, length, option_copied, option_map, is_some, slice_index_or, IfErr, IfOk, IfSome, OnErr, OnOk};
+ghost use Rattle.std.specs.Prelude.{◌≡◌, ℕ, ◌<◌, ◌≤◌, [], true, false, None, Some, count_by, find, length, option_copied, is_some, slice_index_or, IfOk, IfSome, OnErr, OnOk};
+ghost use Rattle.ksm_tree.specs.Faults.{FailsForMemory};
 ghost use Rattle.ksm_base.specs.declared.limits.TheConstants.{MOST_FRAMES, MOST_REFERENCES};
 ghost use Rattle.ksm_tree.specs.Choosing.{empty_place};
 ghost use Rattle.ksm_rmap.specs.Items.{has_item, with_item, without_item};
-ghost use Rattle.ksm_tree.specs.Dups.{dup_at, dup_of, items_in, is_live, is_stale, places_open, rows_of, with_new, without_place};
+ghost use Rattle.ksm_tree.specs.Dups.{dup_at, dup_of, items_in, is_live, is_stale, place_of, places_open, rows_of, with_new, without_place};
 ghost use Rattle.ksm_tree.specs.Slots.{change_at};
 
 use crate::counted_set::CountedSet;
@@ -41,7 +42,7 @@ impl Slots {
     pub fn open(alloc: Global, places: u32) -> Result<Slots, Fault>
         requires { places ≤ MOST_FRAMES }
         ensures opened { IfOk result (λ slots. slots ≡ record { places = places; dups = []; ready = slots.ready }) }
-        ensures memory { IfErr result (λ fault. fault ≡ Fault.Memory) }
+        ensures memory { FailsForMemory result }
     {
         Ok(Slots {
             dups: Shelf::open(alloc, places)?,
@@ -108,7 +109,7 @@ impl Slots {
 
     /// The least place of a stale dup.
     pub fn first_stale(&self) -> Option<u32>
-        ensures { result ≡ option_map (λ d. d.row.place) (find is_stale self.now.dups) }
+        ensures { result ≡ place_of (find is_stale self.now.dups) }
     {
         self.stale.set.least(0, self.dups.len() as u32)
     }
@@ -131,7 +132,7 @@ impl Slots {
     pub fn reserve(&mut self) -> Result<(), Fault>
         ensures kept { self.new ≡ record self.old { ready = self.new.ready } }
         ensures ready { OnOk result (self.new.ready ≡ true) }
-        ensures memory { IfErr result (λ fault. fault ≡ Fault.Memory) }
+        ensures memory { FailsForMemory result }
     {
         self.dups.reserve()
     }
@@ -172,7 +173,7 @@ impl Slots {
           ready = self.new.ready;
         }) }
         ensures kept { OnErr result (self.new ≡ record self.old { ready = self.new.ready }) }
-        ensures memory { IfErr result (λ fault. fault ≡ Fault.Memory) }
+        ensures memory { FailsForMemory result }
     {
         let count = self.dups.add_item(place, page)?;
         self.counts.set(place, count);

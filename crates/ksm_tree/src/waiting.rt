@@ -1,8 +1,9 @@
 //! The unstable tree, for users of this library. The book's own is in `ksm_pages`, which has each page's row.
 #![tactic(auto, using(crate::proofs::Waits::steps))]
 
-ghost use Rattle.std.specs.Prelude.{◌≡◌, [], None, IfOk, IfErr, OnErr, is_some, true};
+ghost use Rattle.std.specs.Prelude.{◌≡◌, [], None, IfOk, OnErr, is_some, true};
 ghost use Rattle.std.specs.Option.{unwrap_or};
+ghost use Rattle.ksm_tree.specs.Faults.{FailsForMemory};
 ghost use Rattle.ksm_tree.specs.Waits.{IsAdded, IsRemoved, waiting_page};
 
 use crate::content::Content;
@@ -62,7 +63,7 @@ impl Waiting {
         ensures kept { is_some (waiting_page tree bytes.now self.old) ≡ true → self.new ≡ self.old }
         ensures absent { OnErr result (waiting_page tree bytes.now self.old ≡ None) }
         ensures refused { OnErr result (self.new ≡ self.old) }
-        ensures memory { IfErr result (λ fault. fault ≡ Fault.Memory) }
+        ensures memory { FailsForMemory result }
     {
         match self.pages.entry(Content::of(tree, bytes))? {
             Entry::Occupied(entry) => return Ok(*entry.get()),

@@ -1,5 +1,5 @@
-use Rattle.ksm_tree.proofs.Names.{ap, AreChained, arith, Dup, dups_seen, number_of, refl, Some, with_item, without_place, ℕ, [], ◌+◌, ◌∙◌, ◌∷◌, ◌≡◌}
-use Rattle.ksm_tree.proofs.Chained.{fresh_chained, new_again, none_left, room_chained, seen_made, told}
+use Rattle.ksm_tree.proofs.Names.{ap, AreChained, arith, Dup, dups_seen, number_of, refl, with_item, without_place, ℕ, [], ◌∙◌, ◌∷◌, ◌≡◌}
+use Rattle.ksm_tree.proofs.Chained.{fresh_chained, new_again, none_left, room_chained, told}
 use Rattle.ksm_tree.proofs.dups.Dups.found.Goals as goal
 use Rattle.ksm_tree.proofs.dups.Dups.found.Goals.{After-vacate}
 
@@ -28,9 +28,8 @@ put-requires-clause-vacant c = grind (arith, none_left)
 pub invariant_of-self-2 : goal.invariant_of-self-2
 invariant_of-self-2 c =
     let here = (goal.at.invariant_of-self-2 c).After-vacate in
-    let dup : Dup = record { row = record { number = c.self.inside.next; place = c.args.place; tree = c.args.tree; bytes = c.args.bytes.now }; items = c.in_ok-items.items } in
-    let named : number_of c.args.tree c.args.bytes.now c.vacate.new.groups.numbers.entries ≡ Some c.args.group = ap (λ s. number_of c.args.tree c.args.bytes.now s.numbers) (seen here) ∙ c.requires.known in
-    rw c.put.ensures (fresh_chained dup _ (vacant here) refl (grind arith) (grind (arith, none_left))
+    let named = ap (λ s. number_of c.args.tree c.args.bytes.now s.numbers) (seen here) ∙ c.requires.known in
+    rw c.put.ensures (fresh_chained _ _ (vacant here) refl (grind arith) (grind (arith, none_left))
     (c.add.ensures.added _ _ named) (c.add.ensures.totals _ _ named))
 
 pub returns-clause-made : goal.returns-clause-made
@@ -38,6 +37,4 @@ returns-clause-made c =
     let view = seen (goal.at.returns-clause-made c).After-vacate in
     let dup : ℕ → Dup = λ n. record { row = record { number = n; place = c.args.place; tree = c.args.tree; bytes = c.args.bytes.now }; items = with_item c.args.second (c.args.first ∷ []) } in
     let again = new_again (dup c.args.self.now.next) c.args.self.now.dups in
-    c.keep_open.ensures ∙ rw (c.put.ensures, c.in_ok-items.ensures.both)
-    (seen_made c.vacate.new.slots c.self.inside.next c.vacate.new.groups c.add.new.self dup c.put.new.self.ready view c.add.ensures.numbers
-    ∙ (λ i. record c.args.self.now { dups = again i; next = c.args.self.now.next + 1 }))
+    c.keep_open.ensures ∙ rw (c.put.ensures, c.in_ok-items.ensures.both) (grind (arith, view, again, c.add.ensures.numbers))

@@ -1,11 +1,9 @@
 use Rattle.ksm_tree.proofs.Names.{arith, refl, with_item}
-use Rattle.ksm_tree.proofs.Chained.{room_chained, stays_chained, told_changed, told_items, told_there}
+use Rattle.ksm_tree.proofs.Chained.{room_chained, stays_chained, told_changed, told_dup}
 use Rattle.ksm_tree.proofs.dups.Dups.join_at.Goals as goal
 
 pub add_item-requires : goal.add_item-requires
-add_item-requires c =
-    let same = told_items c.args.dup c.self.invariant c.self.view_is c.in-Some.ensures in
-    grind (arith, same, told_there c.args.dup c.self.invariant c.self.view_is c.in-Some.ensures)
+add_item-requires c = grind (arith, told_dup c.args.dup c.self.invariant c.self.view_is c.in-Some.ensures)
 
 pub invariant_of-self : goal.invariant_of-self
 invariant_of-self c = room_chained c.self.invariant c.in_err-add_item.ensures.kept (record { chains = λ t b. refl; totals = refl })

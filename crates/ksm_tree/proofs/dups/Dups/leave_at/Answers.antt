@@ -1,10 +1,10 @@
 use Rattle.ksm_tree.proofs.Names.{arith, Dup, find_none, has_number, without_item}
-use Rattle.ksm_tree.proofs.Chained.{stays_chained, told_changed, told_there}
+use Rattle.ksm_tree.proofs.Chained.{stays_chained, told_changed, told_dup}
 use Rattle.ksm_tree.proofs.Alike.{change_none}
 use Rattle.ksm_tree.proofs.dups.Dups.leave_at.Goals as goal
 
 pub remove_item-requires : goal.remove_item-requires
-remove_item-requires c = told_there c.args.dup c.self.invariant c.self.view_is c.in_ok-place.ensures
+remove_item-requires c = grind (arith, told_dup c.args.dup c.self.invariant c.self.view_is c.in_ok-place.ensures)
 
 pub invariant_of-self : goal.invariant_of-self
 invariant_of-self c = rw c.remove_item.ensures (stays_chained c.self.invariant c.in_ok-place.place _ _)

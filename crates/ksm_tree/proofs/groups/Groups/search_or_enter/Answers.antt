@@ -1,13 +1,13 @@
 use Rattle.ksm_tree.proofs.Names.{ap, arith, content_of, get, Group, None, refl, rules, Some, subst, sym, ℕ, ◌∙◌, ◌≡◌}
 use Rattle.std.specs.BTreeMap.Entry.{map_with_value}
 use Rattle.slab.specs.Slab.{Updates as Fills}
-use Rattle.ksm_tree.specs.Numbered.{number_of}
+use Rattle.ksm_tree.specs.Groups.{number_in}
 use Rattle.ksm_tree.proofs.Standing.{came, Keeps, one_more}
 use Rattle.ksm_tree.proofs.groups.Groups.search_or_enter.Goals as goal
 use Rattle.ksm_tree.proofs.groups.Groups.search_or_enter.Goals.{After-insert_reserved}
 
 -- the group had no number
-absent : (c : After-insert_reserved) → number_of c.args.tree c.args.bytes.now c.make_room.new.self.numbers.entries ≡ None
+absent : (c : After-insert_reserved) → number_in c.args.tree c.args.bytes.now c.make_room.new.self ≡ None
 absent c = rw c.in-Vacant.is at c.in_ok-entry.ensures.found
 
 entered : (c : After-insert_reserved) → Keeps c.make_room.new.self c.insert_reserved.new.self (map_with_value c.in_ok-entry.field-0 c.in-Ok.number)

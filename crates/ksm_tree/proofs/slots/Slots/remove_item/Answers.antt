@@ -1,15 +1,15 @@
 use Rattle.ksm_tree.proofs.Names.{arith, without_item}
-use Rattle.ksm_tree.proofs.OneSlot.{had_item, slot_filled, slots_changed, slots_kept, slots_same}
+use Rattle.ksm_tree.proofs.OneSlot.{had_item, seen_slot, slots_changed, slots_kept, slots_same}
 use Rattle.ksm_tree.proofs.slots.Slots.remove_item.Goals as goal
 
 pub invariant_of-self : goal.invariant_of-self
 invariant_of-self c = rw (c.in-Some.ensures.removed, c.set.ensures)
-    (slots_changed c.self.invariant c.args.place (without_item c.args.page) (grind (arith, slot_filled))
+    (slots_changed c.self.invariant c.args.place (without_item c.args.page) (grind (arith, seen_slot))
     (grind arith) (grind (arith, c.mark.ensures)))
 
 pub invariant_of-self-else-left-eq0 : goal.invariant_of-self-else-left-eq0
 invariant_of-self-else-left-eq0 c = rw (c.in-Some.ensures.removed, c.set.ensures)
-    (slots_kept c.self.invariant c.args.place (without_item c.args.page) (grind (arith, slot_filled)) (grind arith)
+    (slots_kept c.self.invariant c.args.place (without_item c.args.page) (grind (arith, seen_slot)) (grind arith)
     (grind (arith, had_item)))
 
 pub invariant_of-self-in_default : goal.invariant_of-self-in_default
