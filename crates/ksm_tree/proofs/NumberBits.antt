@@ -1,5 +1,5 @@
 -- What the words of a set, and their summary, say of its numbers.
-use Rattle.ksm_tree.proofs.Names.{FindsLeast, bit_at_ones, AreSummed, arith, bit_and, bit_at, bit_at_clear_other, bit_at_clear_same, bit_at_set_other, bit_at_set_same, bit_or, Bool, false, get_or}
+use Rattle.ksm_tree.proofs.Names.{nat_tests, get_or_default, FindsLeast, bit_at_ones, AreSummed, arith, bit_and, bit_at, bit_at_clear_other, bit_at_clear_same, bit_at_set_other, bit_at_set_same, bit_or, Bool, false, get_or}
 use Rattle.ksm_tree.proofs.Names.{get_or-replicate, get_or-set_other, get_or-set_same, get_or_past, has, HasNoBit, HasNone, IsLeast, IsLowestBit, IsSummed, length, length-set, List, Marks}
 use Rattle.ksm_tree.proofs.Names.{length-replicate, MatchOption, not, Option, replicate, set, shr-shr, true, w64, ℕ, ◌%◌, ◌*◌, ◌+◌, ◌-◌, ◌/◌, ◌<◌, ◌==◌, ◌^◌, ◌≡◌, ◌≢◌, ◌≤◌}
 
@@ -25,10 +25,6 @@ module _ (words : List ℕ) where
     -- the upper set is right once a word is put, if it says of that whether it is 0, and of the others what it did
     pub summed_put : {w : ℕ} (word : ℕ) {upper' : List ℕ} {there : Bool} → w < length words → there ≡ not (word == 0) → Marks upper upper' w there → IsSummed (set words w word) upper'
     summed_put word within here marks = grind (arith, length-set, get_or-set_same, get_or-set_other)
-
--- the sets stay right where a word is 0, and its number is not in the upper one any more
-pub stay_less : {most : ℕ} {words upper : List ℕ} → AreSummed most words upper → {w : ℕ} (word : ℕ) {upper' : List ℕ} → w < length words → word ≡ 0 → 1 < most → Marks upper upper' w false → AreSummed most (set words w word) upper'
-stay_less h word within zero many marks = grind (arith, length-set, summed_put)
 
 -- words of which each bit is set have each number below their end
 pub all_there : (k n : ℕ) → n < 64 * k → has (replicate k 18446744073709551615) n ≡ true
@@ -60,3 +56,6 @@ bit_behind word from i behind = grind (arith, bit_of_rest)
 
 -- words that are all alike
 pub ruleset replicated = (all_there, length-replicate, none_there)
+
+-- what a word with another bit says of the numbers
+pub ruleset steps = (get_or_default, length-set, marks_less, marks_more)

@@ -83,4 +83,4 @@ pub same_slots : (keys : List ℕ) (old : Slab Kept) {new : Slab Kept} {s : Shel
 same_slots keys old view is = ap (slots_by keys) is ∙ ap (λ t. t.slots) view
 
 -- what the keys say of the slots
-pub ruleset steps = (emptied, filled_key, many, none_by, same_slots, seen_by, seen_past)
+pub ruleset steps = (items_there, not_none, emptied, filled_key, many, none_by, same_slots, seen_by, seen_past)

@@ -93,4 +93,4 @@ pub reserve_left : (old : Groups) {g : Groups} {tree : ℕ} {bytes : List ℕ} �
 reserve_left old is = grind arith
 
 -- what a number and a content say of the groups
-pub ruleset steps = (not_unused, reserve_left, stands_under)
+pub ruleset steps = (not_unused, reserve_left, rewritten, stands_under)

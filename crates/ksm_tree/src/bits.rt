@@ -1,5 +1,7 @@
 //! Sets of numbers of any height: words of bits, and above them the set of those words that are not 0. So the least
 //! number is found in a step for each height, wherever it is, and so is that there is none.
+#![tactic(auto, using(crate::proofs::NumberBits::steps))]
+
 ghost use Rattle.std.specs.Prelude.{◌≡◌, ◌≢◌, ℕ, ◌+◌, ◌*◌, ◌/◌, ◌^◌, ◌<◌, ◌≤◌, [], ◌∷◌, List, true, false, length, IfOk, MatchOption};
 ghost use Rattle.ksm_tree.specs.Faults.{FailsForMemory};
 ghost use Rattle.ksm_tree.specs.NumberSets.{FindsLeast, has, HasNoBit, IsLowestBit, Marks};

@@ -2,9 +2,6 @@ use Rattle.ksm_tree.proofs.Names.{arith, get_or_default, sym, ◌∙◌}
 use Rattle.ksm_tree.proofs.NumberBits.{found_behind, within_named}
 use Rattle.ksm_tree.proofs.bits.Words.first_behind.Goals as goal
 
-pub returns-then-this-le1 : goal.returns-then-this-le1
-returns-then-this-le1 g c = grind arith
-
 pub returns : goal.returns
 returns g c =
     let summed = c.self.invariant.summed (omega arith) in

@@ -1,9 +1,6 @@
 use Rattle.ksm_tree.proofs.Names.{with_place}
-use Rattle.ksm_tree.proofs.Standing.{rechained, rewritten}
+use Rattle.ksm_tree.proofs.Standing.{rechained}
 use Rattle.ksm_tree.proofs.groups.Groups.add.Goals as goal
-
-pub invariant_of-self-clause-lawful : goal.invariant_of-self-clause-lawful
-invariant_of-self-clause-lawful c = rewritten c.args.self.now _ _ _ c.in-Some.ensures.value
 
 pub returns-in-Some-clause-added : goal.returns-in-Some-clause-added
 returns-in-Some-clause-added c =

@@ -1,9 +1,6 @@
 use Rattle.ksm_tree.proofs.Names.{sym, without}
-use Rattle.ksm_tree.proofs.Standing.{rechained, rewritten}
+use Rattle.ksm_tree.proofs.Standing.{rechained}
 use Rattle.ksm_tree.proofs.groups.Groups.remove.Goals as goal
-
-pub invariant_of-self-clause-lawful : goal.invariant_of-self-clause-lawful
-invariant_of-self-clause-lawful c = rewritten c.args.self.now _ _ _ c.in-Some-get_mut.ensures.value
 
 pub returns-in-Some-get_mut-clause-removed : goal.returns-in-Some-get_mut-clause-removed
 returns-in-Some-get_mut-clause-removed c =
