@@ -10,12 +10,16 @@ use Rattle.std.proofs.lemmas.List.Concat.{flat_map-append}
 use Rattle.std.proofs.lemmas.List.Elements.{All-append, All-cons, All-drop, All-nil, All-take, filter_passes}
 use Rattle.std.proofs.lemmas.List.Edits.{get_or-insert_at, length-insert}
 use Rattle.std.proofs.lemmas.Grind.{take-set_at}
-use Rattle.std.proofs.lemmas.List.Kept.{AllPairs-filter}
+use Rattle.std.proofs.lemmas.List.Kept.{AllPairs-cons, AllPairs-filter}
 use Rattle.std.proofs.lemmas.List.Sums.{sum_by-remove}
 use Rattle.ksm_order.specs.declared.item.Item.{Item}
 use Rattle.ksm_order.specs.Listed.{AreAscending, AreBefore, AreBehind, AreParts, begins_behind, is_at, IsCounted, IsCut, IsPartOf, is_nothing, many, with_item, with_mark, without}
-use Rattle.ksm_order.proofs.Between.{high, low, many-append, mark_between, with_between, without_between}
+use Rattle.ksm_order.proofs.Between.{high, low, many_kept, many-append, mark_between, with_between, without_between}
 use Rattle.ksm_order.proofs.Parts.{ahead_of, behind_of, cut, front, halves_rise, rest}
+
+-- without a key no more are marked
+pub many_without : (key : ℕ) (xs : List Item) → many (without key xs) ≤ many xs
+many_without key = many_kept (λ y. not (is_at key y))
 
 -- a test as a number is 1 where it passes and 0 where it does not
 pub byte_of : (b : Bool) → from_bool b ≡ cond b 1 0
@@ -46,7 +50,7 @@ with_rises x xs rise =
     let lows = λ (k : ℕ) (d : Item) (lt : k < length (filter (low x.key) xs)). ltb-true _ _ (filter_passes (low x.key) xs k d lt) in
     let highs = λ (k : ℕ) (d : Item) (lt : k < length (filter (high x.key) xs)). ltb-true _ _ (filter_passes (high x.key) xs k d lt) in
     rises_append (filter (low x.key) xs) (x ∷ filter (high x.key) xs) (filter_rises _ xs rise)
-    (rises_append (x ∷ []) (filter (high x.key) xs) (λ i j d less lt. absurd (omega arith)) (filter_rises _ xs rise) (λ i j d lt le. grind (arith, highs j d le)))
+    (AllPairs-cons (λ y z. y.key < z.key) x (filter (high x.key) xs) highs (filter_rises _ xs rise))
     (λ i j d lt le. grind (arith, lows i d lt, highs (j - 1) d))
 
 -- a list in order that is cut in two, with how many of both are marked
@@ -101,16 +105,16 @@ some_items : {P : Type 0} (f : P → List Item) (parts : List P) → All (Full f
 some_items f parts filled some none = grind (arith, nat_tests, nothing_of_parts f parts filled)
 
 -- parts in order that are cut in two
-module _ {P : Type 0} {f : P → List Item} {parts : List P} {n : ℕ} (are : AreParts f parts) (is : IsCounted (flat_map f parts) n) (at : ℕ) where
+module _ {P : Type 0} {f : P → List Item} {parts : List P} {n : ℕ} (are : AreParts f parts × IsCounted (flat_map f parts) n) (at : ℕ) where
   whole : flat_map f (take at parts) ++ flat_map f (drop at parts) ≡ flat_map f parts
   whole = grind (arith, ap (flat_map f) (take-append-drop at parts), flat_map-append)
 
   pub parts_cut : AreParts f (take at parts) × AreParts f (drop at parts) × (many (flat_map f (drop at parts)) ≤ n)
       × IsCounted (flat_map f (take at parts)) (n - many (flat_map f (drop at parts))) × IsCounted (flat_map f (drop at parts)) (many (flat_map f (drop at parts)))
   parts_cut =
-      let halves = counted_halves (flat_map f (take at parts)) (flat_map f (drop at parts)) is whole in (
-        record { filled = All-take (Full f) at parts are.filled; ascending = halves.1.ascending },
-        record { filled = All-drop (Full f) at parts are.filled; ascending = halves.2.ascending },
+      let halves = counted_halves (flat_map f (take at parts)) (flat_map f (drop at parts)) are.1 whole in (
+        record { filled = All-take (Full f) at parts are.0.filled; ascending = halves.1.ascending },
+        record { filled = All-drop (Full f) at parts are.0.filled; ascending = halves.2.ascending },
         halves.0,
         halves.1,
         halves.2,

@@ -128,3 +128,6 @@ module _ {P : Type 0} {f : P → List Item} {key : ℕ} {parts : List P} {at : �
       let whole = from_cut f parts (at + 1) next there in
       let after : AreBehind key (run ++ later) = rw whole at place.behind in
       grind (arith, first_of run later, are.filled (at + 1) p, from_first key run (λ k c lt. grind (arith, after k c, length-append run later, get_or_append_left run later c k)))
+
+-- what a part says of all
+pub ruleset steps = (find_in_part, many_front)

@@ -1,4 +1,6 @@
 //! The heights above: parts side by side, each a tree of the height below.
+#![tactic(auto, using(crate::proofs::Parts::steps))]
+
 ghost use Rattle.std.specs.Prelude.{◌≡◌, ◌+◌, ◌^◌, ◌<◌, ◌≤◌, [], None, IfOk, IsTrue, OnErr, OnOk, drop, find};
 ghost use Rattle.std.specs.Prelude.{flat_map, length, take};
 ghost use Rattle.ksm_order.specs.Listed.{AreBefore, AreBehind, AreParts, IsPartOf, is_at, is_from, key_at, many, marked, up_to};
@@ -228,6 +230,7 @@ fn put<P: Part>(
 }
 
 /// Takes the item of a key out of a part, and answers how many items fewer are marked.
+#[tactic(auto, using(crate::proofs::Changes::many_without))]
 fn remove_from<P: Part>(part: &mut P, key: u64) -> usize
     ensures removed { P.items part.new ≡ without key (P.items part.old) }
     ensures fewer { result + many (P.items part.new) ≡ many (P.items part.old) }

@@ -1,10 +1,6 @@
 use Rattle.std.proofs.Common.{arith}
-use Rattle.ksm_order.proofs.Parts.{find_in_part}
 use Rattle.ksm_order.proofs.Changes.{local_with, same_part, set_part, with_filled}
 use Rattle.ksm_order.proofs.node.put_in.Goals as goal
-
-pub insert-requires : goal.insert-requires
-insert-requires g c = record { absent = grind (arith, find_in_part c.requires.place c.index_mut.ensures.value) }
 
 pub returns-in_err-insert : goal.returns-in_err-insert
 returns-in_err-insert g c =

@@ -1,10 +1,7 @@
 use Rattle.std.proofs.Common.{arith}
 use Rattle.std.specs.Prelude.{flat_map}
-use Rattle.ksm_order.proofs.Parts.{many_front, up_to_few, up_to_in_part}
+use Rattle.ksm_order.proofs.Parts.{up_to_few, up_to_in_part}
 use Rattle.ksm_order.proofs.node.up_to_in.Goals as goal
-
-pub count_marked-requires : goal.count_marked-requires
-count_marked-requires g c = omega (arith, many_front g.P.Part.items c.args.parts.now c.part_of-at.result)
 
 pub overflow_add-result : goal.overflow_add-result
 overflow_add-result g c =

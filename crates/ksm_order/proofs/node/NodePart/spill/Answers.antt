@@ -4,21 +4,21 @@ use Rattle.ksm_order.proofs.node.NodePart.spill.Goals as goal
 
 pub count_marked-count-requires : goal.count_marked-count-requires
 count_marked-count-requires g c =
-    grind (arith, c.in_ok-parts.ensures.tail, parts_cut c.self.invariant.0 c.self.invariant.1 c.cut_for-at.result)
+    grind (arith, c.in_ok-parts.ensures.tail, parts_cut c.self.invariant c.cut_for-at.result)
 
 pub overflow_sub-self : goal.overflow_sub-self
 overflow_sub-self g c =
-    grind (arith, c.in_ok-parts.ensures.tail, parts_cut c.self.invariant.0 c.self.invariant.1 c.cut_for-at.result)
+    grind (arith, c.in_ok-parts.ensures.tail, parts_cut c.self.invariant c.cut_for-at.result)
 
 pub invariant_of-result : goal.invariant_of-result
 invariant_of-result g c =
-    grind (arith, c.in_ok-parts.ensures.tail, parts_cut c.self.invariant.0 c.self.invariant.1 c.cut_for-at.result)
+    grind (arith, c.in_ok-parts.ensures.tail, parts_cut c.self.invariant c.cut_for-at.result)
 
 pub invariant_of-self-2 : goal.invariant_of-self-2
 invariant_of-self-2 g c =
-    grind (arith, c.in_ok-parts.ensures.tail, c.in_ok-parts.ensures.items, parts_cut c.self.invariant.0 c.self.invariant.1 c.cut_for-at.result)
+    grind (arith, c.in_ok-parts.ensures.tail, c.in_ok-parts.ensures.items, parts_cut c.self.invariant c.cut_for-at.result)
 
 pub returns-clause-cut : goal.returns-clause-cut
 returns-clause-cut g c =
     rw (← c.self.view_is, c.in_ok-parts.ensures.items, c.in_ok-parts.ensures.tail)
-    (items_cut c.self.invariant.0 c.self.invariant.1 c.cut_for-at.result c.cut_for-at.ensures.some (omega (arith, ap length c.as_slice.ensures.value)))
+    (items_cut c.self.invariant c.cut_for-at.result c.cut_for-at.ensures.some (omega (arith, ap length c.as_slice.ensures.value)))
