@@ -27,19 +27,15 @@ module _ (may : Dup → Bool) where
   through : (e b d : Dup) → may b ≡ true → rival e b ≡ true → rival b d ≡ true → rival e d ≡ true
   through e b d passes above r = grind arith
 
-  -- a dup that b is no worse than changes nothing behind b
-  passed_by : (b d : Dup) (dups : List Dup) → may b ≡ true → rival b d ≡ true → find (top (b ∷ dups)) (b ∷ dups) ≡ find (top (b ∷ d ∷ dups)) (b ∷ d ∷ dups)
-  passed_by b d dups first r =
-      let same : (e : Dup) → top (b ∷ dups) e ≡ top (b ∷ d ∷ dups) e = λ e. grind (arith, through e b d first) in
-      let other : top (b ∷ dups) b ≡ false → top (b ∷ dups) d ≡ false = λ fails. grind (arith, nat_tests) in
-      grind (arith, other) ∙ (λ i. find (λ e. same e i) (b ∷ d ∷ dups))
-
   -- a walk from a dup on ends at the best of it and the others
   walk_from : (b : Dup) (dups : List Dup) → may b ≡ true → walked (Some b) dups ≡ find (top (b ∷ dups)) (b ∷ dups)
   walk_from b [] first = grind arith
   walk_from b (d ∷ dups) first =
       elim (cases_Bool (rival b d)) [
-        | inl above ↦ grind (arith, walk_from b dups first) ∙ passed_by b d _ first above
+        | inl above ↦
+            let same : (e : Dup) → top (b ∷ dups) e ≡ top (b ∷ d ∷ dups) e = λ e. grind (arith, through e b d first) in
+            let other : top (b ∷ dups) b ≡ false → top (b ∷ dups) d ≡ false = λ fails. grind (arith, nat_tests) in
+            grind arith ∙ walk_from b dups first ∙ grind (arith, other) ∙ (λ i. find (λ e. same e i) (b ∷ d ∷ dups))
         | inr worse ↦
             let passes : may d ≡ true = grind arith in
             let over = λ (e : Dup). through e d b passes in

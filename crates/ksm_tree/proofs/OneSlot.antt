@@ -57,7 +57,7 @@ slot_emptied k p (suc i) (s ∷ slots) is placed =
     grind (arith, slot_emptied (suc k) p i slots (omega arith) (behind k s slots placed))
 
 -- a change of the items in a slot is seen as that change of the dup at its place
-slot_changed : (k p i : ℕ) (slots : Slots) (f : List GuestPage → List GuestPage) → p ≡ k + i → ArePlaced k slots
+pub slot_changed : (k p i : ℕ) (slots : Slots) (f : List GuestPage → List GuestPage) → p ≡ k + i → ArePlaced k slots
     → present (set slots i (option_map (change_items_of f) (get_or slots i None))) ≡ change_at p f (present slots)
 slot_changed k p i [] f is placed = refl
 slot_changed k p zero (s ∷ slots) f is placed =
@@ -173,10 +173,6 @@ module _ (p : ℕ) (shelf : ShelfState) {s : SlotsState} (view : slots_seen shel
   pub seen_within : is_some (dup_at p s.dups) ≡ true → p < length shelf.slots
   seen_within known = grind (arith, get_or_past, seen_slot)
 
--- a change of the items in a slot is seen as that change of the dup at its place
-pub view_changed : (p : ℕ) (old new : ShelfState) {s : SlotsState} (f : List GuestPage → List GuestPage) → slots_seen old ≡ s → ArePlaced 0 old.slots → new.slots ≡ change_slot p f old.slots → slots_seen new ≡ record s { dups = change_at p f s.dups; ready = new.ready }
-view_changed p old new f view placed is = grind (arith, length-set, slot_changed)
-
 -- items of which a page is one are not none
 pub had_item : (page : GuestPage) (pages : List GuestPage) → has_item page pages ≡ true → (length pages == 0) ≡ false
 had_item page [] found = grind arith
@@ -192,4 +188,4 @@ pub slots_same : (p : ℕ) (page : GuestPage) (slots : Slots) → has_item page 
 slots_same p page slots absent = grind (arith, same_items, set-get_or)
 
 -- what the slots say of the dups that are seen
-pub ruleset steps = (first_empty, first_stale, length-map, length-set, may_be_marked, seen_slot, seen_within, slot_emptied, slot_put, view_changed)
+pub ruleset steps = (first_empty, first_stale, length-map, length-set, may_be_marked, seen_slot, seen_within, slot_emptied, slot_put, slot_changed)

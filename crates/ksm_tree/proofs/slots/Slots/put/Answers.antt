@@ -2,9 +2,6 @@ use Rattle.ksm_tree.proofs.Names.{arith, refl, Some}
 use Rattle.ksm_tree.proofs.OneSlot.{seen_slot, slots_set}
 use Rattle.ksm_tree.proofs.slots.Slots.put.Goals as goal
 
-pub put-requires-clause-vacant : goal.put-requires-clause-vacant
-put-requires-clause-vacant c = grind (arith, seen_slot)
-
 pub invariant_of-self : goal.invariant_of-self
 invariant_of-self c = rw (c.put.ensures, c.set.ensures)
     (slots_set c.self.invariant _ (Some c.args.dup) (grind arith) c.len.ensures.count (refl, tt) c.mark.ensures
