@@ -154,11 +154,6 @@ module _ {slots : Slots} {counts : List ℕ} {empty stale : CountedSet} (h : Are
       let at = stands p _ f _ (slot_found 0 p p slots (omega arith) h.placed) in
       slots_set p _ within (grind arith) at (grind (arith, h.empties)) (grind arith)
 
-  -- the slots are right once the items of one dup changed, which is stale if it was
-  pub slots_kept : (p : ℕ) {n : ℕ} (f : List GuestPage → List GuestPage) → is_some (get_or slots p None) ≡ true → n ≡ length (f (items_in (get_or slots p None)))
-      → (n == 0) ≡ holds is_stale (get_or slots p None) → AreSlots (change_slot p f slots) (set counts p n) empty stale
-  slots_kept p f some is same = slots_changed p f some is (grind (arith, get_or_past, h.stales))
-
 -- items with one more are not none, and were not where they are not one
 pub grown : (page : GuestPage) (pages : List GuestPage) {n : ℕ} → n ≡ length (with_item page pages) → ((n == 0) ≡ false) × ((n ≡ 1 → ⊥) → (length pages == 0) ≡ false)
 grown page [] is = grind arith

@@ -1,5 +1,5 @@
 -- What a change of one key, or of what lies under it, does to the slots of a shelf.
-use Rattle.ksm_tree.proofs.Names.{ap, arith, change_items_of, change_slot, Dup, get, get_or, get_or_default, get_or_past, get_or-replicate, get_or-set_other, get_or-set_same, GuestPage, has_room}
+use Rattle.ksm_tree.proofs.Names.{Updates-with_value, with_value, ap, arith, change_items_of, change_slot, Dup, get, get_or, get_or_default, get_or_past, get_or-replicate, get_or-set_other, get_or-set_same, GuestPage, has_room}
 use Rattle.ksm_tree.proofs.Names.{is_some, items_in, Kept, kept_at, length, length-set, List, None, Option, replicate, set, set-get_or, ShelfState, Slab, slots_by, Some, sym, true, ℕ, [], ◌<◌}
 use Rattle.ksm_tree.proofs.Names.{length-replicate, ◌∙◌, ◌≡◌, ◌≢◌, ◌≤◌}
 use Rattle.std.proofs.lemmas.List.FromFn.{fill_by_all, get_or-map-range_with_len, length-map-range_with_len}
@@ -70,8 +70,10 @@ module _ (p : ℕ) (keys : List ℕ) (dups : Slab Kept) {s : ShelfState} (view :
     emptied fills = moved fills (λ kept none. grind arith)
 
     -- a dup that changes under its key, and stays at its place, changes in its slot
-    pub changed : {new : Slab Kept} {was kept : Kept} (f : List GuestPage → List GuestPage) → Some was ≡ get dups key → kept.dup ≡ change_items_of f was.dup → Fills dups new key (Some kept) → slots_by keys new ≡ change_slot p f s.slots
-    changed {new} {was} {kept} f stood now fills = grind (arith, leads, moved fills (λ k is. grind (arith, leads)))
+    pub changed : {was : Kept} (kept : Kept) (f : List GuestPage → List GuestPage) → Some was ≡ get dups key → kept.dup ≡ change_items_of f was.dup → slots_by keys (with_value dups key kept) ≡ change_slot p f s.slots
+    changed kept f stood now =
+        let fills = Updates-with_value dups key kept (sym (ap is_some stood)) in
+        grind (arith, leads, moved fills (λ k is. grind (arith, leads)))
 
 -- where every key leads to nothing, each place is empty
 pub none_by : (n : ℕ) (dups : Slab Kept) → dups.slots ≡ [] → slots_by (replicate n 0) dups ≡ replicate n None
@@ -83,4 +85,4 @@ pub same_slots : (keys : List ℕ) (old : Slab Kept) {new : Slab Kept} {s : Shel
 same_slots keys old view is = ap (slots_by keys) is ∙ ap (λ t. t.slots) view
 
 -- what the keys say of the slots
-pub ruleset steps = (items_there, not_none, emptied, filled_key, many, none_by, same_slots, seen_by, seen_past)
+pub ruleset steps = (changed, items_there, not_none, emptied, filled_key, many, none_by, same_slots, seen_by, seen_past)

@@ -1,5 +1,5 @@
-use Rattle.ksm_tree.proofs.Names.{arith, get_or, items_in, None, with_item}
-use Rattle.ksm_tree.proofs.OneSlot.{grown, seen_slot, slots_changed, slots_kept}
+use Rattle.ksm_tree.proofs.Names.{arith, get_or, get_or_past, items_in, None, with_item}
+use Rattle.ksm_tree.proofs.OneSlot.{grown, seen_slot, slots_changed}
 use Rattle.ksm_tree.proofs.slots.Slots.add_item.Goals as goal
 
 pub invariant_of-self-then-count-eq1 : goal.invariant_of-self-then-count-eq1
@@ -12,5 +12,5 @@ invariant_of-self-else-count-eq1 c =
     let more = grown c.args.page (items_in (get_or c.self.inside.dups.slots c.args.place None))
     c.in_ok-count.ensures.count in
     rw (c.in_ok-count.ensures.added, c.set.ensures)
-    (slots_kept c.self.invariant c.args.place (with_item c.args.page) (grind (arith, seen_slot))
-    c.in_ok-count.ensures.count (grind (arith, more)))
+    (slots_changed c.self.invariant c.args.place (with_item c.args.page) (grind (arith, seen_slot))
+    c.in_ok-count.ensures.count (grind (arith, more, seen_slot, get_or_past, c.self.invariant.stales)))
