@@ -1,5 +1,5 @@
 -- The pages in order as the items that are kept for them: what stands before a key, what comes behind it, and in between.
-use Rattle.ksm_pages.proofs.Names.{after_cursor, All, All-head, All-tail, ap, arith, Bool, comes_before, count_by, count_none, drop, false, filter, filter_all, find, get_or, GuestPage, if◌then◌else◌}
+use Rattle.ksm_pages.proofs.Names.{after_cursor, All, All-head, All-tail, ap, arith, Bool, comes_before, count_by, count_none, drop, false, filter, filter_all, find, find_all, get_or, GuestPage, IfSome, if◌then◌else◌}
 use Rattle.ksm_pages.proofs.Names.{is_of, is_some, key_of, last_of, length, length-filter, length-map, List, map, map-append, marked, Named, named_by, nat_lt, nat_tests, None, not, Option, option_map, page_of}
 use Rattle.ksm_pages.proofs.Names.{pages_behind, pages_between, pairs_head, pairs_tail, refl, rules, slice_get, slice_get-get_or, slice_get-map, slice_get_past, Some, suc, sym, take, true, visited}
 use Rattle.ksm_pages.proofs.Names.{with_named, zero, ℕ, [], ◌&&◌, ◌+◌, ◌-◌, ◌<◌, ◌^◌, ◌∙◌, ◌∷◌, ◌≡◌, ◌≤◌}
@@ -41,6 +41,12 @@ Less x y = x.key < y.key
 pub found_by : (page : GuestPage) → page.page < 2 ^ 32 → (items : List Item)
     → find (is_of page) (map named_by items) ≡ option_map named_by (find (is_at (key_of page)) items)
 found_by page few items = grind (arith, find_mapped, is_its)
+
+-- what a search of items finds has a key as small as each of them
+pub found_small : (p : Item → Bool) (items : List Item) → All (λ x. x.key < 2 ^ 48) items → (o : Option Item) → o ≡ find p items
+    → IfSome o (λ x. x.key < 2 ^ 48)
+found_small p items small None is = tt
+found_small p items small (Some x) is = find_all p (λ y. y.key < 2 ^ 48) items x (sym is) small
 
 pub marked_by : (page : GuestPage) → page.page < 2 ^ 32 → (mark : Bool) → (items : List Item)
     → marked page mark (map named_by items) ≡ map named_by (with_mark (key_of page) mark items)

@@ -1,6 +1,6 @@
 //! All pages in order, with rank: a page is found by a search, and the visits of a scan are counted, not walked.
-ghost use Rattle.std.specs.Prelude.{◌≡◌, ℕ, ◌≤◌, ◌<◌, ◌^◌, [], true, None, IfErr, OnErr, OnOk};
-ghost use Rattle.std.specs.Prelude.{count_by, drop, find, is_some, length, nat_lt, not};
+ghost use Rattle.std.specs.Prelude.{◌≡◌, ℕ, ◌≤◌, ◌<◌, ◌^◌, [], true, None, IfErr, IfSome, OnErr, OnOk};
+ghost use Rattle.std.specs.Prelude.{count_by, drop, find, is_some, length, nat_lt, not, option_map};
 ghost use Rattle.ksm_base.specs.declared.page.GuestPage.{GuestPage};
 ghost use Rattle.ksm_base.specs.Visit.{after_cursor};
 ghost use Rattle.ksm_pages.specs.Ahead.{EndsAt, last_of, pages_behind, pages_between};
@@ -51,16 +51,17 @@ fn from_of(cursor: Option<GuestPage>) -> u64
     }
 }
 
-/// An item as it is seen.
-fn named_by(item: Item) -> Named
-    requires { item.key < 2 ^ 48 }
-    ensures { result ≡ named_by item }
+/// An item as it is seen, if there is one.
+fn named_by(item: Option<Item>) -> Option<Named>
+    requires { IfSome item (λ x. x.key < 2 ^ 48) }
+    ensures { result ≡ option_map named_by item }
 {
-    Named {
+    let item = item?;
+    Some(Named {
         page: page_of(item.key),
         key: item.value,
         mergeable: item.marked,
-    }
+    })
 }
 
 impl<P: Part> Order<P> {
@@ -92,20 +93,14 @@ impl<P: Part> Order<P> {
     pub fn find(&self, page: GuestPage) -> Option<Named>
         ensures { result ≡ find (is_of page) self.now }
     {
-        match self.pages.find(key_of(page)) {
-            Some(item) => Some(named_by(item)),
-            None => None,
-        }
+        named_by(self.pages.find(key_of(page)))
     }
 
     /// The first page behind a cursor.
     pub fn after(&self, cursor: Option<GuestPage>) -> Option<Named>
         ensures { result ≡ find (λ n. after_cursor cursor n.page) self.now }
     {
-        match self.pages.first_from(from_of(cursor)) {
-            Some(item) => Some(named_by(item)),
-            None => None,
-        }
+        named_by(self.pages.first_from(from_of(cursor)))
     }
 
     /// Adds a page that is not there, for a scan to visit. The one fault is `Memory`, and then nothing changes.
