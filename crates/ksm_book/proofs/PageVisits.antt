@@ -3,7 +3,7 @@ use Rattle.ksm_book.proofs.Names.{All, arith, BookState, BookValue, BookView, ch
 use Rattle.ksm_book.proofs.Names.{IsLaid, IsSound, KeeperView, List, map, map_mapped, None, Option, page_visited, PagesView, partner, refl, Row, row_visited, row_visiting, same_page}
 use Rattle.ksm_book.proofs.Names.{settled, shared_state, state_of, sym, true, view_of, VisitsPage, Waiting, ℕ, ◌≡◌}
 use Rattle.ksm_pages.specs.declared.pages.Find.TheVariants as finds
-use Rattle.ksm_pages.specs.Paged.{Finds, visited as row_changed}
+use Rattle.ksm_pages.specs.Paged.{Finds, changed as row_changed}
 use Rattle.ksm_base.specs.declared.row.PageState.TheVariants.{Private}
 use Rattle.ksm_book.specs.Scanned.{StaysStill}
 use Rattle.ksm_book.proofs.ByPage.{row_of_page}

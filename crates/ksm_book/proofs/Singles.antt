@@ -1,10 +1,9 @@
 -- The commands on single pages, and on one dup, carried out.
-use Rattle.ksm_pages.specs.Paged.{HasRow}
-use Rattle.ksm_base.specs.Rows.{private_state}
+use Rattle.ksm_pages.specs.Paged.{IsAlone}
 use Rattle.ksm_book.proofs.Names.{absent_parts, All, Answer, ap, arith, BookState, BookValue, BookView, change_row, comes_before, Command, Done, Drop, DupRow, Err, false, filter, filter_passes}
 use Rattle.ksm_book.proofs.Names.{find_passes, find_put, FindsNone, frame_at, frames_of, fresh_row, GuestPage, HasNewFrame, HasRemounted, Held, holding, Houses, IfSome, if◌then◌else◌, inl}
 use Rattle.ksm_book.proofs.Names.{InPageOrder, is_some, IsCarried, IsHeld, IsLaid, IsReadable, IsSound, IsWritable, KeeperView, leaving, length, lies_on, List, live_dup_at, lying, MakesSteps}
-use Rattle.ksm_book.proofs.Names.{map_fixed, MayLeave, MayMove, MoveDup, MovePage, nat_le, NoFrame, None, Ok, on_its_own, Option, ordered_with, PAGE_WORDS, pages_ordered, PagesView, Provides, puts}
+use Rattle.ksm_book.proofs.Names.{map_fixed, MayLeave, MayMove, MoveDup, MovePage, nat_le, NoFrame, None, Ok, on_its_own, Option, PAGE_WORDS, pages_ordered, PagesView, Provides, puts}
 use Rattle.ksm_book.proofs.Names.{refl, Register, Resettled, Resettles, Row, row_at, same_page, same_page_refl, shared_state, Some, sound_after, state_of, stepped, Store, stored, true, view_of}
 use Rattle.ksm_book.proofs.Names.{with_frame, with_row, without_between, without_page, ℕ, [], ◌<◌, ◌==◌, ◌∙◌, ◌∷◌, ◌≡◌, ◌≤◌}
 use Rattle.ksm_base.specs.declared.row.PageState.TheVariants.{Private}
@@ -175,16 +174,14 @@ module _ {p m : PagesView} {page : GuestPage} {node : ℕ} {bytes : List ℕ} (n
   pub come_known : is_some (row_at page m.rows) ≡ true
   come_known = grind (arith, found_fresh)
 
-  -- and that is Private
-  pub come_private : HasRow page m.rows (λ r. private_state r.state ≡ true)
-  come_private = grind (arith, found_fresh)
+  -- and a frame of its own
+  pub come_alone : IsAlone page m.rows
+  come_alone = grind (arith, found_fresh)
 
   -- `Register` is carried out, and all lies lawfully, where the page comes on a frame taken with its bytes
-  pub register_come : {k l : KeeperView} {cursor : Option GuestPage} {passes : ℕ} {q : PagesView} {g : ℕ} → IsLaid p k → q ≡ record m { rows = change_row page on_its_own m.rows; frame = lies_on page (Some g) m.frame } → Provides k l node bytes g → HasNewFrame k l node bytes g
+  pub register_come : {k l : KeeperView} {cursor : Option GuestPage} {passes : ℕ} {q : PagesView} {g : ℕ} → IsLaid p k → q ≡ record m { frame = lies_on page (Some g) m.frame } → Provides k l node bytes g → HasNewFrame k l node bytes g
       → Carries p k q l cursor passes (Register page node bytes) (Ok Done)
   register_come {l = l} {q = q} {g} h goes provides taken =
-      let one = row_of_page _ _ _ (ordered_with _ _ new.rise) found_fresh in
-      let rows = change_still page on_its_own (with_row fresh p.rows) (grind arith) in
       let there : q ≡ record p { rows = with_row fresh p.rows; frame = lies_on page (Some g) p.frame } =
       grind (arith, goes, new.comes, new.others, lies_again) in (
         grind arith,

@@ -1,9 +1,10 @@
 -- The pages once the stale dup at a place went.
-use Rattle.ksm_pages.proofs.Names.{All, All-filter, All-head, All-tail, all_rows, ap, AreAlone, AreTied, arith, Bool, Dup, dup_at, dup_numbered, DupRow, elsewhere, eq-eqb, eqb-true, false, filter, filter_all, find}
+use Rattle.ksm_pages.proofs.Names.{All, All-filter, all_rows, ap, AreAlone, AreTied, arith, Bool, Dup, dup_at, dup_numbered, DupRow, elsewhere, eq-eqb, eqb-true, false, filter, filter_all, find}
 use Rattle.ksm_pages.proofs.Names.{find_all, find_none, find_nothing, find_passes, frame_of, frame_seen, get_or, GuestPage, Held, in_group, is_live, is_some, is_stale, IsVacant, item_count, Knobs, length, List}
-use Rattle.ksm_pages.proofs.Names.{list_any, lodging, lodgings_of, Merged, merged_into, nat_lt, nat_tests, None, none_counted, not, Option, option_map, PageState, refl, Row, row_at, rows_of, rows_without, Some}
-use Rattle.ksm_pages.proofs.Names.{stands_at, sym, tied_counted, tree_of, true, ℕ, [], ◌&&◌, ◌==◌, ◌∙◌, ◌∷◌, ◌≡◌}
+use Rattle.ksm_pages.proofs.Names.{list_any, lodging, lodgings_of, Merged, merged_into, nat_tests, None, none_counted, not, Option, option_map, PageState, Row, row_at, rows_of, rows_without, Some}
+use Rattle.ksm_pages.proofs.Names.{stands_at, sym, tied_counted, tree_of, true, ℕ, ◌&&◌, ◌==◌, ◌∙◌, ◌≡◌}
 use Rattle.ksm_tree.specs.Dups.{rows_of as dup_rows, without_place}
+use Rattle.ksm_tree.proofs.Alike.{find_alike}
 use Rattle.ksm_pages.proofs.Changing.{row_found}
 use Rattle.ksm_pages.proofs.Found.{find_kept}
 use Rattle.ksm_pages.proofs.Lodgings.{frame_by, seat}
@@ -17,20 +18,14 @@ vacant_stale {place} rows dups tied vacant k e lt at =
     let none = all_rows (λ r. r.place ≡ place → item_count rows r ≡ 0) dups vacant k e lt (eqb-true d.row.place place at) in
     eq-eqb (length d.items) 0 (tied_counted rows _ tied k e lt ∙ none)
 
-found_stale : (place : ℕ) (dups : List Dup) → All (λ d. stands_at place d ≡ true → is_stale d ≡ true) dups
-    → find (λ d. stands_at place d && is_stale d) dups ≡ dup_at place dups
-found_stale place [] stale = refl
-found_stale place (d ∷ dups) stale =
-    let here = All-head (λ e. stands_at place e ≡ true → is_stale e ≡ true) d dups stale in
-    let rest = found_stale place dups (All-tail (λ e. stands_at place e ≡ true → is_stale e ≡ true) d dups stale) in
-    grind arith
-
 -- the dup at a vacant place is stale
 pub stale_there : {place : ℕ} (rows : List Row) (dups : List Dup) → AreTied rows dups → IsVacant place rows (dup_rows dups)
     → is_some (option_map (λ d. d.row.number) (dup_at place dups)) ≡ true
     → is_some (find (λ d. stands_at place d && is_stale d) dups) ≡ true
-stale_there rows dups tied vacant there = ap is_some (found_stale _ _ (vacant_stale rows _ tied vacant))
-    ∙ sym (some_mapped _ _) ∙ there
+stale_there {place} rows dups tied vacant there =
+    let same = find_alike (λ d. stands_at place d && is_stale d) (stands_at place) dups
+    (λ k e lt. grind (arith, vacant_stale rows dups tied vacant k e lt)) in
+    ap is_some same ∙ sym (some_mapped _ _) ∙ there
 
 -- where no dup stands at a place, all stand elsewhere
 pub all_elsewhere : (place : ℕ) {ds : List DupRow} → list_any (λ d. d.place == place) ds ≡ false → filter (elsewhere place) ds ≡ ds
@@ -41,11 +36,8 @@ all_elsewhere place none =
 -- no dup with items stands at a vacant place
 pub none_live : {place : ℕ} (rows : List Row) (dups : List Dup) → AreTied rows dups → IsVacant place rows (dup_rows dups)
     → find (λ d. stands_at place d && is_live d) dups ≡ None
-none_live rows dups tied vacant =
-    find_nothing _ _ (λ k e lt. live_or_stale _ _ (vacant_stale rows _ tied vacant k e lt))
-  where
-    live_or_stale : (at : Bool) (n : ℕ) → (at ≡ true → (n == 0) ≡ true) → (at && nat_lt 0 n) ≡ false
-    live_or_stale at n stale = grind arith
+none_live {place} rows dups tied vacant =
+    find_nothing (λ d. stands_at place d && is_live d) dups (λ k e lt. grind (arith, nat_tests, vacant_stale rows dups tied vacant k e lt))
 
 -- the dup into which a row is merged stands at no vacant place
 pub not_vacant : (rows : List Row) (dups : List DupRow) {place n : ℕ} (page : GuestPage) {r : Row} → IsVacant place rows dups

@@ -1,9 +1,9 @@
 -- The pages once a page with a frame of its own joined a dup.
 use Rattle.ksm_tree.specs.Dups.{has_number, items_of as items_numbered, rows_of as dup_rows}
-use Rattle.ksm_pages.proofs.Names.{All, ap, arith, change_held, change_items, change_row, count_by, Dup, dup_of, DupRow, DupsState, each_at_page, Entry, false, find_none, frame_of, frame_seen, GuestPage, HasRoom}
+use Rattle.ksm_pages.proofs.Names.{All, ap, arith, change_items, count_by, Dup, dup_of, DupRow, DupsState, each_at_page, Entry, false, find_none, frame_of, frame_seen, GuestPage, HasRoom}
 use Rattle.ksm_pages.proofs.Names.{Held, held_at, held_of, InPageOrder, Inside, is_some, length, let_out, lies_on, List, lodgings_of, Merged, merged_into, merged_state}
 use Rattle.ksm_pages.proofs.Names.{MOST_REFERENCES, nat_tests, None, number_found, Option, option_map, PageState, PagesValue, refl, Row, row_found, rows_items, rows_of, RowsView, seen, shared_state, shares}
-use Rattle.ksm_pages.proofs.Names.{Some, subst, sym, tied_count, tied_joined, true, with_item, ℕ, ◌<◌, ◌==◌, ◌∙◌, ◌≡◌}
+use Rattle.ksm_pages.proofs.Names.{Some, subst, sym, tied_count, tied_joined, true, with_item, ℕ, ◌<◌, ◌==◌, ◌∙◌, ◌≡◌, altered, changed, relaid}
 use Rattle.ksm_pages.proofs.Changing.{row_found as found_rows}
 use Rattle.ksm_pages.proofs.Leaving.{AreLawful, Comes, held_as, of_dup, of_page, row_there, turned_so, view_of}
 use Rattle.ksm_pages.proofs.Lodgings.{frame_by, seat}
@@ -67,13 +67,10 @@ own_seat of pass e alone = grind arith
 module _ (s : Inside) (are : AreLawful s) (page : GuestPage) {h : Held} (found : held_at page s.rows.held ≡ Some h)
     (alone : shared_state h.row.state ≡ false) (number : ℕ)
     {later : DupsState} (into : later ≡ record s.dups { dups = change_items number (with_item page) s.dups.dups })
-    {rows : RowsView} (turned : rows ≡ record s.rows { held = change_held page (shares (Merged number)) s.rows.held })
+    {rows : RowsView} (turned : rows ≡ altered page (shares (Merged number)) s.rows)
     {p : PagesValue} (seen_as : view_of s ≡ p) where
   -- once a page with a frame of its own joined a dup, the pages are lawful, and the page lies where the dup's items do
-  pub joins : Comes s rows later (record (seen p) {
-    rows = change_row page (λ r. record r { state = Merged number }) p.rows;
-    frame = lies_on page (of_dup s number) (frame_of p.lodgings);
-  })
+  pub joins : Comes s rows later (relaid page (λ r. record r { state = Merged number }) (of_dup s number) (seen p))
   joins =
       turned_so s are page found seen_as rows (shares (Merged number)) (λ r. record r { state = Merged number })
       (λ x. refl) (λ r. refl) (held_as turned) into (rows_items _ _ _) _ refl
@@ -82,7 +79,7 @@ module _ (s : Inside) (are : AreLawful s) (page : GuestPage) {h : Held} (found :
 
   -- but for the row and the frame of the page, all is seen as it was, and the page lies where each item does
   pub told_joined : let now = seen (view_of (record s { rows = rows; dups = later })) in
-      (now ≡ record (seen p) { rows = change_row page (λ r. record r { state = Merged number }) p.rows; frame = now.frame })
+      (now ≡ record (changed page (λ r. record r { state = Merged number }) (seen p)) { frame = now.frame })
       × All (λ r. merged_into number r.state ≡ true → now.frame ≡ lies_on page ((seen p).frame r.page) (seen p).frame) p.rows
   told_joined =
       let lain = subst (λ (v : PagesValue). All

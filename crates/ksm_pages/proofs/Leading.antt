@@ -97,7 +97,7 @@ untouched u old at keys is there =
     (same.0 ∙ set_own old.places.items at keys there, same.1)
 
 -- what stands at a place of a list once another thing is written at one of its places
-get_set : {X : Type 0} (xs : List X) (i j : ℕ) (x : X)
+pub get_set : {X : Type 0} (xs : List X) (i j : ℕ) (x : X)
     → slice_get (set xs i x) j ≡ (if i == j && nat_lt j (length xs) then Some x else slice_get xs j)
 get_set [] i j x = grind arith
 get_set (y ∷ ys) zero zero x = grind arith

@@ -1,7 +1,7 @@
 -- The pages once the row of one page changed, or went: they are lawful still, and what is seen of them is changed so.
 use Rattle.ksm_pages.proofs.Names.{ap, AreAlone, AreKept, AreTied, arith, change_held, change_row, Dup, DupsState, false, find_passes, frame_of, Frames, GuestPage, Held, held_at, InPageOrder}
 use Rattle.ksm_pages.proofs.Names.{Inside, is_some, IsAlone, IsKnown, lies_on, List, lodging, lodgings_of, MatchOption, None, Option, option_map, ordered_change, PagesValue, PagesView, Row}
-use Rattle.ksm_pages.proofs.Names.{row_at, rows_of, RowsView, same_page_eq, seen, shared_state, Some, subst, sym, true, ℕ, ◌∙◌, ◌≡◌}
+use Rattle.ksm_pages.proofs.Names.{row_at, rows_of, RowsView, same_page_eq, seen, shared_state, Some, subst, sym, true, ℕ, ◌∙◌, ◌≡◌, relaid}
 use Rattle.ksm_tree.specs.Dups.{rows_of as dup_rows}
 use Rattle.ksm_pages.proofs.Changing.{row_told, rows_changed}
 use Rattle.ksm_pages.proofs.Lodgings.{changed_to, frame_by, lodged_changed, seat}
@@ -120,7 +120,7 @@ module _ (s : Inside) (are : AreLawful s) (page : GuestPage) {h : Held} (found :
         → AreTied (change_row page (λ _. to old) (rows_of s.rows.held)) ds
         → (IsLone s.knobs (dup_rows s.dups.dups) h → IsLone s.knobs (dup_rows s.dups.dups) (f h)) → {frame : Option ℕ}
         → seat (of_dup s) (Some (f h)) ≡ frame
-        → Comes s rows later (record (seen p) { rows = change_row page to p.rows; frame = lies_on page frame (frame_of p.lodgings) })
+        → Comes s rows later (relaid page to frame (seen p))
     turned_so f g is same turned rest alike to agree tied lone lodged =
         let before = rows_of s.rows.held in
         let by_g = rows_changed _ f g _ is in

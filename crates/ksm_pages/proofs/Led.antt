@@ -81,88 +81,63 @@ abbrev pub StayIn : Slab Entry → Slab Entry → Type 0
 StayIn slab later = (k : ℕ) (e : Entry) → get later k ≡ Some e → is_in e.in_tree ≡ true
     → (d : Entry) × (get slab k ≡ Some d) × (is_in d.in_tree ≡ true) × (e.home ≡ d.home) × (e.bytes ≡ d.bytes)
 
-module _ (by_node : Bool) (slab later : Slab Entry) (stay : StayIn slab later) where
-  -- no more entries stand with a tree and bytes than before
-  stand_less : (t : ℕ) (b : List ℕ) (k : ℕ) → stands_under by_node later t b k ≡ true → stands_under by_node slab t b k ≡ true
-  stand_less t b k stands = go _ refl
-    where
-      go : (o : Option Entry) → get later k ≡ o → stands_under by_node slab t b k ≡ true
-      go None none = grind arith
-      go (Some e) is = grind (arith, stay k e is)
-
-  -- where the tree leads, in the slab before, to each entry that is in it later, it leads to these in the later slab
-  pub led_by : (u : UnstableTree)
-      → ((k : ℕ) (e : Entry) → get later k ≡ Some e → is_in e.in_tree ≡ true → holder by_node slab u (tree_by by_node e.home) e.bytes ≡ Some k)
-      → AreLed by_node later u
-  led_by u led k e is in_tree =
-      let before = led k e is in_tree in
-      let stood = holder_stands by_node slab u (tree_by by_node e.home) e.bytes before in
-      holder_less by_node slab u (tree_by by_node e.home) e.bytes before later (stand_less (tree_by by_node e.home) e.bytes)
-      (grind (arith, bytes_eq-Decides e.bytes e.bytes))
-
-  -- where the tree led to all entries that are in it, it does so later
-  pub led_still : (u : UnstableTree) → AreLed by_node slab u → AreLed by_node later u
-  led_still u led = led_by u (λ k e is in_tree. grind (arith, stay k e is in_tree, led k))
-
--- entries stay in the tree where the slab has another capacity
-pub stay_room : (slab room : Slab Entry) → room ≡ record slab { capacity = room.capacity } → StayIn slab room
-stay_room slab room rest k f is in_tree = (f, (λ i. get (sym rest i) k) ∙ is, in_tree, refl, refl)
-
 -- two numbers are one, or differ
 pub same_or_apart : (m n : ℕ) → (m ≡ n) ⊎ (m ≢ n)
 same_or_apart m n = elim (cases_Bool (m == n)) [ inl same ↦ inl (grind (arith, nat_tests)) | inr other ↦ inr (differ_by other) ]
 
-module _ (slab later : Slab Entry) (key : ℕ) where
-  -- entries stay in the tree where one is written anew that is in it only as before
-  pub stay_written : {d e : Entry} → get slab key ≡ Some d → Fills slab later key (Some e) → StaysLed d e → StayIn slab later
-  stay_written {d} {e} stood fills stays k f is in_tree = elim (same_or_apart k key) [
-    | inl same ↦
-        let at = same_Some f e (sym is ∙ ap (get later) same ∙ fills.changed) in
-        let kept = stays (ap (λ (x : Entry). is_in x.in_tree) (sym at) ∙ in_tree) in (
-          d,
-          ap (get slab) same ∙ stood,
-          kept.0,
-          ap (λ (x : Entry). x.home) at ∙ kept.1,
-          ap (λ (x : Entry). x.bytes) at ∙ kept.2,
-        )
-    | inr apart ↦ (f, sym (fills.others k apart) ∙ is, in_tree, refl, refl)
-  ]
+module _ (by_node : Bool) (slab later : Slab Entry) (u : UnstableTree) (led : AreLed by_node slab u) where
+  -- where the tree led to all entries that are in it, it does so later
+  led_still : StayIn slab later → AreLed by_node later u
+  led_still stay k e is in_tree =
+      let t = tree_by by_node e.home in
+      let before : holder by_node slab u t e.bytes ≡ Some k = grind (arith, stay k e is in_tree, led k) in
+      let stood = holder_stands by_node slab u t e.bytes before in
+      holder_less by_node slab u t e.bytes before later (less t e.bytes) (grind (arith, bytes_eq-Decides e.bytes e.bytes))
+    where
+      less : (t : ℕ) (b : List ℕ) (k : ℕ) → stands_under by_node later t b k ≡ true → stands_under by_node slab t b k ≡ true
+      less t b k stands = go _ refl
+        where
+          go : (o : Option Entry) → get later k ≡ o → stands_under by_node slab t b k ≡ true
+          go None none = grind arith
+          go (Some e) is = grind (arith, stay k e is)
 
-  -- so do all others where one comes that is not in it
-  pub stay_put : {e : Entry} → Fills slab later key (Some e) → is_in e.in_tree ≡ false → StayIn slab later
-  stay_put {e} fills out k f is in_tree = elim (same_or_apart k key) [
-    | inl same ↦ absurd (grind (arith, fills.changed))
-    | inr apart ↦ (f, sym (fills.others k apart) ∙ is, in_tree, refl, refl)
-  ]
+  module _ {key : ℕ} {o : Option Entry} (fills : Fills slab later key o) where
+    led_filled : ((e : Entry) → o ≡ Some e → is_in e.in_tree ≡ true
+        → (d : Entry) × (get slab key ≡ Some d) × (is_in d.in_tree ≡ true) × (e.home ≡ d.home) × (e.bytes ≡ d.bytes)) → AreLed by_node later u
+    led_filled here = led_still (λ k f is in_tree. elim (same_or_apart k key) [
+      | inl same ↦
+          let at = here f (sym fills.changed ∙ ap (get later) (sym same) ∙ is) in_tree in
+          (at.0, ap (get slab) same ∙ at.1, at.2, at.3, at.4)
+      | inr apart ↦ (f, sym (fills.others k apart) ∙ is, in_tree, refl, refl)
+    ])
 
-  -- and where one goes
-  pub stay_gone : Fills slab later key None → StayIn slab later
-  stay_gone fills k f is in_tree = elim (same_or_apart k key) [
-    | inl same ↦ absurd (grind (arith, fills.changed))
-    | inr apart ↦ (f, sym (fills.others k apart) ∙ is, in_tree, refl, refl)
-  ]
+    -- so it does where one entry is written anew that is in it only as before
+    pub led_written : {d e : Entry} → o ≡ Some e → get slab key ≡ Some d → StaysLed d e → AreLed by_node later u
+    led_written {d} {e} here stood stays = led_filled (λ f is in_tree.
+        let now : (is_in d.in_tree ≡ true) × (f.home ≡ d.home) × (f.bytes ≡ d.bytes) = grind (arith, stays, same_Some f e (sym is ∙ here)) in
+        (d, stood, now.0, now.1, now.2))
+
+    -- and where one comes that is not in it, or one goes
+    pub led_out : ((e : Entry) → o ≡ Some e → is_in e.in_tree ≡ false) → AreLed by_node later u
+    led_out out = led_filled (λ f is in_tree. absurd (true≢false (sym in_tree ∙ out f is)))
 
 module _ (slab later : Slab Entry) (g : Entry → Entry) (slots : later.slots ≡ map (option_map g) slab.slots) where
   each_mapped : (k : ℕ) → get later k ≡ option_map g (get slab k)
   each_mapped k = ap (λ xs. get_or xs k None) slots ∙ get_or-map (option_map g) slab.slots k None
 
-  -- entries stay in the tree where each is changed but for its home, its bytes and the tree
-  pub stay_mapped : ((e : Entry) → (g e).in_tree ≡ e.in_tree) → ((e : Entry) → (g e).home ≡ e.home) → ((e : Entry) → (g e).bytes ≡ e.bytes)
-      → StayIn slab later
-  stay_mapped in_same home_same bytes_same k f is in_tree =
-      let at = mapped_some _ _ (sym (each_mapped k) ∙ is) in (
-        at.0,
-        at.1,
-        ap is_in (sym (in_same at.0)) ∙ ap (λ (x : Entry). is_in x.in_tree) at.2 ∙ in_tree,
-        ap (λ (x : Entry). x.home) (sym at.2) ∙ home_same at.0,
-        ap (λ (x : Entry). x.bytes) (sym at.2) ∙ bytes_same at.0,
-      )
+  -- the same where each is changed but for its home, its bytes and the tree
+  pub led_mapped : ((e : Entry) → ((g e).in_tree ≡ e.in_tree) × ((g e).home ≡ e.home) × ((g e).bytes ≡ e.bytes))
+      → (by_node : Bool) (u : UnstableTree) → AreLed by_node slab u → AreLed by_node later u
+  led_mapped same by_node u led = led_still by_node slab later u led (λ k f is in_tree.
+      let at = mapped_some _ _ (sym (each_mapped k) ∙ is) in
+      let now : (is_in at.0.in_tree ≡ true) × (f.home ≡ at.0.home) × (f.bytes ≡ at.0.bytes) = grind (arith, same at.0, at.2) in
+      (at.0, at.1, now.0, now.1, now.2))
 
   -- once no entry is in the tree, it leads to all that are
   pub none_led : ((e : Entry) → is_in (g e).in_tree ≡ false) → (by_node : Bool) (u : UnstableTree) → AreLed by_node later u
   none_led out by_node u k f is in_tree =
       let at = mapped_some _ _ (sym (each_mapped k) ∙ is) in
-      absurd (true≢false (sym in_tree ∙ ap (λ (x : Entry). is_in x.in_tree) (sym at.2) ∙ out at.0))
+      absurd (grind (arith, out at.0, at.2))
 
 module _ (by_node : Bool) (slab later : Slab Entry) (key : ℕ) (d e : Entry) (stood : get slab key ≡ Some d)
     (fills : Fills slab later key (Some e)) (old new : UnstableTree) (led : AreLed by_node slab old) where

@@ -1,7 +1,7 @@
 -- Rows that are said to be alone: no dup has their content, once rows or dups changed.
 use Rattle.ksm_pages.proofs.Names.{All, All-append, All-cons, All-filter, All-map, AllPairs, ap₂, AreAlone, arith, beside, change_held, comes_before, cond_both, DupRow, false, filter, find_all}
-use Rattle.ksm_pages.proofs.Names.{get_or, GuestPage, Held, held_at, holds, in_group, InPageOrder, InTree, Knobs, length-map, List, map, out_of_tree, PageState, Row, rows_of, same_page_eq, shares, Some, subst, sym, tree_of, true, true≢false}
-use Rattle.ksm_pages.proofs.Names.{with_held, without_held, written, ℕ, ◌∙◌, ◌≡◌}
+use Rattle.ksm_pages.proofs.Names.{get_or, GuestPage, Held, held_at, holds, in_group, InPageOrder, InTree, Knobs, length-map, List, map, PageState, Row, rows_of, same_page_eq, shares, Some, subst, sym, tree_of, true, true≢false}
+use Rattle.ksm_pages.proofs.Names.{with_held, without_held, ◌∙◌, ◌≡◌}
 use Rattle.std.proofs.Math.ListN.{get_or-map}
 use Rattle.ksm_pages.specs.Held.{is_alone}
 use Rattle.ksm_pages.proofs.Found.{each_found}
@@ -17,14 +17,6 @@ not_alone t = grind arith
 -- a row that shares a frame is not said to be alone
 pub shared_lone : (knobs : Knobs) (dups : List DupRow) (state : PageState) (h : Held) → IsLone knobs dups (shares state h)
 shared_lone knobs dups state h is = absurd (true≢false (sym is ∙ not_alone h.in_tree))
-
--- a row to which the tree does not lead is not said to be alone
-pub out_lone : (knobs : Knobs) (dups : List DupRow) (h : Held) → IsLone knobs dups (out_of_tree h)
-out_lone knobs dups h is = cc
-
--- a row that gets bytes is not said to be alone
-pub written_lone : (knobs : Knobs) (dups : List DupRow) (bytes : List ℕ) (h : Held) → IsLone knobs dups (written bytes h)
-written_lone knobs dups bytes h is = cc
 
 -- what is kept of rows in order is in order
 pub held_rise : (held : List Held) → InPageOrder (rows_of held) → AllPairs (λ h g. comes_before h.row.page g.row.page ≡ true) held

@@ -3,8 +3,9 @@ use Rattle.ksm_pages.proofs.Names.{All, All-head, All-tail, arith, dup_numbered,
 use Rattle.ksm_pages.proofs.Names.{is_item, items_on, length, List, list_any, lodging, lodgings_of, nat_tests, None, one_of_each_place, Option, option_map, refl, rows_of, set, Some, sym, true, ℕ, []}
 use Rattle.ksm_pages.proofs.Names.{◌<◌, ◌==◌, ◌∙◌, ◌∷◌, ◌≡◌}
 use Rattle.ksm_pages.proofs.Changing.{row_found}
+use Rattle.ksm_pages.proofs.Leading.{get_set}
 use Rattle.ksm_pages.proofs.Lodgings.{frame_by, seat}
-use Rattle.ksm_pages.proofs.Paired.{frame_away, set_there}
+use Rattle.ksm_pages.proofs.Paired.{frame_away}
 
 -- a place where a dup stands is below the bound of all places
 pub any_below : (place n : ℕ) (dups : List DupRow) → All (λ d. d.place < n) dups → list_any (λ d. d.place == place) dups ≡ true → place < n
@@ -22,7 +23,7 @@ module _ (dups : List DupRow) (rise : InPlaceOrder dups) (frames : List ℕ) (pl
   module _ {d : DupRow} (at : d.place ≡ place) (found : dup_numbered d.number dups ≡ Some d)
       (one : All (λ e. (e.place == d.place) ≡ true → e ≡ d) dups) where
     moved : of_now d.number ≡ Some frame
-    moved = grind (arith, set_there)
+    moved = grind (arith, nat_tests, get_set frames place place frame)
 
     stayed : (n : ℕ) → (n == d.number) ≡ false → of_now n ≡ of n
     stayed n other = frame_away frames place frame _ (λ e is.

@@ -1,10 +1,9 @@
 -- The pages once two of them became the items of a new dup.
 use Rattle.ksm_pages.proofs.Names.{All, All-append, All-cons, All-filter, All-map, ap, ap₂, AreAlone, AreDups, AreInTree, AreKept, arith, Bool, change_held, change_row, change_rows, cond_both, dup_numbered}
-use Rattle.ksm_pages.proofs.Names.{DupRow, DupsState, Entry, false, filter, find, find-append, find_all, find_nothing, find_over, frame_of, Frames, get_or, get_or-set_same, GuestPage, has_content, Held, held_at, held_of, holds}
+use Rattle.ksm_pages.proofs.Names.{DupRow, DupsState, Entry, false, filter, find, find-append, find_all, find_nothing, find_over, frame_of, Frames, get_or, GuestPage, has_content, Held, held_at, held_of, holds}
 use Rattle.ksm_pages.proofs.Names.{in_group, InPageOrder, InPlaceOrder, Inside, InTree, is_in, is_live, length, length-set, lies_on, List, lodging, lodgings_of, MatchOption, MayPair, Merged, merged_into, nat_tests, None, not, Option, option_and_then}
 use Rattle.ksm_pages.proofs.Names.{option_map, ordered_change, page_in_tree, PagesValue, paired, refl, Row, row_at, rows_new, rows_of, RowsView, rules, same_page, same_page_eq, same_page_refl, seen, set, shares, slice_get}
-use Rattle.ksm_pages.proofs.Names.{slice_get-get_or, Some, stands_at, subst, suc, sym, tied_made, tree_of, true, waiting_state, with_dup, with_item, with_new, zero, ℕ, [], ◌&&◌, ◌+◌, ◌<◌, ◌==◌, ◌||◌, ◌∙◌, ◌∷◌, ◌≡◌}
-use Rattle.ksm_pages.proofs.Names.{◌≢◌}
+use Rattle.ksm_pages.proofs.Names.{Some, stands_at, subst, sym, tied_made, tree_of, true, waiting_state, with_dup, with_item, with_new, ℕ, [], ◌&&◌, ◌+◌, ◌<◌, ◌==◌, ◌||◌, ◌∙◌, ◌∷◌, ◌≡◌}
 use Rattle.ksm_pages.specs.Held.{is_alone}
 use Rattle.std.specs.Vec.{with_item as with_frame}
 use Rattle.ksm_tree.specs.Dups.{rows_of as dup_rows}
@@ -13,10 +12,10 @@ use Rattle.ksm_tree.proofs.Rows.{eq_bytes}
 use Rattle.ksm_base.proofs.Orders.{above, below, dups_parted, elsewhere}
 use Rattle.ksm_pages.proofs.Changing.{row_told, rows_changed}
 use Rattle.ksm_pages.proofs.Dropping.{lodged_alike, none_live, not_vacant}
-use Rattle.ksm_pages.proofs.Filing.{differ_by}
 use Rattle.ksm_pages.proofs.Found.{find_changed_other, find_kept}
 use Rattle.ksm_pages.proofs.Joined.{own_not_merged, own_seat}
 use Rattle.ksm_pages.proofs.Leaving.{AreLawful, lies, lies_same, of_dup, of_page, row_seen, view_of}
+use Rattle.ksm_pages.proofs.Leading.{get_set}
 use Rattle.ksm_pages.proofs.Lodgings.{changed_to, frame_by, lodged_changed, seat}
 use Rattle.ksm_pages.proofs.Lone.{IsLone, lone_changed, shared_lone}
 use Rattle.ksm_pages.proofs.Partners.{each_led, held_led, tree_is, waits_parts}
@@ -24,24 +23,12 @@ use Rattle.ksm_pages.proofs.Visiting.{lawful_numbered, seen_numbered}
 
 -- ---------------------------------------------------------------- what is kept at one place
 
--- a number written at a place is found there
-pub set_there : (xs : List ℕ) (i : ℕ) {x : ℕ} → i < length xs → slice_get (set xs i x) i ≡ Some x
-set_there xs i {x} lt = slice_get-get_or _ i x (omega (arith, lt, length-set xs i x)) ∙ ap Some (get_or-set_same xs i x x lt)
-
--- a number written at a place leaves all other places as they are
-pub set_away : (xs : List ℕ) (i j x : ℕ) → j ≢ i → slice_get (set xs i x) j ≡ slice_get xs j
-set_away [] i j x away = refl
-set_away (y ∷ ys) zero zero x away = absurd (away refl)
-set_away (y ∷ ys) zero (suc j) x away = refl
-set_away (y ∷ ys) (suc i) zero x away = refl
-set_away (y ∷ ys) (suc i) (suc j) x away = set_away ys i j x (λ same. away (ap suc same))
-
 -- a dup that may be there, and stands elsewhere, keeps its frame where one is written at a place
 pub frame_away : (frames : List ℕ) (place frame : ℕ) (o : Option DupRow)
     → ((e : DupRow) → o ≡ Some e → (e.place == place) ≡ false)
     → option_and_then (λ d. slice_get (set frames place frame) d.place) o ≡ option_and_then (λ d. slice_get frames d.place) o
 frame_away frames place frame None away = refl
-frame_away frames place frame (Some e) away = set_away _ _ _ _ (differ_by (away e refl))
+frame_away frames place frame (Some e) away = grind (arith, nat_tests, get_set frames place e.place frame, away e)
 
 module _ (dups : List DupRow) (dup : DupRow) (frames : List ℕ) (frame : ℕ) where
   abbrev of_now : ℕ → Option ℕ
@@ -59,7 +46,7 @@ module _ (dups : List DupRow) (dup : DupRow) (frames : List ℕ) (frame : ℕ) w
 
   -- a new dup has the frame that is written at its place
   pub lodged_new : All (λ d. d.number < dup.number) dups → dup.place < length frames → of_now dup.number ≡ Some frame
-  lodged_new fresh inside = ap (option_and_then lies_at) (new_found fresh) ∙ set_there frames dup.place inside
+  lodged_new fresh inside = ap (option_and_then lies_at) (new_found fresh) ∙ (grind (arith, nat_tests, get_set frames dup.place dup.place frame, inside))
 
   -- a dup that stands elsewhere keeps its frame where one is written for a new dup
   pub lodged_kept : InPlaceOrder dups → (n : ℕ) → (n == dup.number) ≡ false
@@ -83,28 +70,12 @@ IsOfBoth P o q = MatchOption o (true ≡ false) (λ r. MatchOption q (true ≡ f
 
 module _ (s : Inside) {p : PagesValue} (seen_as : view_of s ≡ p) (place : ℕ) (first second : GuestPage)
     (may : IsOfBoth (MayPair (seen p) place) (row_at first p.rows) (row_at second p.rows)) where
-  may_first : {o : Option Held} → held_at first s.rows.held ≡ o
-      → IsOfBoth (MayPair (seen p) place) (option_map (λ h. h.row) o) (row_at second p.rows)
-  may_first is = subst (λ q. IsOfBoth (MayPair (seen p) place) q (row_at second p.rows)) (row_seen s seen_as first is) may
-
-  -- the first of two pages that may pair is held
-  pub first_there : held_at first s.rows.held ≡ None → true ≡ false
-  first_there gone = may_first gone
-
-  -- the second of two pages that may pair is held
-  pub second_there : held_at second s.rows.held ≡ None → true ≡ false
-  second_there gone = go _ refl
-    where
-      go : (o : Option Held) → held_at first s.rows.held ≡ o → true ≡ false
-      go None is = first_there is
-      go (Some a) is = subst (λ q. IsOfBoth (MayPair (seen p) place) (Some a.row) q) (row_seen s seen_as second gone) (may_first is)
-
-  -- and the rows may become items
-  may_both : {a b : Held} → held_at first s.rows.held ≡ Some a → held_at second s.rows.held ≡ Some b
-      → MayPair (seen (view_of s)) place a.row b.row
-  may_both {a} {b} found also =
-      subst (λ v. MayPair (seen v) place a.row b.row) (sym seen_as)
-      (subst (λ q. IsOfBoth (MayPair (seen p) place) (Some a.row) q) (row_seen s seen_as second also) (may_first found))
+  -- what is held of two pages that may pair has rows that may become items
+  pub may_both : {o q : Option Held} → held_at first s.rows.held ≡ o → held_at second s.rows.held ≡ q
+      → IsOfBoth (MayPair (seen (view_of s)) place) (option_map (λ h. h.row) o) (option_map (λ h. h.row) q)
+  may_both {o} {q} found also =
+      subst (λ (v : PagesValue). IsOfBoth (MayPair (seen v) place) (option_map (λ h. h.row) o) (option_map (λ h. h.row) q)) (sym seen_as)
+      (rw (← row_seen s seen_as first found, ← row_seen s seen_as second also) may)
 
 -- the dups with a new one of two pages
 abbrev with_pair : DupRow → GuestPage → GuestPage → DupsState → DupsState

@@ -1,21 +1,16 @@
 -- The row to which the unstable tree leads from the tree and bytes of a row, and the row's partner.
-use Rattle.ksm_pages.proofs.Names.{All, All-map, and_parts, ap₂, AreInTree, arith, Bool, bytes_eq, bytes_eq-Decides, change_held, cond_both, each_at_page, eqb-true, false, find, find_all, find_none, find_passes}
-use Rattle.ksm_pages.proofs.Names.{get_or, GuestPage, has_content, Held, held_at, holds, InPageOrder, is_in, IsFree, Knobs, List, MatchOption, nat_tests, None, not, Option, out_of_tree, page_in_tree}
-use Rattle.ksm_pages.proofs.Names.{partner, refl, Row, row_at, rows_of, RowsView, same_page, same_page_refl, Some, sym, tree_by, tree_of, true, true≢false, waiting_state, waits_for, ℕ, ◌&&◌}
-use Rattle.ksm_pages.proofs.Names.{◌==◌, ◌∙◌, ◌≡◌, ◌⊎◌}
+use Rattle.ksm_pages.proofs.Names.{All, All-map, altered, ap₂, AreInTree, arith, bytes_eq-Decides, each_at_page, false, find_all, find_none, find_passes}
+use Rattle.ksm_pages.proofs.Names.{get_or, GuestPage, has_content, Held, held_at, holds, InPageOrder, is_in, IsFree, Knobs, List, nat_tests, None, not, Option, option_and_then, out_of_tree, page_in_tree}
+use Rattle.ksm_pages.proofs.Names.{partner, refl, Row, row_at, rows_of, RowsView, same_page, same_page_refl, Some, sym, tree_by, tree_of, true, waiting_state, waits_for, ℕ, ◌&&◌, if◌then◌else◌}
+use Rattle.ksm_pages.proofs.Names.{◌∙◌, ◌≡◌, ◌⊎◌, ◌==◌, Bool}
 use Rattle.ksm_pages.proofs.Changing.{row_told}
 use Rattle.ksm_pages.proofs.Lone.{each_held}
 use Rattle.ksm_pages.proofs.Options.{mapped_some}
 
-four : (a b c d : Bool) → (a && not b && c && d) ≡ true → (a ≡ true) × (b ≡ false) × (c ≡ true) × (d ≡ true)
-four a b c d is = grind arith
-
 -- a row that waits for another waits, is of another page, and has the same content
 pub waits_parts : (knobs : Knobs) (row w : Row) → waits_for knobs row w ≡ true
     → (waiting_state w.state ≡ true) × (same_page w.page row.page ≡ false) × (tree_of knobs w ≡ tree_of knobs row) × (w.bytes ≡ row.bytes)
-waits_parts knobs row w is =
-    let parts = four (waiting_state w.state) (same_page w.page row.page) (tree_of knobs w == tree_of knobs row) (bytes_eq w.bytes row.bytes) is in
-    (parts.0, parts.1, eqb-true _ _ parts.2, (bytes_eq-Decides w.bytes row.bytes).0 parts.3)
+waits_parts knobs row w is = grind (arith, nat_tests, bytes_eq-Decides w.bytes row.bytes)
 
 -- the tree of a row with a home
 pub tree_is : (knobs : Knobs) {by_node : Bool} → by_node ≡ not (knobs.merge_across_nodes == 1) → (row : Row)
@@ -28,11 +23,9 @@ module _ (v : RowsView) (found : AreInTree v) where
       → All (λ h. has_content v.by_node tree bytes h ≡ true → page_in_tree v tree bytes ≡ Some h.row.page) v.held
   each_led tree bytes k d lt has =
       let h = get_or v.held k d in
-      let parts = and_parts (is_in h.in_tree) _ has in
-      let content = and_parts (tree_by v.by_node h.row.home == tree) _ parts.1 in
-      let same_tree : tree_by v.by_node h.row.home ≡ tree = grind (arith, nat_tests, content.0) in
-      let same_bytes : h.row.bytes ≡ bytes = (bytes_eq-Decides h.row.bytes bytes).0 content.1 in
-      sym (ap₂ (page_in_tree v) same_tree same_bytes) ∙ found k d lt parts.0
+      let content : (tree_by v.by_node h.row.home ≡ tree) × (h.row.bytes ≡ bytes) =
+      grind (arith, nat_tests, bytes_eq-Decides h.row.bytes bytes) in
+      sym (ap₂ (page_in_tree v) content.0 content.1) ∙ found k d lt (grind arith)
 
   -- the row is of the page, or not of the content
   abbrev IsOther : GuestPage → Held → Held → Type 0
@@ -49,18 +42,12 @@ module _ (v : RowsView) (found : AreInTree v) where
 
   -- where it leads to a row that it leads to no more, it leads to none
   pub free_but : (page other : GuestPage) (h : Held) → page_in_tree v (tree_by v.by_node h.row.home) h.row.bytes ≡ Some other
-      → IsFree (record v { held = change_held other out_of_tree v.held }) page h
+      → IsFree (altered other out_of_tree v) page h
   free_but page other h is =
-      All-map (IsOther page h) _ v.held (λ k d lt. cond_both (holds other (get_or v.held k d)) (out_of_tree (get_or v.held k d)) (get_or v.held k d)
-      (IsOther page h) (λ _ _. refl)
-      (λ apart _. go (get_or v.held k d) apart _ refl (each_led (tree_by v.by_node h.row.home) h.row.bytes k d lt)))
-    where
-      go : (g : Held) → holds other g ≡ false → (b : Bool) → has_content v.by_node (tree_by v.by_node h.row.home) h.row.bytes g ≡ b
-          → (has_content v.by_node (tree_by v.by_node h.row.home) h.row.bytes g ≡ true
-          → page_in_tree v (tree_by v.by_node h.row.home) h.row.bytes ≡ Some g.row.page)
-          → has_content v.by_node (tree_by v.by_node h.row.home) h.row.bytes g ≡ false
-      go g apart false has led = has
-      go g apart true has led = absurd (grind (arith, led has, is, apart, same_page_refl g.row.page))
+      let tree = tree_by v.by_node h.row.home in
+      All-map (IsOther page h) _ v.held (λ k d lt apart.
+      let g = get_or v.held k d in
+      grind (arith, each_led tree h.row.bytes k d lt, is, same_page_refl g.row.page))
 
 module _ (knobs : Knobs) (v : RowsView) (rise : InPageOrder (rows_of v.held))
     (by : v.by_node ≡ not (knobs.merge_across_nodes == 1))
@@ -88,47 +75,28 @@ module _ (knobs : Knobs) (v : RowsView) (rise : InPageOrder (rows_of v.held))
         waits,
       )
 
-  no_partner : ((w : Row) → partner knobs rows row ≡ Some w → true ≡ false) → partner knobs rows row ≡ None
-  no_partner never = go _ refl
+  -- a row of the page to which the tree leads has the content of the row
+  content : {page : GuestPage} {w : Row} → led_to ≡ Some page → row_at page rows ≡ Some w
+      → waits_for knobs row w ≡ (waiting_state w.state && not (same_page page row.page))
+  content {page} {w} there at =
+      let has = has_content v.by_node (tree_of knobs row) row.bytes in
+      let h = mapped_some _ _ there in
+      let here = find_all has (λ x. held_at x.row.page v.held ≡ Some x) v.held h.0 h.1 (each_held v.held rise) in
+      let is_row : w ≡ h.0.row = grind (arith, row_told h.0.row.page v.held here, h.2, at) in
+      grind (arith, find_passes has v.held h.0 h.1, is_row, h.2, tree_is knobs by h.0.row)
+
+  -- the partner of the row is the row to which the tree leads, where that waits and is another
+  pub partner_is : partner knobs rows row ≡ option_and_then (λ page.
+      option_and_then (λ w. if waiting_state w.state && not (same_page page row.page) then Some w else None) (row_at page rows)) led_to
+  partner_is = go _ refl
     where
-      go : (o : Option Row) → partner knobs rows row ≡ o → partner knobs rows row ≡ None
-      go None is = is
-      go (Some w) is = absurd (true≢false (never w is))
-
-  -- where the tree leads to no row, the row has no partner
-  pub none_led : led_to ≡ None → partner knobs rows row ≡ None
-  none_led none = no_partner (λ w is. grind (arith, partner_led is, none))
-
-  -- where it leads to the row itself, the row has no partner
-  pub own_led : led_to ≡ Some row.page → partner knobs rows row ≡ None
-  own_led own = no_partner (λ w is. grind (arith, partner_led is, own, same_page_refl row.page))
-
-  -- where it leads to a row that does not wait, the row has no partner
-  pub idle_led : {page : GuestPage} {w : Row} → led_to ≡ Some page → row_at page rows ≡ Some w → waiting_state w.state ≡ false
-      → partner knobs rows row ≡ None
-  idle_led there at idle = no_partner (λ w is. grind (arith, partner_led is, there, at, idle))
-
-  -- where it leads to another row, that waits, this is the partner
-  pub waiter_led : {page : GuestPage} {w : Row} → led_to ≡ Some page → row_at page rows ≡ Some w → waiting_state w.state ≡ true
-      → same_page page row.page ≡ false → MatchOption (partner knobs rows row) (true ≡ false) (λ x. page ≡ x.page)
-  waiter_led {page} {w} there at waits other = go _ refl
-    where
-      h : (x : Held) × (find (has_content v.by_node (tree_of knobs row) row.bytes) v.held ≡ Some x) × (x.row.page ≡ page)
-      h = mapped_some _ _ there
-
-      here : held_at h.0.row.page v.held ≡ Some h.0
-      here = find_all _ (λ x. held_at x.row.page v.held ≡ Some x) v.held h.0 h.1 (each_held v.held rise)
-
-      is_row : w ≡ h.0.row
-      is_row = grind (arith, row_told h.0.row.page v.held here, h.2, at)
-
-      may : waits_for knobs row w ≡ true
-      may = grind (arith, find_passes (has_content v.by_node (tree_of knobs row) row.bytes) v.held h.0 h.1, is_row, waits, other, h.2, tree_is knobs by h.0.row)
-
-      go : (o : Option Row) → partner knobs rows row ≡ o → MatchOption o (true ≡ false) (λ x. page ≡ x.page)
-      go None is = sym may ∙ find_all (λ r. same_page r.page page) (λ r. waits_for knobs row r ≡ false) rows w at
-          (find_none (waits_for knobs row) rows is)
-      go (Some x) is = grind (arith, partner_led is, there)
+      go : (o : Option Row) → partner knobs rows row ≡ o → o ≡ option_and_then (λ page.
+          option_and_then (λ w. if waiting_state w.state && not (same_page page row.page) then Some w else None) (row_at page rows)) led_to
+      go None is =
+          let none = λ (page : GuestPage) (w : Row) (at : row_at page rows ≡ Some w). find_all (λ r. same_page r.page page)
+          (λ r. waits_for knobs row r ≡ false) rows w at (find_none (waits_for knobs row) rows is) in
+          grind (arith, none, content)
+      go (Some w) is = grind (arith, partner_led is, content)
 
 -- a row in the tree is found by its content
 pub held_led : (knobs : Knobs) (v : RowsView) → v.by_node ≡ not (knobs.merge_across_nodes == 1) → AreInTree v → (page : GuestPage) {h : Held}

@@ -1,9 +1,9 @@
 -- The pages once a call changed the row of one page: they are lawful, and what is seen of them changed so.
-use Rattle.ksm_pages.proofs.Names.{All, All-head, All-map, All-tail, ap, arith, Bool, change_held, change_row, cond_both, DupsState, false, frame_of, frame_seen, get_or, GuestPage, Held, held_at, if◌then◌else◌, inl, inr, in_group, InTree, Inside, IsAlone, IsKnown, Knobs}
+use Rattle.ksm_pages.proofs.Names.{All, All-map, ap, arith, Bool, change_held, cond_both, DupsState, false, frame_of, frame_seen, get_or, GuestPage, Held, held_at, if◌then◌else◌, inl, inr, InTree, Inside, IsAlone, IsKnown, Knobs}
 use Rattle.ksm_pages.proofs.Names.{IsLeft, let_out, lies_on, List, lodgings_of, map, MatchOption, merged_state, None, not, Option, ordered_map, ordered_without, PageState, PagesValue, Private, private_state}
-use Rattle.ksm_pages.proofs.Names.{on_row, out_of_tree, refl, Row, row_at, rows_of, rows_out, RowsView, same_page, seen, settled, settled_state, shared_state, Some, subst, sym, tied_dropped, tied_left, tied_mapped, tree_of, true, true≢false, waiting_state, without_held}
-use Rattle.ksm_pages.proofs.Names.{without_page, ℕ, [], ⊤, ◌∙◌, ◌∷◌, ◌==◌, ◌≡◌, ◌⊎◌}
-use Rattle.std.specs.List.{AllByRecursion}
+use Rattle.ksm_pages.proofs.Names.{on_row, out_of_tree, refl, Row, row_at, rows_of, rows_out, RowsView, same_page, seen, settled, settled_state, shared_state, Some, sym, tied_dropped, tied_left, tied_mapped, tree_of, true, true≢false, waiting_state, without_held}
+use Rattle.ksm_pages.proofs.Names.{without_page, ℕ, [], ⊤, ◌∙◌, ◌∷◌, ◌==◌, ◌≡◌, ◌⊎◌, changed, relaid, length-map, InPageOrder, AreTied, AreAlone}
+use Rattle.std.proofs.Math.ListN.{get_or-map}
 use Rattle.ksm_base.specs.Apply.{let_go}
 use Rattle.ksm_pages.specs.Paged.{HasRow}
 use Rattle.ksm_tree.specs.Dups.{rows_of as dup_rows}
@@ -13,7 +13,7 @@ use Rattle.ksm_pages.proofs.Changing.{rows_without}
 use Rattle.ksm_pages.proofs.Joined.{let_out_alone}
 use Rattle.ksm_pages.proofs.Lodgings.{lodged_gone, seat}
 use Rattle.ksm_pages.proofs.Leaving.{alone_found, alone_there, AreLawful, Become, Comes, comes, held_as, known_there, lies, of_dup, of_page, row_seen, row_there, stays_there, turned_so, view_of}
-use Rattle.ksm_pages.proofs.Lone.{IsLone, lone_mapped, lone_without, out_lone}
+use Rattle.ksm_pages.proofs.Lone.{IsLone, lone_mapped, lone_without}
 use Rattle.ksm_pages.proofs.Resting.{idle_settled, lies_alike, settled_again}
 
 -- ---------------------------------------------------------------- a page that leaves what it is in
@@ -50,13 +50,14 @@ module _ {s : Inside} {p : PagesValue} {page : GuestPage} {later : DupsState} {f
     StaysLone to = IsLone s.knobs (dup_rows s.dups.dups) it.held → IsLone s.knobs (dup_rows s.dups.dups) to
 
     module _ (rows : RowsView) where
-      left_so : (f : Held → Held) (g : Row → Row) → ((x : Held) → (f x).row ≡ g x.row)
+      -- a page that has left comes to another row and frame
+      pub left_so : (f : Held → Held) (g : Row → Row) → ((x : Held) → (f x).row ≡ g x.row)
           → ((r : Row) → (g r).page ≡ r.page)
           → Become s.rows rows (change_held page f s.rows.held) → (to : Row → Row) → g it.held.row ≡ to it.held.row
           → merged_state (to it.held.row).state ≡ false
           → StaysLone (f it.held) → {frame : Option ℕ}
           → seat (of_dup s) (Some (f it.held)) ≡ frame
-          → Comes s rows later (record (seen p) { rows = change_row page to p.rows; frame = lies_on page frame (frame_of p.lodgings) })
+          → Comes s rows later (relaid page to frame (seen p))
       left_so f g is same turned to agree apart keeps =
           turned_so s it.lawful page it.found it.seen_as rows f g is same turned out (rows_out _ _ _) to agree
           (tied_left _ _ _ it.lawful.order there _ _ apart it.lawful.tied) keeps
@@ -66,10 +67,7 @@ module _ {s : Inside} {p : PagesValue} {page : GuestPage} {later : DupsState} {f
           → ((t : InTree) → is_alone (in_tree t) ≡ true → is_alone t ≡ true) → merged_state state ≡ false
           → Become s.rows rows (change_held page
           (λ h. record { row = record h.row { state = state }; frame = own; in_tree = in_tree h.in_tree }) s.rows.held)
-          → Comes s rows later (record (seen p) {
-            rows = change_row page (λ r. record r { state = state }) p.rows;
-            frame = lies_on page (frame_seen (of_dup s) state own) (frame_of p.lodgings);
-          })
+          → Comes s rows later (relaid page (λ r. record r { state = state }) (frame_seen (of_dup s) state own) (seen p))
       moved state own in_tree less apart turned =
           left_so (λ h. record { row = record h.row { state = state }; frame = own; in_tree = in_tree h.in_tree })
           (λ r. record r { state = state }) (λ x. refl) (λ r. refl) turned _ refl apart
@@ -77,7 +75,7 @@ module _ {s : Inside} {p : PagesValue} {page : GuestPage} {later : DupsState} {f
 
       -- a page that has left is let go, on a frame of its own
       pub gone_on : (frame : ℕ) → Become s.rows rows (change_held page (λ h. record h { row = let_go h.row; frame = Some frame }) s.rows.held)
-          → Comes s rows later (record (seen p) { rows = change_row page let_go p.rows; frame = lies_on page (Some frame) (frame_of p.lodgings) })
+          → Comes s rows later (relaid page let_go (Some frame) (seen p))
       gone_on frame turned =
           left_so (λ h. record h { row = let_go h.row; frame = Some frame }) let_go (λ x. refl) (λ r. refl) turned let_go
           refl refl (λ lone. lone) refl
@@ -88,7 +86,7 @@ module _ {s : Inside} {p : PagesValue} {page : GuestPage} {later : DupsState} {f
           → (shared_state it.held.row.state ≡ false → g it.held.row ≡ to it.held.row)
           → StaysLone (f it.held)
           → Become s.rows rows (change_held page f s.rows.held)
-          → Comes s rows later (record (seen p) { rows = change_row page to p.rows })
+          → Comes s rows later (changed page to (seen p))
       rested f g to is framed same private alone_seen agree keeps turned =
           let alone = alone_found s it.seen_as _ it.found alone_seen in
           let own = lies s it.lawful page it.found it.seen_as in
@@ -129,22 +127,12 @@ own_left {s} {p} {page} are seen_as alone = go _ refl
 
 -- a page with a Private row has a frame of its own
 pub private_alone : (p : PagesValue) (page : GuestPage) → HasRow page p.rows (λ r. private_state r.state ≡ true) → IsAlone page p.rows
-private_alone p page is = go _ refl is
-  where
-    go : (o : Option Row) → row_at page p.rows ≡ o → MatchOption o (true ≡ false) (λ r. private_state r.state ≡ true)
-        → MatchOption (row_at page p.rows) (true ≡ false) (λ r. shared_state r.state ≡ false)
-    go None at is = rw at is
-    go (Some r) at is = rw at (grind arith)
+private_alone p page is = grind arith
 
 -- what is held of it has a Private row
 pub private_left : {s : Inside} {p : PagesValue} {page : GuestPage} {later : DupsState} {frames : List ℕ} {lone : Option ℕ}
     → (it : HasLeft s p page later frames lone) → HasRow page p.rows (λ r. private_state r.state ≡ true) → it.held.row.state ≡ Private
-private_left {s} {p} {page} it is =
-    let at = row_seen s it.seen_as page it.found in
-    private_is it.held.row.state (subst (λ o. MatchOption o (true ≡ false) (λ (r : Row). private_state r.state ≡ true)) at is)
-  where
-    private_is : (state : PageState) → private_state state ≡ true → state ≡ Private
-    private_is state is = grind arith
+private_left {s} {p} {page} it is = grind (arith, row_seen s it.seen_as page it.found)
 
 -- ---------------------------------------------------------------- rows that change where they lie
 
@@ -176,7 +164,7 @@ module _ (s : Inside) (are : AreLawful s) {p : PagesValue} (seen_as : view_of s 
   pub stays : (page : GuestPage) (g : Row → Row) → ((r : Row) → (g r).page ≡ r.page) → ((r : Row) → (g r).state ≡ r.state)
       → ((x : Held) → IsLone s.knobs (dup_rows s.dups.dups) x → IsLone s.knobs (dup_rows s.dups.dups) (record x { row = g x.row }))
       → (rows : RowsView) → Become s.rows rows (change_held page (λ h. record h { row = g h.row }) s.rows.held)
-      → Comes s rows s.dups (record (seen p) { rows = change_row page g p.rows })
+      → Comes s rows s.dups (changed page g (seen p))
   stays page g same states keeps rows turned =
       still (λ h. if same_page h.row.page page then record h { row = g h.row } else h) (λ r. if same_page r.page page then g r else r)
       (λ x. grind arith) (λ x. grind arith) (λ r. grind (arith, same r)) (λ r. grind (arith, states r))
@@ -191,7 +179,7 @@ module _ (s : Inside) (are : AreLawful s) {p : PagesValue} (seen_as : view_of s 
       (held_as (same ∙ turned))
   settle_then {rows} {later} turned (inr out) =
       still (λ h. out_of_tree (on_row settled h)) settled (λ x. (λ i. record x.row { state = settled_again x.row.state i })) (λ x. refl)
-      (λ r. refl) (λ r. settled_again r.state) (λ x _. out_lone s.knobs (dup_rows s.dups.dups) (on_row settled x)) later
+      (λ r. refl) (λ r. settled_again r.state) (λ x _ is. cc) later
       (record {
         held = (λ i. (out i).held) ∙ (λ i. map out_of_tree (turned i).held) ∙ map_mapped _ _ _ s.rows.held (λ k d lt. refl);
         by_node = (λ i. (out i).by_node) ∙ (λ i. (turned i).by_node);
@@ -211,61 +199,45 @@ module _ (s : Inside) (are : AreLawful s) (knobs : Knobs) {by_node : Bool} (is :
   Tuned = AreLawful (record s { rows = rows; knobs = knobs })
       × (seen (view_of (record s { rows = rows; knobs = knobs })) ≡ record (seen (view_of s)) { knobs = knobs })
 
+  kept_as : (now : RowsView) → InPageOrder (rows_of now.held) → AreTied (rows_of now.held) s.dups.dups
+      → now.by_node ≡ not (knobs.merge_across_nodes == 1) → AreAlone knobs now.held (dup_rows s.dups.dups)
+      → AreLawful (record s { rows = now; knobs = knobs })
+  kept_as now order tied by alone = record {
+    small = are.small;
+    order = order;
+    tied = tied;
+    places = are.places;
+    by_node = by;
+    alone = alone;
+    room = are.room;
+  }
+
   tuned_same : by_node ≡ s.rows.by_node → rows ≡ s.rows → Tuned
-  tuned_same by same = (
-    record {
-      small = are.small;
-      order = rw same are.order;
-      tied = rw same are.tied;
-      places = are.places;
-      by_node = (λ i. (same i).by_node) ∙ sym by ∙ is;
-      alone = rw same (λ k d lt alone. subst
-          (λ t. All (λ r. in_group t (get_or s.rows.held k d).row.bytes r ≡ false) (dup_rows s.dups.dups))
-          (sym (trees_alike s.knobs knobs (get_or s.rows.held k d).row (sym is ∙ by ∙ are.by_node))) (are.alone k d lt alone));
-      room = are.room;
-    },
-    λ i. seen (view_of (record s { rows = same i; knobs = knobs })),
+  tuned_same by same = rw same (
+    kept_as s.rows are.order are.tied (sym by ∙ is) (λ k d lt alone.
+        rw (trees_alike s.knobs knobs (get_or s.rows.held k d).row (sym is ∙ by ∙ are.by_node)) (are.alone k d lt alone)),
+    refl,
   )
 
   tuned_out : All (λ r. waiting_state r.state ≡ false) (rows_of s.rows.held)
       → rows ≡ record s.rows { held = map out_of_tree s.rows.held; by_node = by_node } → Tuned
-  tuned_out idle went =
-      let held_now : rows.held ≡ map out_of_tree s.rows.held = λ i. (went i).held in
-      let all_idle = idle_held s.rows.held (idle) in
-      let rows_now : rows_of rows.held ≡ rows_of s.rows.held = ap rows_of held_now ∙ rows_stay s.rows.held all_idle in (
-        record {
-          small = are.small;
-          order = rw rows_now are.order;
-          tied = rw rows_now are.tied;
-          places = are.places;
-          by_node = (λ i. (went i).by_node) ∙ is;
-          alone = rw held_now (All-map (IsLone knobs (dup_rows s.dups.dups)) out_of_tree s.rows.held
-              (λ k d lt. out_lone knobs (dup_rows s.dups.dups) (get_or s.rows.held k d)));
-          room = are.room;
-        },
-        λ i. record (seen (view_of s)) {
-          rows = rows_now i;
-          frame = frame_of ((ap (lodgings_of (of_dup s)) held_now ∙ lodgings_stay s.rows.held all_idle) i);
-          knobs = knobs;
-        },
-      )
+  tuned_out idle went = rw went (
+    kept_as (record s.rows { held = map out_of_tree s.rows.held; by_node = by_node }) (rw rows_stay are.order) (rw rows_stay are.tied) is
+        (All-map (IsLone knobs (dup_rows s.dups.dups)) out_of_tree s.rows.held (λ k d lt is. cc)),
+    λ i. record (seen (view_of s)) { rows = rows_stay i; frame = frame_of (lodgings_stay i); knobs = knobs },
+  )
     where
-      idle_held : (held : List Held) → All (λ r. waiting_state r.state ≡ false) (rows_of held) → AllByRecursion (λ h. settled h.row ≡ h.row) held
-      idle_held [] all = tt
-      idle_held (h ∷ held) all = (
-        idle_settled h.row (All-head (λ r. waiting_state r.state ≡ false) h.row (rows_of held) all),
-        idle_held held (All-tail (λ r. waiting_state r.state ≡ false) h.row (rows_of held) all),
-      )
+      stays : All (λ h. (out_of_tree h).row ≡ h.row) s.rows.held
+      stays k d lt =
+          let row : Held → Row = λ h. h.row in
+          idle_settled _ (ap (λ (r : Row). waiting_state r.state) (sym (get_or-map row s.rows.held k d))
+          ∙ idle k d.row (omega (arith, lt, length-map s.rows.held row)))
 
-      rows_stay : (held : List Held) → AllByRecursion (λ h. settled h.row ≡ h.row) held → rows_of (map out_of_tree held) ≡ rows_of held
-      rows_stay [] all = refl
-      rows_stay (h ∷ held) all = λ i. all.0 i ∷ rows_stay held all.1 i
+      rows_stay : rows_of (map out_of_tree s.rows.held) ≡ rows_of s.rows.held
+      rows_stay = map_mapped _ out_of_tree _ s.rows.held stays
 
-      lodgings_stay : (held : List Held) → AllByRecursion (λ h. settled h.row ≡ h.row) held
-          → lodgings_of (of_dup s) (map out_of_tree held) ≡ lodgings_of (of_dup s) held
-      lodgings_stay [] all = refl
-      lodgings_stay (h ∷ held) all =
-          λ i. record { page = h.row.page; frame = frame_seen (of_dup s) (all.0 i).state h.frame } ∷ lodgings_stay held all.1 i
+      lodgings_stay : lodgings_of (of_dup s) (map out_of_tree s.rows.held) ≡ lodgings_of (of_dup s) s.rows.held
+      lodgings_stay = map_mapped _ out_of_tree _ s.rows.held (λ k d lt. grind (arith, stays k d lt))
 
   -- knobs that keep the trees of the rows, or under which no row waits, leave the pages lawful, and are seen
   pub tuned : ((by_node ≡ s.rows.by_node) × (rows ≡ s.rows))

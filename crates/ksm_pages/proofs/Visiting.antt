@@ -1,22 +1,22 @@
 -- What a visit finds of a row that it may change, and the pages once the row waits.
-use Rattle.ksm_pages.proofs.Names.{All, All-map, all_rows, all_zero, and_parts, ap, AreInTree, AreTied, arith, Best, best_dup, best_found, best_of, Bool, change_held, change_row, Dup, DupRow, DupsState, Entry, false, Find}
-use Rattle.ksm_pages.proofs.Names.{Finds, FindsAt, find, find_all, find_nothing, found_at, get_or, GuestPage, has_content, Held, held_at, held_of, holds, in_group, in_tree_by, inl, inr, Inside, is_in, IsFree, is_for_zero, IsAlone, if◌then◌else◌, lodgings_of, List, MatchOption, None, Not, not, not-true}
-use Rattle.ksm_pages.proofs.Names.{Option, option_map, out_of_tree, page_in_tree, PagesValue, PagesView, partner, Private, refl, Row, row_at, rows_of, RowsView, rules, same_page, same_page_eq, seen, shared_state, Some, subst, sym}
-use Rattle.ksm_pages.proofs.Names.{tied_counted, tied_left, tree_by, tree_of, true, true≢false, Waiting, waiting_in, waiting_state, ℕ, [], ◌&&◌, ◌==◌, ◌∙◌, ◌∷◌, ◌≡◌}
+use Rattle.ksm_pages.proofs.Names.{All, All-map, all_rows, all_zero, altered, and_parts, ap, AreInTree, AreTied, arith, Best, best_dup, best_found, best_of, Bool, change_held, change_row, changed, Dup, DupRow, DupsState, Entry, false, Find}
+use Rattle.ksm_pages.proofs.Names.{Finds, FindsAt, find, find_all, find_nothing, find_passes, found_at, get_or, GuestPage, has_content, Held, held_at, held_of, holds, in_group, in_tree_by, inl, inr, Inside, is_in, IsFree, is_for_zero, IsAlone, if◌then◌else◌, List, MatchOption, None, not, not-true}
+use Rattle.ksm_pages.proofs.Names.{Option, option_and_then, option_map, out_of_tree, page_in_tree, PagesValue, PagesView, partner, Private, refl, Row, row_at, rows_of, RowsView, rules, same_page, same_page_eq, same_page_refl, seen, shared_state, Some, subst, sym}
+use Rattle.ksm_pages.proofs.Names.{tied_counted, tied_left, tree_by, tree_of, true, true≢false, Waiting, waiting_in, waiting_state, ℕ, ◌&&◌, ◌==◌, ◌∙◌, ◌≡◌, ◌⊎◌}
 use Rattle.ksm_tree.specs.Dups.{rows_of as dup_rows}
-use Rattle.ksm_tree.proofs.Alike.{map_alike}
+use Rattle.ksm_tree.proofs.Alike.{map_mapped}
 use Rattle.ksm_pages.proofs.Options.{mapped_some, none_mapped}
-use Rattle.ksm_pages.proofs.Partners.{free_but, free_by, idle_led, none_led, own_led, tree_is, waiter_led}
+use Rattle.ksm_pages.proofs.Partners.{free_but, free_by, partner_is, tree_is}
 use Rattle.ksm_pages.specs.declared.pages.Find.TheVariants as finds
 use Rattle.std.specs.Prelude.{IfNone, IfSome}
 use Rattle.ksm_pages.specs.Held.{is_alone as is_alone_in, is_restless as is_restless_entry}
-use Rattle.ksm_pages.specs.Paged.{HasRow, is_restless, visited}
+use Rattle.ksm_pages.specs.Paged.{HasRow, is_restless}
 use Rattle.ksm_pages.proofs.Found.{find_changed_other}
 use Rattle.ksm_pages.proofs.Gathering.{restless_as}
 use Rattle.ksm_pages.proofs.Joined.{let_out_alone}
-use Rattle.ksm_pages.proofs.Leaving.{AreLawful, Become, Comes, held_as, lies, of_dup, of_page, row_seen, row_there, stays_there, turned_so, view_of}
+use Rattle.ksm_pages.proofs.Leaving.{AreLawful, Become, Comes, comes, held_as, lies, of_page, row_seen, row_there, stays_there, turned_so, view_of}
 use Rattle.ksm_pages.proofs.Resting.{idle_settled}
-use Rattle.ksm_pages.proofs.Lone.{each_held, IsLone, lone_changed, out_lone}
+use Rattle.ksm_pages.proofs.Lone.{each_held, IsLone, lone_changed}
 
 -- ---------------------------------------------------------------- groups that got other numbers
 
@@ -116,7 +116,7 @@ module _ {s : Inside} {p : PagesValue} {page : GuestPage} {e : Entry} (it : IsAs
 
     -- without a best dup, a row that was not unchanged is found changed, and is unchanged from then on
     pub finds_changed : e.unchanged ≡ false → {new : PagesView}
-        → new ≡ visited page (λ r. record r { unchanged = true; state = Private }) (seen (view_of s))
+        → new ≡ changed page (λ r. record r { unchanged = true; state = Private }) (seen (view_of s))
         → Finds (seen p) new page finds.Changed
     finds_changed other is = search (rules, at_row, finds_at, may, no_best)
 
@@ -138,7 +138,7 @@ module _ {s : Inside} {p : PagesValue} {page : GuestPage} {e : Entry} (it : IsAs
             grind (arith, finds_at, may, no_best, zero_as, it.seen_as)
 
         module _ (lonely : partner s.knobs before row ≡ None) {rows : RowsView}
-            (waits : Comes s rows s.dups (record (seen p) { rows = change_row page (λ r. record r { state = Waiting }) p.rows })) where
+            (waits : Comes s rows s.dups (changed page (λ r. record r { state = Waiting }) (seen p))) where
           -- a row that stays, without a dup, not for Zero and without a partner, is found to wait
           pub finds_waits : Finds (seen p) (seen (view_of (record s { rows = rows }))) page finds.Waits
           finds_waits =
@@ -149,7 +149,7 @@ module _ {s : Inside} {p : PagesValue} {page : GuestPage} {e : Entry} (it : IsAs
   pub waits_then : (f : Held → Held) → ((x : Held) → (f x).row ≡ record x.row { state = Waiting }) → ((x : Held) → (f x).frame ≡ x.frame)
       → (IsLone s.knobs (dup_rows s.dups.dups) held → IsLone s.knobs (dup_rows s.dups.dups) (f held))
       → {rows : RowsView} → Become s.rows rows (change_held page f s.rows.held)
-      → Comes s rows s.dups (record (seen p) { rows = change_row page (λ r. record r { state = Waiting }) p.rows })
+      → Comes s rows s.dups (changed page (λ r. record r { state = Waiting }) (seen p))
   waits_then f is framed keeps {rows} turned =
       let lay = lies s it.lawful page it.found it.seen_as in
       stays_there p page (turned_so s it.lawful page it.found it.seen_as rows f (λ r. record r { state = Waiting }) is
@@ -173,67 +173,38 @@ module _ {s : Inside} {p : PagesValue} {page : GuestPage} {e : Entry} (it : IsAs
 -- ---------------------------------------------------------------- a row that leaves the tree
 
 module _ (s : Inside) (are : AreLawful s) (other : GuestPage) {w : Held} (found : held_at other s.rows.held ≡ Some w)
-    (idle : waiting_state w.row.state ≡ false) {rows : RowsView}
-    (turned : rows ≡ record s.rows { held = change_held other out_of_tree s.rows.held }) where
+    (idle : waiting_state w.row.state ≡ false) where
+  abbrev without : RowsView
+  without = altered other out_of_tree s.rows
+
   abbrev gone : Held → Held
-  gone h = record h { in_tree = (out_of_tree h).in_tree }
+  gone h = if holds other h then out_of_tree h else h
 
-  -- a row that does not wait is otherwise as it was
-  as_it_was : change_held other out_of_tree s.rows.held ≡ change_held other gone s.rows.held
-  as_it_was = map_alike _ _ _ (λ k d lt. alike (get_or s.rows.held k d) (each_held s.rows.held are.order k d lt))
-    where
-      alike : (h : Held) → held_at h.row.page s.rows.held ≡ Some h
-          → (if holds other h then out_of_tree h else h) ≡ (if holds other h then gone h else h)
-      alike h at = go _ refl
-        where
-          go : (b : Bool) → holds other h ≡ b → (if b then out_of_tree h else h) ≡ (if b then gone h else h)
-          go false is = refl
-          go true is =
-              let same : h ≡ w = grind (arith, same_page_eq h.row.page other is, at, found) in
-              λ i. record h { row = idle_settled h.row (ap (λ (x : Held). waiting_state x.row.state) same ∙ idle) i; in_tree = Not }
-
-  rows_stay : (held : List Held) → rows_of (change_held other gone held) ≡ rows_of held
-  rows_stay [] = refl
-  rows_stay (h ∷ held) = grind (arith, rows_stay held)
-
-  lodgings_stay : (held : List Held) → lodgings_of (of_dup s) (change_held other gone held) ≡ lodgings_of (of_dup s) held
-  lodgings_stay [] = refl
-  lodgings_stay (h ∷ held) = grind (arith, lodgings_stay held)
-
-  now_held : rows.held ≡ change_held other gone s.rows.held
-  now_held = (λ i. (turned i).held) ∙ as_it_was
+  -- a row that does not wait is what it was
+  rows_stay : All (λ h. (gone h).row ≡ h.row) s.rows.held
+  rows_stay k d lt =
+      let h = get_or s.rows.held k d in
+      grind (arith, same_page_eq h.row.page other, each_held s.rows.held are.order k d lt, found, idle, idle_settled h.row)
 
   -- and the rows are what they were
-  pub now_rows : rows_of rows.held ≡ rows_of s.rows.held
-  now_rows = ap rows_of now_held ∙ rows_stay s.rows.held
+  pub now_rows : rows_of without.held ≡ rows_of s.rows.held
+  now_rows = map_mapped _ gone _ s.rows.held rows_stay
 
   -- once a row that does not wait has left the tree, what is seen of the pages is what it was
-  pub seen_still : view_of (record s { rows = rows }) ≡ view_of s
+  pub seen_still : view_of (record s { rows = without }) ≡ view_of s
   seen_still =
-      let lodged = ap (lodgings_of (of_dup s)) now_held ∙ lodgings_stay s.rows.held in
+      let lodged = map_mapped _ gone _ s.rows.held (λ k d lt. grind (arith, rows_stay k d lt)) in
       λ i. record (view_of s) { rows = now_rows i; lodgings = lodged i }
 
   -- and the pages are lawful still
-  pub lawful_still : AreLawful (record s { rows = rows })
-  lawful_still = record {
-    small = are.small;
-    order = rw now_rows are.order;
-    tied = rw now_rows are.tied;
-    places = are.places;
-    by_node = (λ i. (turned i).by_node) ∙ are.by_node;
-    alone =
-        let held_now : rows.held ≡ change_held other out_of_tree s.rows.held = λ i. (turned i).held in
-        rw held_now
-        (lone_changed s.knobs (dup_rows s.dups.dups) other out_of_tree s.rows.held are.order found
-        (λ _. out_lone s.knobs (dup_rows s.dups.dups) w) are.alone);
-    room = are.room;
-  }
+  pub lawful_still : AreLawful (record s { rows = without })
+  lawful_still =
+      (comes s are without (held_as refl) now_rows {ds = s.dups.dups} {later = s.dups} refl refl are.order are.tied
+      (lone_changed s.knobs (dup_rows s.dups.dups) other out_of_tree s.rows.held are.order found (λ _ is. cc) are.alone) refl).lawful
 
   -- and another page's row is held as it was
-  pub held_still : (page : GuestPage) → same_page other page ≡ false → held_at page rows.held ≡ held_at page s.rows.held
-  held_still page apart =
-      ap (λ (v : RowsView). held_at page v.held) turned
-      ∙ find_changed_other (λ (h : Held). h.row.page) other out_of_tree (λ h. refl) page s.rows.held apart
+  pub held_still : (page : GuestPage) → same_page other page ≡ false → held_at page without.held ≡ held_at page s.rows.held
+  held_still page apart = find_changed_other (λ (h : Held). h.row.page) other out_of_tree (λ h. refl) page s.rows.held apart
 
 -- ---------------------------------------------------------------- a row that may enter the tree
 
@@ -273,14 +244,13 @@ module _ {s : Inside} {p : PagesValue} {page : GuestPage} {e : Entry} {group : O
   enters_free = rw it.asked.found it.free
 
   -- the pages are lawful once it has entered, and are seen so
-  pub entered_then : {rows : RowsView} → rows ≡ record s.rows { held = change_held page (waiting_in (in_tree_by group)) s.rows.held }
-      → Comes s rows s.dups (record (seen p) { rows = change_row page (λ r. record r { state = Waiting }) p.rows })
+  pub entered_then : {rows : RowsView} → rows ≡ altered page (waiting_in (in_tree_by group)) s.rows
+      → Comes s rows s.dups (changed page (λ r. record r { state = Waiting }) (seen p))
   entered_then turned =
       waits_then it.asked (waiting_in (in_tree_by group)) (λ x. refl) (λ x. refl) (λ _. entered_lone it.asked group it.lone) (held_as turned)
 
   -- and the row is found to wait
-  pub entered_waits : e.unchanged ≡ true → {rows : RowsView}
-      → rows ≡ record s.rows { held = change_held page (waiting_in (in_tree_by group)) s.rows.held }
+  pub entered_waits : e.unchanged ≡ true → {rows : RowsView} → rows ≡ altered page (waiting_in (in_tree_by group)) s.rows
       → Finds (seen p) (seen (view_of (record s { rows = rows }))) page finds.Waits
   entered_waits stayed turned = finds_waits it.asked it.none stayed it.not_zero it.lonely (entered_then turned)
 
@@ -302,40 +272,37 @@ module _ {s : Inside} {p : PagesValue} {page : GuestPage} {e : Entry} (it : IsAs
   by_home : {o : Option GuestPage} → page_in_tree s.rows tree e.bytes ≡ o → page_in_tree s.rows (tree_by s.rows.by_node e.home) e.bytes ≡ o
   by_home at = ap (λ t. page_in_tree s.rows t e.bytes) (tree_is s.knobs it.lawful.by_node row_of) ∙ to_tree at
 
+  -- the partner of the row is the row to which the tree leads, where that waits and is another
+  lonely_by : {o : Option GuestPage} → page_in_tree s.rows tree e.bytes ≡ o
+      → partner s.knobs (rows_of s.rows.held) row_of ≡ option_and_then (λ other. option_and_then (λ w.
+      if waiting_state w.state && not (same_page other page) then Some w else None) (row_at other (rows_of s.rows.held))) o
+  lonely_by at = rw (← to_tree at, ← at_row it) (partner_is s.knobs s.rows it.lawful.order it.lawful.by_node led found_by row_of)
+
   -- a row to which the tree leads, and which waits, is the partner
   pub met : {other : GuestPage} {b : Bool} → page_in_tree s.rows tree e.bytes ≡ Some other → same_page other page ≡ false
       → MatchOption (row_at other (rows_of s.rows.held)) (b ≡ false) (λ r. b ≡ waiting_state r.state) → b ≡ true
       → MatchOption (partner s.knobs (rows_of s.rows.held) row_of) (true ≡ false) (λ w. other ≡ w.page)
   met {other} {b} at apart told is =
       let w = told_waits _ told is in
-      waiter_led s.knobs s.rows it.lawful.order it.lawful.by_node led found_by row_of (to_tree at) w.1 w.2
-      (ap (same_page other) (at_row it) ∙ apart)
+      grind (arith, lonely_by at, w.1, w.2, apart, find_passes, same_page_eq w.0.page other)
 
   module _ (none : best it ≡ None) (not_zero : (s.knobs.use_zero_pages == 1 && all_zero e.bytes) ≡ false) (group : Option ℕ)
       (lone : IfNone group (NoneHas tree e.bytes s.dups.dups)) where
     lone_so : IfNone group (NoneHas (tree_of s.knobs row_of) e.bytes s.dups.dups)
     lone_so = subst (λ t. IfNone group (NoneHas t e.bytes s.dups.dups)) in_tree lone
 
-    -- where the tree leads to no row, the row may enter
-    pub enters_none : page_in_tree s.rows tree e.bytes ≡ None → MayEnter s p page e group
-    enters_none at = record {
+    -- where the tree leads to no row, or to the row itself, the row may enter
+    pub enters : (page_in_tree s.rows tree e.bytes ≡ None) ⊎ (page_in_tree s.rows tree e.bytes ≡ Some page) → MayEnter s p page e group
+    enters at = record {
       not_zero = not_zero;
       lone = lone_so;
       asked = it;
       none = none;
-      lonely = none_led s.knobs s.rows it.lawful.order it.lawful.by_node led found_by row_of (to_tree at);
-      free = free_by s.rows found_by page (held_of s.rows.pass e) (inl (by_home at));
-    }
-
-    -- the same where it leads to the row itself
-    pub enters_own : page_in_tree s.rows tree e.bytes ≡ Some page → MayEnter s p page e group
-    enters_own at = record {
-      not_zero = not_zero;
-      lone = lone_so;
-      asked = it;
-      none = none;
-      lonely = own_led s.knobs s.rows it.lawful.order it.lawful.by_node led found_by row_of (to_tree at ∙ ap Some (sym (at_row it)));
-      free = free_by s.rows found_by page (held_of s.rows.pass e) (inr (by_home at));
+      lonely = elim at [
+        | inl nowhere ↦ lonely_by nowhere
+        | inr own ↦ grind (arith, lonely_by own, same_page_refl page)
+      ];
+      free = free_by s.rows found_by page (held_of s.rows.pass e) (elim at [ inl nowhere ↦ inl (by_home nowhere) | inr own ↦ inr (by_home own) ]);
     }
 
     module _ {other : GuestPage} {b : Bool} (at : page_in_tree s.rows tree e.bytes ≡ Some other) (apart : same_page other page ≡ false)
@@ -351,21 +318,17 @@ module _ {s : Inside} {p : PagesValue} {page : GuestPage} {e : Entry} (it : IsAs
       idle = grind (arith, told, is, row_there s it.lawful other held_other)
 
       -- the same once a row to which it led, and which does not wait, has left the tree
-      pub enters_for : MayEnter (record s { rows = record s.rows { held = change_held other out_of_tree s.rows.held } }) p page e group
-      enters_for =
-          let rows : RowsView = record s.rows { held = change_held other out_of_tree s.rows.held } in
-          let stays = now_rows s it.lawful other held_other idle {rows = rows} refl in
-          record {
-            not_zero = not_zero;
-            lone = lone_so;
-            asked = record {
-              lawful = lawful_still s it.lawful other held_other idle {rows = rows} refl;
-              seen_as = seen_still s it.lawful other held_other idle {rows = rows} refl ∙ it.seen_as;
-              found = held_still s it.lawful other held_other idle {rows = rows} refl page apart ∙ it.found;
-              restless = it.restless;
-            };
-            none = none;
-            lonely = rw stays (idle_led s.knobs s.rows it.lawful.order it.lawful.by_node led found_by row_of (to_tree at)
-                (row_there s it.lawful other held_other) idle);
-            free = free_but s.rows found_by page other (held_of s.rows.pass e) (by_home at);
-          }
+      pub enters_for : MayEnter (record s { rows = altered other out_of_tree s.rows }) p page e group
+      enters_for = record {
+        not_zero = not_zero;
+        lone = lone_so;
+        asked = record {
+          lawful = lawful_still s it.lawful other held_other idle;
+          seen_as = seen_still s it.lawful other held_other idle ∙ it.seen_as;
+          found = held_still s it.lawful other held_other idle page apart ∙ it.found;
+          restless = it.restless;
+        };
+        none = none;
+        lonely = rw (now_rows s it.lawful other held_other idle) (grind (arith, lonely_by at, row_there s it.lawful other held_other, idle));
+        free = free_but s.rows found_by page other (held_of s.rows.pass e) (by_home at);
+      }

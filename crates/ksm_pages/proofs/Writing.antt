@@ -1,17 +1,19 @@
 -- What each change of one row, found under its key, leaves: rows still, and what is seen of them.
 use Rattle.ksm_pages.proofs.Options.{none_mapped}
-use Rattle.ksm_pages.proofs.Names.{private_state, ap, AreListed, arith, Bool, CanMove, change_held, Entry, false, find, get, GuestPage, has_item, Held, held_at, held_in, held_of}
+use Rattle.ksm_pages.proofs.Names.{ap, AreListed, arith, Bool, CanMove, change_held, Entry, false, find, get, GuestPage, has_item, Held, held_at, held_in, held_of}
 use Rattle.ksm_pages.proofs.Names.{held_under, IfSome, inl, InPageOrder, inr, is_of, is_restless, is_some, IsAddedTo, IsInVain, IsMoved, IsRows, IsUnder, key_in, length}
 use Rattle.ksm_pages.proofs.Names.{length-map, List, Listing, marked, Named, named_of, nat_tests, None, option_map, pages_ordered, PageState, Private, refl, row_at, rows_of}
 use Rattle.ksm_pages.proofs.Names.{RowsView, rules, same_page_refl, same_Some, shared_state, Slab, Some, state_of, sym, Tally, true, true≢false, Updates-with_value, Waiting, with_held}
-use Rattle.ksm_pages.proofs.Names.{with_named, with_value, without_held, without_named, ℕ, ◌<◌, ◌^◌, ◌∙◌, ◌≡◌, ◌≢◌, ◌≤◌, ◌⊎◌}
+use Rattle.ksm_pages.proofs.Names.{with_named, with_value, without_held, without_named, ℕ, ◌<◌, ◌^◌, ◌∙◌, ◌≡◌, ◌≢◌, ◌≤◌, ◌⊎◌, altered}
 use Rattle.slab.specs.Slab.{Updates as Fills}
-use Rattle.ksm_pages.specs.Filed.{StaysBegun}
+use Rattle.ksm_pages.specs.Filed.{StaysBegun, StaysLed}
+use Rattle.ksm_pages.specs.Unstable.{AreLed}
 use Rattle.ksm_pages.specs.Held.{is_in}
 use Rattle.ksm_pages.specs.declared.row.Kind.TheVariants as kinds
 use Rattle.ksm_pages.specs.declared.rows.Rows.TheInside.{Inside}
 use Rattle.ksm_pages.proofs.Changing.{marked_same, row_told, rows_changed, rows_with, rows_without}
 use Rattle.ksm_pages.proofs.Filing.{all_filled, filed_marked, filed_put, filed_taken, held_found, held_nowhere, named_under, one_key, put, rows_rise, taken, unmarked, written}
+use Rattle.ksm_pages.proofs.Led.{led_written}
 use Rattle.ksm_pages.proofs.Found.{absent_unchanged, write_rises}
 use Rattle.ksm_rmap.proofs.Ordered.{absent_kept, with_rises, without_rises}
 use Rattle.ksm_pages.proofs.Tallying.{can_move, tally_changed, tally_gone, tally_put}
@@ -37,7 +39,7 @@ pub rests_now : (pass : ℕ) (e : Entry) → 1 ≤ pass → e.kind ≡ kinds.Own
 rests_now pass e counting own none = grind (arith, nat_tests)
 
 -- a change of a page without a row leaves what is seen of the rows as it is
-pub nothing : (s : Inside) → AreRows s → (page : GuestPage) → None ≡ key_in s.order page → (f : Held → Held) {v : RowsView} → view_of s ≡ v → v ≡ record v { held = change_held page f v.held }
+pub nothing : (s : Inside) → AreRows s → (page : GuestPage) → None ≡ key_in s.order page → (f : Held → Held) {v : RowsView} → view_of s ≡ v → v ≡ altered page f v
 nothing s are page told f is =
     let absent = held_nowhere s.entries s.order are.ascending are.filed s.pass page (sym told) in
     let same = absent_unchanged (λ (h : Held). h.row.page) page f absent in
@@ -67,11 +69,6 @@ module _ (s : Inside) (are : AreRows s) where
         → e.kind ≡ kinds.Own
     own_there seen_as alone = grind (arith, row_there)
 
-    -- the row of an entry is Private where that of its page is
-    pub private_there : {v : RowsView} → view_of s ≡ v → IfSome (held_at page v.held) (λ h. private_state h.row.state ≡ true)
-        → private_state (state_of s.pass e) ≡ true
-    private_there seen_as private = grind (arith, row_there)
-
     -- the unstable tree leads to the entry of a page where it leads to the page's row
     pub led_there : {v : RowsView} → view_of s ≡ v → IfSome (held_at page v.held) (λ h. is_in h.in_tree ≡ true)
         → is_in e.in_tree ≡ true
@@ -84,6 +81,11 @@ module _ (s : Inside) (are : AreRows s) where
         let many : length (rows_of held) < 2 ^ 64 =
         omega (arith, length-map held (λ (h : Held). h.row), length-map s.order (λ (n : Named). held_under s.pass (get s.entries n.key)), few) in
         rw is (can_move rise _ found_row s.tally are.counted (search rules) many)
+
+    -- the unstable tree leads as it did where the entry is written anew, in it only as before
+    pub led_so : AreLed s.by_node s.entries s.unstable → (e' : Entry) → StaysLed e e' → AreLed s.by_node (with_value s.entries key e') s.unstable
+    led_so led e' stays =
+        led_written s.by_node s.entries (with_value s.entries key e') s.unstable led (Updates-with_value _ _ _ (ap is_some stood)) refl stood stays
 
     -- ---------------------------------------------------------------- the entry changed
 
@@ -131,7 +133,7 @@ module _ (s : Inside) (are : AreRows s) where
 
       -- with an entry written anew whose row is changed by f, the rows are seen with f at that page
       pub viewed : (f : Held → Held) → (1 ≤ v.pass → held_of v.pass e' ≡ f (held_of v.pass e))
-          → view s.by_node s.pass later order ≡ record v { held = change_held page f v.held }
+          → view s.by_node s.pass later order ≡ altered page f v
       viewed f is = grind (arith, held_later f)
 
     -- ---------------------------------------------------------------- the entry went

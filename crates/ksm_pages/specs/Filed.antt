@@ -13,7 +13,7 @@ use Rattle.ksm_pages.specs.declared.row.Entry.{Entry}
 use Rattle.ksm_pages.specs.declared.row.InTree.TheVariants.{Not}
 use Rattle.ksm_pages.specs.declared.row.Spot.{Spot}
 use Rattle.ksm_pages.specs.declared.tally.Tally.{Tally}
-use Rattle.ksm_pages.specs.Held.{Held, Listing, RowsView, change_held, held_of, is_in, is_restless, rows_of}
+use Rattle.ksm_pages.specs.Held.{Held, Listing, RowsView, altered, held_of, is_in, is_restless, rows_of}
 use Rattle.ksm_pages.specs.Ordered.{AreAscending, is_of}
 
 -- ---------------------------------------------------------------- tallies
@@ -131,7 +131,7 @@ KeepsPage pass R = (e later : Entry) → R e later → (later.page ≡ e.page) �
 abbrev pub IsMade : (Entry → Entry → Type 0) → GuestPage → RowsView → RowsView → Type 0
 IsMade R page old new = (change : Held → Held)
     → ((e later : Entry) → R e later → 1 ≤ old.pass → held_of old.pass later ≡ change (held_of old.pass e))
-    → new ≡ record old { held = change_held page change old.held }
+    → new ≡ altered page change old
 
 -- the pages ascend, each is named as its entry says, those that a visit may change are listed if they are known,
 -- the tally is that of the rows, and no entry's pass is beyond the one that goes on

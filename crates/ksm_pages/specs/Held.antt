@@ -199,13 +199,13 @@ without_held page held = filter (λ h. not (holds page h)) held
 abbrev pub change_held : GuestPage → (Held → Held) → List Held → List Held
 change_held page change held = map (λ h. if holds page h then change h else h) held
 
+-- the rows once that of a page changed
+abbrev pub altered : GuestPage → (Held → Held) → RowsView → RowsView
+altered page change v = record v { held = change_held page change v.held }
+
 -- a change of the row alone
 abbrev pub on_row : (Row → Row) → Held → Held
 on_row change h = record h { row = change h.row }
-
--- a change of the state, and of the frame with it
-abbrev pub mapped : PageState → Option ℕ → Held → Held
-mapped state frame h = record h { row = record h.row { state = state }; frame = frame }
 
 -- the page of the row to which the unstable tree leads from a tree and bytes
 abbrev pub page_in_tree : RowsView → ℕ → List ℕ → Option GuestPage

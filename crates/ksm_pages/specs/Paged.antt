@@ -169,9 +169,13 @@ paired place first second p =
 abbrev pub is_restless : Row → Bool
 is_restless r = r.mergeable && not (shared_state r.state)
 
--- the pages once a visit changed the row of a page
-abbrev pub visited : GuestPage → (Row → Row) → PagesView → PagesView
-visited page change p = record p { rows = change_row page change p.rows }
+-- the pages once the row of a page changed
+abbrev pub changed : GuestPage → (Row → Row) → PagesView → PagesView
+changed page change p = record p { rows = change_row page change p.rows }
+
+-- the pages once the row of a page changed, and the page came to lie on a frame, or on none
+abbrev pub relaid : GuestPage → (Row → Row) → Option ℕ → PagesView → PagesView
+relaid page change frame p = record (changed page change p) { frame = lies_on page frame p.frame }
 
 -- what a visit of this row finds, and what it changed by that
 abbrev pub FindsAt : PagesView → PagesView → Row → Find → Type 0
@@ -183,7 +187,7 @@ FindsAt old new r (finds.Dup best) =
     × (new ≡ old)
 FindsAt old new r finds.Changed =
     (is_restless r ≡ true) × (best_dup old.knobs old.rows old.dups r ≡ None) × (r.unchanged ≡ false)
-    × (new ≡ visited r.page (λ r. record r { unchanged = true; state = Private }) old)
+    × (new ≡ changed r.page (λ r. record r { unchanged = true; state = Private }) old)
 FindsAt old new r finds.Zero =
     (is_restless r ≡ true) × (best_dup old.knobs old.rows old.dups r ≡ None) × (r.unchanged ≡ true)
     × (is_for_zero old.knobs r ≡ true) × (new ≡ old)
@@ -194,7 +198,7 @@ FindsAt old new r (finds.Partner page) =
 FindsAt old new r finds.Waits =
     (is_restless r ≡ true) × (best_dup old.knobs old.rows old.dups r ≡ None) × (r.unchanged ≡ true)
     × (is_for_zero old.knobs r ≡ false) × (partner old.knobs old.rows r ≡ None)
-    × (new ≡ visited r.page (λ r. record r { state = Waiting }) old)
+    × (new ≡ changed r.page (λ r. record r { state = Waiting }) old)
 
 -- what a visit of a page finds; a page without a row is found gone
 abbrev pub Finds : PagesView → PagesView → GuestPage → Find → Type 0

@@ -3,9 +3,9 @@
 ghost use Rattle.std.specs.Prelude.{◌≡◌, true, false, None, Some, Err, All, map, IfOk, OnOk, OnErr};
 ghost use Rattle.ksm_base.specs.declared.fault.Fault.TheVariants.{Memory};
 ghost use Rattle.ksm_base.specs.Apply.{fresh_row, let_go as as_let_go, stored, unshared as as_unshared};
-ghost use Rattle.ksm_base.specs.Rows.{row_at, with_row, without_page, change_row, shared_state, private_state};
+ghost use Rattle.ksm_base.specs.Rows.{row_at, with_row, without_page, shared_state, private_state};
 ghost use Rattle.ksm_base.specs.Rows.{settled as as_settled};
-ghost use Rattle.ksm_pages.specs.Paged.{HasRow, IsAlone, IsKnown, lies_on, on_its_own, seen};
+ghost use Rattle.ksm_pages.specs.Paged.{HasRow, IsAlone, IsKnown, changed, lies_on, on_its_own, relaid, seen};
 
 use crate::left::leave;
 use crate::pages::Pages;
@@ -37,10 +37,7 @@ impl Pages {
     pub fn resettle(&mut self, spot: Spot, frame: u32) -> Option<u32>
         requires { IsKnown spot.page self.old.rows }
         ensures left { result ≡ (seen self.old).frame spot.page }
-        ensures settled { seen self.new ≡ record (seen self.old) {
-          rows = change_row spot.page on_its_own self.old.rows;
-          frame = lies_on spot.page (Some frame) (seen self.old).frame;
-        } }
+        ensures settled { seen self.new ≡ relaid spot.page on_its_own (Some frame) (seen self.old) }
     {
         let left = leave(&mut self.dups, &self.frames, &self.rows, spot);
         self.rows.change(spot, |entry| {
@@ -51,12 +48,11 @@ impl Pages {
         left
     }
 
-    /// A Private page lies on this frame of its own.
+    /// A page with a frame of its own lies on this one from now on.
     #[inline(always)]
     pub fn lay(&mut self, spot: Spot, frame: u32)
-        requires { HasRow spot.page self.old.rows (λ r. private_state r.state ≡ true) }
+        requires { IsAlone spot.page self.old.rows }
         ensures { seen self.new ≡ record (seen self.old) {
-          rows = change_row spot.page on_its_own self.old.rows;
           frame = lies_on spot.page (Some frame) (seen self.old).frame;
         } }
     {
@@ -81,9 +77,7 @@ impl Pages {
     #[inline(always)]
     pub fn store(&mut self, spot: Spot, bytes: &PageBytes)
         requires { IsAlone spot.page self.old.rows }
-        ensures { seen self.new ≡ record (seen self.old) {
-          rows = change_row spot.page (stored bytes.now) self.old.rows;
-        } }
+        ensures { seen self.new ≡ changed spot.page (stored bytes.now) (seen self.old) }
     {
         self.rows.store(spot, bytes);
     }
@@ -91,9 +85,7 @@ impl Pages {
     /// A Private page is at home on another node from now on.
     pub fn set_home(&mut self, spot: Spot, node: u32)
         requires { HasRow spot.page self.old.rows (λ r. private_state r.state ≡ true) }
-        ensures { seen self.new ≡ record (seen self.old) {
-          rows = change_row spot.page (λ r. record r { home = node }) self.old.rows;
-        } }
+        ensures { seen self.new ≡ changed spot.page (λ r. record r { home = node }) (seen self.old) }
     {
         self.rows.set_home(spot, node);
     }
@@ -101,9 +93,7 @@ impl Pages {
     /// The page is not unchanged from now on.
     pub fn forget_unchanged(&mut self, spot: Spot)
         requires { IsKnown spot.page self.old.rows }
-        ensures { seen self.new ≡ record (seen self.old) {
-          rows = change_row spot.page (λ r. record r { unchanged = false }) self.old.rows;
-        } }
+        ensures { seen self.new ≡ changed spot.page (λ r. record r { unchanged = false }) (seen self.old) }
     {
         self.rows.change(spot, |entry| entry.unchanged = false);
     }
@@ -111,9 +101,7 @@ impl Pages {
     /// The scan visits the page from now on.
     pub fn make_mergeable(&mut self, spot: Spot)
         requires { IsKnown spot.page self.old.rows }
-        ensures { seen self.new ≡ record (seen self.old) {
-          rows = change_row spot.page (λ r. record r { mergeable = true }) self.old.rows;
-        } }
+        ensures { seen self.new ≡ changed spot.page (λ r. record r { mergeable = true }) (seen self.old) }
     {
         self.rows.change(spot, |entry| entry.mergeable = true);
     }
@@ -121,9 +109,7 @@ impl Pages {
     /// A page with a frame of its own is Private and not unchanged, and the scan visits it no more.
     pub fn let_go(&mut self, spot: Spot)
         requires { IsAlone spot.page self.old.rows }
-        ensures { seen self.new ≡ record (seen self.old) {
-          rows = change_row spot.page as_let_go self.old.rows;
-        } }
+        ensures { seen self.new ≡ changed spot.page as_let_go (seen self.old) }
     {
         self.rows.let_go(spot);
     }
@@ -133,10 +119,7 @@ impl Pages {
     pub fn let_go_on(&mut self, spot: Spot, frame: u32) -> Option<u32>
         requires { IsKnown spot.page self.old.rows }
         ensures left { result ≡ (seen self.old).frame spot.page }
-        ensures gone { seen self.new ≡ record (seen self.old) {
-          rows = change_row spot.page as_let_go self.old.rows;
-          frame = lies_on spot.page (Some frame) (seen self.old).frame;
-        } }
+        ensures gone { seen self.new ≡ relaid spot.page as_let_go (Some frame) (seen self.old) }
     {
         let left = leave(&mut self.dups, &self.frames, &self.rows, spot);
         self.rows.change(spot, |entry| {
@@ -152,7 +135,7 @@ impl Pages {
     /// A page with a frame of its own waits no more, if it did.
     pub fn stop_waiting(&mut self, spot: Spot)
         requires { IsAlone spot.page self.old.rows }
-        ensures { seen self.new ≡ record (seen self.old) { rows = change_row spot.page on_its_own self.old.rows } }
+        ensures { seen self.new ≡ changed spot.page on_its_own (seen self.old) }
     {
         self.rows.change(spot, |entry| entry.forget_pass());
     }
@@ -168,9 +151,7 @@ impl Pages {
     /// Every page becomes Private and not unchanged, where none is merged or Zero.
     pub fn unshare_all(&mut self)
         requires { All (λ r. shared_state r.state ≡ false) self.old.rows }
-        ensures { seen self.new ≡ record (seen self.old) {
-          rows = map as_unshared self.old.rows;
-        } }
+        ensures { seen self.new ≡ record (seen self.old) { rows = map as_unshared self.old.rows } }
     {
         self.rows.unshare_all();
     }

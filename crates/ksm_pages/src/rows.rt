@@ -11,13 +11,13 @@ ghost use Rattle.std.specs.Prelude.{length, map, not, option_map, slice_get};
 ghost use Rattle.std.specs.Fn.{FnOnceReturnsAtMut};
 ghost use Rattle.ksm_base.specs.declared.limits.TheConstants.{MOST_FRAMES};
 ghost use Rattle.ksm_base.specs.declared.page.GuestPage.{GuestPage};
-ghost use Rattle.ksm_base.specs.declared.row.PageState.TheVariants.{Merged, Private, Waiting, Zero};
+ghost use Rattle.ksm_base.specs.declared.row.PageState.TheVariants.{Merged, Waiting, Zero};
 ghost use Rattle.ksm_base.specs.Apply.{fresh_row, let_go as as_let_go};
-ghost use Rattle.ksm_base.specs.Rows.{InPageOrder, settled, shared_state, waiting_state, private_state};
+ghost use Rattle.ksm_base.specs.Rows.{InPageOrder, settled, shared_state, waiting_state};
 ghost use Rattle.ksm_base.specs.Visit.{after_cursor};
 ghost use Rattle.ksm_pages.specs.Ahead.{EndsAt, FindsNext, last_of, mergeable_pages, pages_behind, pages_between};
 ghost use Rattle.ksm_pages.specs.Filed.{AreFiled, AreListed, IsMade, IsTally, IsUnder, KeepsPage, key_in};
-ghost use Rattle.ksm_pages.specs.Held.{AreInTree, IsFree, change_held, held_at, held_of, is_in, on_row, out_of_tree, mapped};
+ghost use Rattle.ksm_pages.specs.Held.{AreInTree, IsFree, altered, held_at, held_of, is_in, on_row, out_of_tree};
 ghost use Rattle.ksm_pages.specs.Held.{in_tree_by, page_in_tree, rows_of, shares, waiting_in, with_held, without_held, written};
 ghost use Rattle.ksm_pages.specs.Ordered.{AreAscending};
 ghost use Rattle.ksm_pages.specs.Unstable.{AreLed, IsFreeAt, LeadsAt};
@@ -409,11 +409,11 @@ impl Rows {
         was_restless
     }
 
-    /// A Private row has this frame of its own.
+    /// A row with a frame of its own has this one from now on.
     #[inline(always)]
     pub fn lay(&mut self, spot: Spot, frame: u32)
-        requires { IfSome (held_at spot.page self.old.held) (λ h. private_state h.row.state ≡ true) }
-        ensures { self.new ≡ record self.old { held = change_held spot.page (mapped Private (Some frame)) self.old.held } }
+        requires { IfSome (held_at spot.page self.old.held) (λ h. shared_state h.row.state ≡ false) }
+        ensures { self.new ≡ altered spot.page (λ h. record h { frame = Some frame }) self.old }
     {
         let Some(key) = key_of(&self.entries, &self.order, spot) else {
             return;
@@ -424,7 +424,7 @@ impl Rows {
     /// The row has these bytes, and waits no more. Where its bytes were others, it is not unchanged.
     #[inline(always)]
     pub fn store(&mut self, spot: Spot, bytes: &PageBytes)
-        ensures { self.new ≡ record self.old { held = change_held spot.page (written bytes.now) self.old.held } }
+        ensures { self.new ≡ altered spot.page (written bytes.now) self.old }
     {
         let Some(key) = key_of(&self.entries, &self.order, spot) else {
             return;
@@ -440,7 +440,7 @@ impl Rows {
     // The same where the unstable tree leads to the row.
     #[inline(never)]
     fn store_in_tree(&mut self, spot: Spot, bytes: &PageBytes)
-        ensures { self.new ≡ record self.old { held = change_held spot.page (written bytes.now) self.old.held } }
+        ensures { self.new ≡ altered spot.page (written bytes.now) self.old }
     {
         self.change_out_of_tree(spot, |entry| {
             entry.in_tree = InTree::Not;
@@ -450,9 +450,7 @@ impl Rows {
 
     /// The row is at home on another node, and the unstable tree does not lead to it.
     pub fn set_home(&mut self, spot: Spot, home: u32)
-        ensures { self.new ≡ record self.old {
-          held = change_held spot.page (λ h. on_row (λ r. record r { home = home }) (out_of_tree h)) self.old.held;
-        } }
+        ensures { self.new ≡ altered spot.page (λ h. on_row (λ r. record r { home = home }) (out_of_tree h)) self.old }
     {
         self.change_out_of_tree(spot, |entry| {
             entry.in_tree = InTree::Not;
@@ -462,7 +460,7 @@ impl Rows {
 
     /// The unstable tree does not lead to the row, so that waits no more.
     pub fn leave_tree(&mut self, spot: Spot)
-        ensures { self.new ≡ record self.old { held = change_held spot.page out_of_tree self.old.held } }
+        ensures { self.new ≡ altered spot.page out_of_tree self.old }
     {
         self.change_out_of_tree(spot, |entry| entry.in_tree = InTree::Not);
     }
@@ -504,9 +502,7 @@ impl Rows {
     pub fn enter(&mut self, spot: Spot, group: Option<u32>) -> Result<(), Fault>
         requires own { IfSome (held_at spot.page self.old.held) (λ h. shared_state h.row.state ≡ false) }
         requires free { IfSome (held_at spot.page self.old.held) (λ h. IsFree self.old spot.page h) }
-        ensures waits { OnOk result (self.new ≡ record self.old {
-          held = change_held spot.page (waiting_in (in_tree_by group)) self.old.held;
-        }) }
+        ensures waits { OnOk result (self.new ≡ altered spot.page (waiting_in (in_tree_by group)) self.old) }
         ensures kept { OnErr result (self.new ≡ self.old) }
         ensures memory { IfErr result (λ fault. fault ≡ Fault.Memory) }
     {
@@ -528,9 +524,7 @@ impl Rows {
     pub fn wait(&mut self, spot: Spot)
         requires own { IfSome (held_at spot.page self.old.held) (λ h. shared_state h.row.state ≡ false) }
         requires led { IfSome (held_at spot.page self.old.held) (λ h. is_in h.in_tree ≡ true) }
-        ensures { self.new ≡ record self.old {
-          held = change_held spot.page (on_row (λ r. record r { state = Waiting })) self.old.held;
-        } }
+        ensures { self.new ≡ altered spot.page (on_row (λ r. record r { state = Waiting })) self.old }
     {
         let Some(key) = key_of(&self.entries, &self.order, spot) else {
             return;
@@ -560,7 +554,7 @@ impl Rows {
     /// The page of a row is mapped from the frame of the dup with a number, at a place that is a guess.
     #[inline(always)]
     pub fn merge(&mut self, spot: Spot, number: u64, place: u32)
-        ensures { self.new ≡ record self.old { held = change_held spot.page (shares (Merged number)) self.old.held } }
+        ensures { self.new ≡ altered spot.page (shares (Merged number)) self.old }
     {
         self.change(spot, |entry| {
             entry.kind = Kind::Merged;
@@ -573,7 +567,7 @@ impl Rows {
 
     /// The page of a row is mapped from the zero page.
     pub fn become_zero(&mut self, spot: Spot)
-        ensures { self.new ≡ record self.old { held = change_held spot.page (shares Zero) self.old.held } }
+        ensures { self.new ≡ altered spot.page (shares Zero) self.old }
     {
         self.change(spot, |entry| {
             entry.kind = Kind::Zero;
@@ -619,10 +613,7 @@ impl Rows {
 
     /// The row waits no more, is not unchanged, and no scan visits it.
     pub fn let_go(&mut self, spot: Spot)
-        ensures { self.new ≡ record self.old {
-          held = change_held spot.page (on_row (λ r. record (settled r) { mergeable = false; unchanged = false }))
-              self.old.held;
-        } }
+        ensures { self.new ≡ altered spot.page (on_row (λ r. record (settled r) { mergeable = false; unchanged = false })) self.old }
     {
         let was_restless = self.change(spot, |entry| {
             entry.mergeable = false;

@@ -4,9 +4,9 @@
 ghost use Rattle.std.specs.Prelude.{◌≡◌, true, false, None, Some, Err, All, ◌==◌, ◌&&◌, IfNone, IfOk, IsTrue, OnOk, OnErr, option_map};
 ghost use Rattle.ksm_base.specs.declared.fault.Fault.TheVariants.{Memory};
 ghost use Rattle.ksm_base.specs.declared.row.PageState.TheVariants.{Merged, Private, Zero};
-ghost use Rattle.ksm_base.specs.Rows.{all_zero as has_only_zeroes, change_row, merged_into};
+ghost use Rattle.ksm_base.specs.Rows.{all_zero as has_only_zeroes, merged_into};
 ghost use Rattle.ksm_pages.specs.declared.pages.Find.TheVariants as finds;
-ghost use Rattle.ksm_pages.specs.Paged.{Finds, HasRoom, HasRow, IsAlone, MayPair, is_restless, lies_on};
+ghost use Rattle.ksm_pages.specs.Paged.{Finds, HasRoom, HasRow, IsAlone, MayPair, changed, is_restless, lies_on, relaid};
 ghost use Rattle.ksm_pages.specs.Paged.{paired as are_paired, seen};
 ghost use Rattle.ksm_pages.specs.Held.{is_alone};
 ghost use Rattle.ksm_tree.specs.Chains.{in_group};
@@ -155,10 +155,9 @@ impl Pages {
         requires alone { IsAlone spot.page self.old.rows }
         requires room { HasRoom self.old.rows self.old.dups best.number }
         ensures left { IfOk result (λ lone. (seen self.old).frame spot.page ≡ Some lone) }
-        ensures joined { OnOk result (seen self.new ≡ record (seen self.old) {
-          rows = change_row spot.page (λ r. record r { state = Merged best.number }) self.old.rows;
-          frame = (seen self.new).frame;
-        }) }
+        ensures joined { OnOk result (seen self.new
+            ≡ record (changed spot.page (λ r. record r { state = Merged best.number }) (seen self.old))
+            { frame = (seen self.new).frame }) }
         ensures frame { let old = (seen self.old).frame in
             OnOk result (All (λ r. merged_into best.number r.state ≡ true
             → (seen self.new).frame ≡ lies_on spot.page (old r.page) old) self.old.rows) }
@@ -207,10 +206,7 @@ impl Pages {
     pub fn become_zero(&mut self, spot: Spot) -> Option<u32>
         requires { IsAlone spot.page self.old.rows }
         ensures left { result ≡ (seen self.old).frame spot.page }
-        ensures zero { seen self.new ≡ record (seen self.old) {
-          rows = change_row spot.page (λ r. record r { state = Zero }) self.old.rows;
-          frame = lies_on spot.page None (seen self.old).frame;
-        } }
+        ensures zero { seen self.new ≡ relaid spot.page (λ r. record r { state = Zero }) None (seen self.old) }
     {
         let left = self.rows.find(spot)?.own_frame();
         self.rows.become_zero(spot);

@@ -1,16 +1,15 @@
-use Rattle.ksm_pages.proofs.Names.{ap, arith, Entry, false, nat_tests, None, same_Some, subst, sym, true, ◌∙◌, ◌≡◌}
+use Rattle.ksm_pages.proofs.Names.{ap, arith, Entry, false, nat_tests, None, same_Some, subst, sym, true, ◌∙◌, ◌≡◌, refl}
 use Rattle.std.proofs.lemmas.Result.{on_ok_weaker}
 use Rattle.ksm_pages.specs.Held.{is_in, tree_by}
 use Rattle.ksm_pages.specs.Unstable.{holder, Keeps, LeadsTo}
-use Rattle.ksm_pages.proofs.Led.{led_entered, led_kept, led_still, stay_written}
+use Rattle.ksm_pages.proofs.Led.{led_entered, led_kept, led_written}
 use Rattle.ksm_pages.proofs.rows.lead_to.Goals as goal
 use Rattle.ksm_pages.proofs.rows.lead_to.Goals.{After-lead}
 
 pub returns-then-is_in-clause-leads : goal.returns-then-is_in-clause-leads
 returns-then-is_in-clause-leads c d e later stood fills home bytes in_tree =
     let was : is_in d.in_tree ≡ true = grind (arith, stood, c.index-entry.ensures, c.is_in.ensures, c.if-is_in.true) in
-    led_still c.args.by_node c.args.entries.now later (stay_written c.args.entries.now later c.args.key stood fills (λ _. (was, home, bytes)))
-    c.args.unstable.now c.requires.led
+    led_written c.args.by_node c.args.entries.now later c.args.unstable.now c.requires.led fills refl stood (λ _. (was, home, bytes))
 
 -- the entry is not in the tree
 out : (c : After-lead) → is_in c.index-entry.result.now.in_tree ≡ false

@@ -1,6 +1,6 @@
 use Rattle.std.proofs.Common.{arith}
 use Rattle.ksm_book.proofs.Names.{Done, Err, NoFrame, Ok, refl, Register, seen}
-use Rattle.ksm_book.proofs.Singles.{carried_so, Carries, come_known, come_private, HasCome, register_come, register_turned, lawful}
+use Rattle.ksm_book.proofs.Singles.{carried_so, Carries, come_alone, come_known, HasCome, register_come, register_turned, lawful}
 use Rattle.ksm_book.proofs.state.State.register.Goals as goal
 use Rattle.ksm_book.proofs.state.State.register.Goals.{In_ok-spot}
 
@@ -24,7 +24,7 @@ pub invariant_of-self-in_default : goal.invariant_of-self-in_default
 invariant_of-self-in_default c = lawful c.self.invariant.0 (turned c)
 
 pub lay-requires : goal.lay-requires
-lay-requires c = rw c.in_ok-spot.ensures.spot (come_private (new ((goal.at.lay-requires c).In_ok-spot)))
+lay-requires c = rw c.in_ok-spot.ensures.spot (come_alone (new ((goal.at.lay-requires c).In_ok-spot)))
 
 come : (c : goal.After-lay) → Carries (seen c.self.inside.pages) c.self.inside.keeper (seen c.lay.new.self)
     c.take_frame.new.keeper c.self.inside.cursor c.self.inside.passes (Register c.args.page c.args.node c.args.bytes.now) (Ok Done)

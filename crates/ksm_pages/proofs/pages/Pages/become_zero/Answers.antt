@@ -1,4 +1,4 @@
-use Rattle.ksm_pages.proofs.Names.{beside, change_row, frame_of, lies_on, None, refl, seen, sym, true≢false, Zero, ◌∙◌}
+use Rattle.ksm_pages.proofs.Names.{beside, None, refl, relaid, seen, sym, true≢false, Zero, ◌∙◌}
 use Rattle.ksm_pages.proofs.Leaving.{alone_found, alone_there, Comes, held_as, lies}
 use Rattle.ksm_pages.proofs.Joined.{seen_own}
 use Rattle.ksm_pages.proofs.Lone.{not_alone}
@@ -6,10 +6,8 @@ use Rattle.ksm_pages.proofs.Turning.{moved, own_left}
 use Rattle.ksm_pages.proofs.pages.Pages.become_zero.Goals as goal
 
 -- the page has no frame
-gone : (c : goal.After-become_zero) → Comes c.self.inside c.become_zero.new.self c.self.inside.dups (record (seen c.args.self.now) {
-  rows = change_row c.args.spot.page (λ r. record r { state = Zero }) c.args.self.now.rows;
-  frame = lies_on c.args.spot.page None (frame_of c.args.self.now.lodgings);
-})
+gone : (c : goal.After-become_zero)
+    → Comes c.self.inside c.become_zero.new.self c.self.inside.dups (relaid c.args.spot.page (λ r. record r { state = Zero }) None (seen c.args.self.now))
 gone c =
     moved (own_left c.self.invariant c.self.view_is c.requires) c.become_zero.new.self Zero None beside
     (λ t is. absurd (true≢false (sym is ∙ not_alone t))) refl (held_as c.become_zero.ensures)

@@ -1,6 +1,6 @@
-use Rattle.ksm_pages.proofs.Names.{arith, change_row, held_of, None, on_row, refl, rules, seen, Waiting, ◌≡◌}
+use Rattle.ksm_pages.proofs.Names.{arith, changed, held_of, None, on_row, refl, rules, same_page_refl, seen, Waiting, ◌≡◌}
 use Rattle.ksm_pages.proofs.Leaving.{Comes, held_as}
-use Rattle.ksm_pages.proofs.Partners.{held_led, own_led}
+use Rattle.ksm_pages.proofs.Partners.{held_led, partner_is}
 use Rattle.ksm_pages.proofs.Visiting.{best, finds_gone, finds_waits, IsAsked, lone_none, waits_then}
 use Rattle.ksm_pages.proofs.pages.Pages.glance.Goals as goal
 use Rattle.ksm_pages.proofs.pages.Pages.glance.Goals.{After-wait}
@@ -18,9 +18,8 @@ asked : (c : After-wait) → IsAsked c.self.inside c.args.self.now c.args.spot.p
 asked c = record { lawful = c.self.invariant; seen_as = c.self.view_is; found = c.in-Some.ensures; restless = grind arith }
 
 -- the page waits
-waits : (c : After-wait) → Comes c.self.inside c.wait.new.self c.self.inside.dups (record (seen c.args.self.now) {
-  rows = change_row c.args.spot.page (λ r. record r { state = Waiting }) c.args.self.now.rows;
-})
+waits : (c : After-wait)
+    → Comes c.self.inside c.wait.new.self c.self.inside.dups (changed c.args.spot.page (λ r. record r { state = Waiting }) (seen c.args.self.now))
 waits c = waits_then (asked c) (on_row (λ r. record r { state = Waiting })) (λ x. refl) (λ x. refl) (λ lone. lone) (held_as c.wait.ensures)
 
 pub invariant_of-self : goal.invariant_of-self
@@ -35,5 +34,10 @@ returns-clause-waits c _ =
     rw (← t.tree_in-tree.ensures row refl) (grind (arith, t.if-not-joins_none.ensures)) in
     let led = held_led s.knobs s.rows t.self.invariant.by_node t.are_lawful.ensures.found t.args.spot.page t.in-Some.ensures (grind arith) in
     finds_waits (asked t) none (grind arith) (grind arith)
-    (own_led s.knobs s.rows t.self.invariant.order t.self.invariant.by_node t.are_lawful.ensures.led t.are_lawful.ensures.found row led)
+    (grind (
+      arith,
+      led,
+      same_page_refl row.page,
+      partner_is s.knobs s.rows t.self.invariant.order t.self.invariant.by_node t.are_lawful.ensures.led t.are_lawful.ensures.found row,
+    ))
     (waits t)

@@ -1,4 +1,4 @@
-use Rattle.ksm_pages.proofs.Names.{change_row, on_row, refl, Row, seen, settled, false}
+use Rattle.ksm_pages.proofs.Names.{changed, on_row, refl, Row, seen, settled, false}
 use Rattle.ksm_base.specs.Apply.{let_go as as_let_go}
 use Rattle.ksm_pages.proofs.Leaving.{Comes, held_as}
 use Rattle.ksm_pages.proofs.Resting.{went}
@@ -8,9 +8,8 @@ use Rattle.ksm_pages.proofs.pages.Pages.let_go.Goals as goal
 abbrev as_gone : Row → Row
 as_gone r = record (settled r) { mergeable = false; unchanged = false }
 
-gone : (c : goal.After-let_go) → Comes c.self.inside c.let_go.new.self c.self.inside.dups (record (seen c.args.self.now) {
-  rows = change_row c.args.spot.page as_let_go c.args.self.now.rows;
-})
+gone : (c : goal.After-let_go)
+    → Comes c.self.inside c.let_go.new.self c.self.inside.dups (changed c.args.spot.page as_let_go (seen c.args.self.now))
 gone c =
     let left = own_left c.self.invariant c.self.view_is c.requires in
     rested left c.let_go.new.self (on_row as_gone) as_gone as_let_go

@@ -1,5 +1,5 @@
-use Rattle.ksm_pages.proofs.Names.{arith, rules, true≢false, ◌≡◌}
-use Rattle.ksm_pages.proofs.Paired.{are_apart, both_merged, can_pair, CanPair, first_there, is_free, lawful_paired, lay_first, lay_second, second_there, told_paired}
+use Rattle.ksm_pages.proofs.Names.{arith, refl, rules, true≢false, ◌≡◌}
+use Rattle.ksm_pages.proofs.Paired.{are_apart, both_merged, can_pair, CanPair, is_free, lawful_paired, lay_first, lay_second, may_both, told_paired}
 use Rattle.ksm_pages.proofs.Visiting.{lawful_numbered}
 use Rattle.ksm_pages.proofs.pages.Pages.pair.Goals as goal
 use Rattle.ksm_pages.proofs.pages.Pages.pair.Goals.{After-merge-2, in_default-via-in-Some+in_default, in_default-via-in_default}
@@ -7,8 +7,8 @@ use Rattle.ksm_pages.proofs.pages.Pages.pair.Goals.{After-merge-2, in_default-vi
 pub unreachable-requires : goal.unreachable-requires
 unreachable-requires c =
     elim c.in_default.branch [
-      | in_default-via-in-Some+in_default w ↦ true≢false ((second_there c.self.inside c.self.view_is _ _ _ c.requires.first) w.in_default.ensures')
-      | in_default-via-in_default w ↦ true≢false ((first_there c.self.inside c.self.view_is _ _ _ c.requires.first) w.in_default.ensures)
+      | in_default-via-in-Some+in_default w ↦ true≢false (may_both c.self.inside c.self.view_is _ _ _ c.requires.first w.in_default.ensures w.in_default.ensures')
+      | in_default-via-in_default w ↦ true≢false (may_both c.self.inside c.self.view_is _ _ _ c.requires.first w.in_default.ensures refl)
     ]
 
 begun : (c : goal.After-found-arg-3-1)

@@ -1,4 +1,4 @@
-use Rattle.ksm_pages.proofs.Names.{arith, change_row, on_row, out_of_tree, refl, Row, seen, settled, ℕ}
+use Rattle.ksm_pages.proofs.Names.{arith, changed, on_row, out_of_tree, refl, Row, seen, settled, ℕ}
 use Rattle.ksm_pages.proofs.Leaving.{Comes, held_as}
 use Rattle.ksm_pages.proofs.Turning.{own_left, private_alone, private_left, rested}
 use Rattle.ksm_pages.proofs.pages.Pages.set_home.Goals as goal
@@ -7,9 +7,8 @@ abbrev home : ℕ → Row → Row
 home node r = record r { home = node }
 
 -- the page is at home there
-came : (c : goal.After-set_home) → Comes c.self.inside c.set_home.new.self c.self.inside.dups (record (seen c.args.self.now) {
-  rows = change_row c.args.spot.page (home c.args.node) c.args.self.now.rows;
-})
+came : (c : goal.After-set_home)
+    → Comes c.self.inside c.set_home.new.self c.self.inside.dups (changed c.args.spot.page (home c.args.node) (seen c.args.self.now))
 came c =
     let alone = private_alone c.args.self.now c.args.spot.page c.requires in
     let left = own_left c.self.invariant c.self.view_is alone in

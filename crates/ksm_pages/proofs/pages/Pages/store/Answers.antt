@@ -1,21 +1,18 @@
-use Rattle.ksm_pages.proofs.Names.{change_row, refl, seen, settled, stored}
-use Rattle.ksm_tree.specs.Dups.{rows_of as dup_rows}
+use Rattle.ksm_pages.proofs.Names.{changed, refl, seen, settled, stored}
 use Rattle.ksm_pages.specs.Held.{written}
 use Rattle.ksm_pages.proofs.Leaving.{Comes, held_as}
-use Rattle.ksm_pages.proofs.Lone.{written_lone}
 use Rattle.ksm_pages.proofs.Resting.{put_bytes, stored_settled}
 use Rattle.ksm_pages.proofs.Turning.{own_left, rested}
 use Rattle.ksm_pages.proofs.pages.Pages.store.Goals as goal
 
 -- the page gets its bytes
-filled : (c : goal.After-store) → Comes c.self.inside c.store.new.self c.self.inside.dups (record (seen c.args.self.now) {
-  rows = change_row c.args.spot.page (stored c.args.bytes.now) c.args.self.now.rows;
-})
+filled : (c : goal.After-store)
+    → Comes c.self.inside c.store.new.self c.self.inside.dups (changed c.args.spot.page (stored c.args.bytes.now) (seen c.args.self.now))
 filled c =
     let left = own_left c.self.invariant c.self.view_is c.requires in
     rested left c.store.new.self (written c.args.bytes.now) (λ r. put_bytes c.args.bytes.now (settled r)) (stored c.args.bytes.now)
     (λ x. refl) (λ x. refl) (λ r. refl) refl c.requires (stored_settled c.args.bytes.now left.held.row)
-    (λ _. written_lone c.self.inside.knobs (dup_rows c.self.inside.dups.dups) c.args.bytes.now left.held) (held_as c.store.ensures)
+    (λ _ is. cc) (held_as c.store.ensures)
 
 pub invariant_of-self : goal.invariant_of-self
 invariant_of-self c = (filled c).lawful

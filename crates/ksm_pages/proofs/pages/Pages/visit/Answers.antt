@@ -1,9 +1,8 @@
-use Rattle.ksm_pages.proofs.Names.{ap, arith, best_of, false, found_at, held_of, on_row, option_map, Private, refl, Row, rules, same_page, same_page_eq, seen, settled, Some, sym, true, ◌∙◌, ◌≡◌}
+use Rattle.ksm_pages.proofs.Names.{ap, arith, best_of, changed, false, found_at, held_of, inl, inr, on_row, option_map, Private, refl, Row, rules, same_page, same_page_eq, seen, settled, Some, sym, true, ◌∙◌, ◌≡◌}
 use Rattle.ksm_tree.proofs.Numbers.{on_err}
-use Rattle.ksm_pages.specs.Paged.{visited}
 use Rattle.ksm_pages.proofs.Leaving.{Comes, held_as, row_seen, view_of}
 use Rattle.ksm_pages.proofs.Turning.{own_left, rested}
-use Rattle.ksm_pages.proofs.Visiting.{asked, entered_not, entered_then, entered_waits, enters_alone, enters_for, enters_free, enters_none, enters_own, enters_restless, finds_changed, finds_dup, finds_gone, finds_partner, finds_zero}
+use Rattle.ksm_pages.proofs.Visiting.{asked, entered_not, entered_then, entered_waits, enters, enters_alone, enters_for, enters_free, enters_restless, finds_changed, finds_dup, finds_gone, finds_partner, finds_zero}
 use Rattle.ksm_pages.proofs.Visiting.{is_alone, IsAsked, lone_none, MayEnter, met, none_told, not_other}
 use Rattle.ksm_pages.proofs.pages.Pages.visit.Goals as goal
 use Rattle.ksm_pages.proofs.pages.Pages.visit.Goals.{After-enter-arg-1, in-Some-in_tree+then-ne+else-waits, in-Some-in_tree+else-ne, in_default-in_tree}
@@ -37,7 +36,7 @@ abbrev found : Row → Row
 found r = record r { unchanged = true; state = Private }
 
 -- the page of a row that was not unchanged rests, and is unchanged
-went : (c : goal.After-change) → Comes c.self.inside c.change.new.self c.self.inside.dups (visited c.args.spot.page found (seen (view_of c.self.inside)))
+went : (c : goal.After-change) → Comes c.self.inside c.change.new.self c.self.inside.dups (changed c.args.spot.page found (seen (view_of c.self.inside)))
 went c =
     let s = c.self.inside in
     let alone = is_alone s c.self.invariant c.args.spot.page c.in-Some.entry.now c.in-Some.ensures (grind arith) in
@@ -91,12 +90,12 @@ way c =
       | in-Some-in_tree+else-ne w ↦
           let own = same_page_eq w.in-Some-in_tree.other.page c.args.spot.page (not_other _ w.if-ne.ensures) in
           rw (w.self-inside-is, kept_dups)
-          (enters_own it c.are_lawful.ensures.led c.are_lawful.ensures.found tree_is none not_zero c.group_with_best-group.result.0 c.group_with_best-group.ensures.none
-          (sym w.in-Some-in_tree.ensures ∙ ap Some own))
+          (enters it c.are_lawful.ensures.led c.are_lawful.ensures.found tree_is none not_zero c.group_with_best-group.result.0 c.group_with_best-group.ensures.none
+          (inr (sym w.in-Some-in_tree.ensures ∙ ap Some own)))
       | in_default-in_tree w ↦
           rw (w.self-inside-is, kept_dups)
-          (enters_none it c.are_lawful.ensures.led c.are_lawful.ensures.found tree_is none not_zero c.group_with_best-group.result.0 c.group_with_best-group.ensures.none
-          (grind arith))
+          (enters it c.are_lawful.ensures.led c.are_lawful.ensures.found tree_is none not_zero c.group_with_best-group.result.0 c.group_with_best-group.ensures.none
+          (inl (grind arith)))
     ]
 
 pub enter-requires-clause-own : goal.enter-requires-clause-own

@@ -1,8 +1,7 @@
 use Rattle.std.specs.Fn.{FnOnceReturnsAtMut}
-use Rattle.ksm_pages.proofs.Led.{led_still, stay_written}
 use Rattle.ksm_pages.specs.Unstable.{AreLed}
-use Rattle.ksm_pages.proofs.Names.{ap, arith, inl, inr, is_some, Updates-with_value, IsAddedTo, is_restless, IsRows, Listing, marked, refl, rules, true, with_value, ◌≡◌, ◌⊎◌}
-use Rattle.ksm_pages.proofs.Writing.{can_be, kept_mark, nothing, still, view_of, viewed}
+use Rattle.ksm_pages.proofs.Names.{arith, inl, inr, IsAddedTo, is_restless, IsRows, Listing, marked, refl, rules, true, with_value, ◌≡◌, ◌⊎◌}
+use Rattle.ksm_pages.proofs.Writing.{can_be, kept_mark, led_so, nothing, still, view_of, viewed}
 use Rattle.ksm_pages.specs.Filed.{IsMade}
 use Rattle.ksm_pages.proofs.rows.Rows.change.Goals as goal
 use Rattle.ksm_pages.proofs.rows.Rows.change.Goals.{After-len-rows, else-is-was, then-is-was}
@@ -44,11 +43,8 @@ lawful g c either =
 led : (g : _) (c : After-len-rows g) → let s = c.if-is-was.self-inside in AreLed s.by_node s.entries s.unstable
 led g c =
     rw (told g c)
-    (led_still c.self.inside.by_node c.self.inside.entries (with_value c.self.inside.entries c.in-Some.key c.make.new.arg2)
-    (stay_written c.self.inside.entries (with_value c.self.inside.entries c.in-Some.key c.make.new.arg2) c.in-Some.key
-    c.index_mut-entry.ensures.value
-    (Updates-with_value _ _ _ (ap is_some c.index_mut-entry.ensures.value)) (c.requires.kept _ _ (made g c)).2)
-    c.self.inside.unstable c.self.invariant.1)
+    (led_so c.self.inside c.self.invariant.0 c.in-Some.ensures.there c.index_mut-entry.ensures.value c.self.invariant.1
+    c.make.new.arg2 (c.requires.kept _ _ (made g c)).2)
 
 pub invariant_of-self : goal.invariant_of-self
 invariant_of-self g c =

@@ -2,7 +2,7 @@ use Rattle.ksm_pages.proofs.Names.{arith, Entry, false, get, None, refl, rules, 
 use Rattle.slab.specs.Slab.{Updates as Fills}
 use Rattle.ksm_pages.specs.declared.row.InTree.TheVariants.{Not}
 use Rattle.ksm_pages.specs.declared.row.Kind.TheVariants as kinds
-use Rattle.ksm_pages.proofs.Led.{led_still, stay_put, stay_room}
+use Rattle.ksm_pages.proofs.Led.{led_out}
 use Rattle.ksm_pages.proofs.Writing.{filled, no_name, rests_now, still_put, viewed_put}
 use Rattle.ksm_pages.proofs.rows.Rows.insert.Goals as goal
 
@@ -36,21 +36,18 @@ invariant_of-self-2 c =
       still_put c.self.inside c.self.invariant.0 c.self.view_is c.reserve_one.ensures.rest (came c).0 c.requires.absent
           (came c).1
           (rests_now _ (fresh c) c.self.invariant.0.counting refl refl) (omega arith) c.add.ensures,
-      led_still c.self.inside.by_node c.self.inside.entries c.insert_reserved.new.self (stay_put c.self.inside.entries c.insert_reserved.new.self c.in-Ok.key (filled c.self.inside c.self.invariant.0 c.self.view_is c.reserve_one.ensures.rest (came c).0 c.requires.absent (came c).1) refl) c.self.inside.unstable c.self.invariant.1,
+      led_out c.self.inside.by_node c.self.inside.entries c.insert_reserved.new.self c.self.inside.unstable c.self.invariant.1 (filled c.self.inside c.self.invariant.0 c.self.view_is c.reserve_one.ensures.rest (came c).0 c.requires.absent (came c).1)
+          (λ e is. grind arith),
     )
 
--- the unstable tree leads as it did where there is room for an entry
 pub invariant_of-self : goal.invariant_of-self
-invariant_of-self c =
-    (search rules, led_still c.self.inside.by_node c.self.inside.entries c.reserve_one.new.slab (stay_room c.self.inside.entries c.reserve_one.new.slab c.reserve_one.ensures.rest) c.self.inside.unstable c.self.invariant.1)
+invariant_of-self c = (search rules, rw c.reserve_one.ensures.rest c.self.invariant.1)
 
 pub invariant_of-self-in_default : goal.invariant_of-self-in_default
-invariant_of-self-in_default c =
-    (search rules, led_still c.self.inside.by_node c.self.inside.entries c.reserve_one.new.slab (stay_room c.self.inside.entries c.reserve_one.new.slab c.reserve_one.ensures.rest) c.self.inside.unstable c.self.invariant.1)
+invariant_of-self-in_default c = (search rules, rw c.reserve_one.ensures.rest c.self.invariant.1)
 
 pub invariant_of-self-in_err-insert : goal.invariant_of-self-in_err-insert
-invariant_of-self-in_err-insert c =
-    (search rules, led_still c.self.inside.by_node c.self.inside.entries c.reserve_one.new.slab (stay_room c.self.inside.entries c.reserve_one.new.slab c.reserve_one.ensures.rest) c.self.inside.unstable c.self.invariant.1)
+invariant_of-self-in_err-insert c = (search rules, rw c.reserve_one.ensures.rest c.self.invariant.1)
 
 pub returns-clause-added : goal.returns-clause-added
 returns-clause-added c =

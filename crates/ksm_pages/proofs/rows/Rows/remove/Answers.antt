@@ -1,5 +1,5 @@
 use Rattle.ksm_pages.proofs.Names.{rules}
-use Rattle.ksm_pages.proofs.Led.{led_still, stay_gone}
+use Rattle.ksm_pages.proofs.Led.{led_out}
 use Rattle.ksm_pages.proofs.Writing.{can_be, nothing_gone, still_gone, viewed_gone}
 use Rattle.ksm_pages.proofs.Options.{some_mapped}
 use Rattle.ksm_pages.proofs.rows.Rows.remove.Goals as goal
@@ -18,8 +18,7 @@ invariant_of-self c =
     let s = c.self.inside in (
       rw c.lose_row.ensures (rw c.remove.ensures (still_gone s c.self.invariant.0 c.in-Some.ensures.there c.remove-gone.ensures.value
           c.remove-gone.ensures.updates c.state.ensures c.change.ensures)),
-      led_still s.by_node s.entries c.remove-gone.new.self
-          (stay_gone s.entries c.remove-gone.new.self c.in-Some.key c.remove-gone.ensures.updates) s.unstable c.self.invariant.1,
+      led_out s.by_node s.entries c.remove-gone.new.self s.unstable c.self.invariant.1 c.remove-gone.ensures.updates (λ e is. cc),
     )
 
 pub returns : goal.returns

@@ -1,7 +1,6 @@
-use Rattle.ksm_pages.proofs.Names.{ap, arith, false, inr, is_some, refl, rules, sym, true≢false, Updates-with_value, with_value, ◌∙◌, ◌≡◌}
+use Rattle.ksm_pages.proofs.Names.{arith, false, inr, refl, rules, sym, true≢false, ◌∙◌, ◌≡◌}
 use Rattle.ksm_pages.specs.Held.{is_in, written}
-use Rattle.ksm_pages.proofs.Led.{led_still, stay_written}
-use Rattle.ksm_pages.proofs.Writing.{kept_mark, nothing, still, viewed}
+use Rattle.ksm_pages.proofs.Writing.{kept_mark, led_so, nothing, still, viewed}
 use Rattle.ksm_pages.proofs.rows.Rows.store.Goals as goal
 use Rattle.ksm_pages.proofs.rows.Rows.store.Goals.{After-take_bytes}
 
@@ -21,10 +20,8 @@ invariant_of-self c =
       rw c.take_bytes.ensures
           (still s c.self.invariant.0 there stood c.self.view_is _ (kept_mark s c.self.invariant.0 there stood _ refl)
           (refl, λ fits. fits) refl refl (search rules) (inr (refl, λ may. may))),
-      led_still s.by_node s.entries (with_value s.entries c.in-Some.key c.take_bytes.new.self)
-          (stay_written s.entries (with_value s.entries c.in-Some.key c.take_bytes.new.self) c.in-Some.key stood
-          (Updates-with_value _ _ _ (ap is_some stood)) (λ led. absurd (true≢false (sym led ∙ rw c.take_bytes.ensures (out f)))))
-          s.unstable c.self.invariant.1,
+      led_so s c.self.invariant.0 there stood c.self.invariant.1 c.take_bytes.new.self
+          (λ led. absurd (true≢false (sym led ∙ rw c.take_bytes.ensures (out f)))),
     )
 
 pub returns-else-is_in : goal.returns-else-is_in

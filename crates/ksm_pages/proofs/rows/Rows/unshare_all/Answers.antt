@@ -1,29 +1,20 @@
-use Rattle.ksm_pages.proofs.Names.{ap, Entry, false, held_in, map, on_row, refl, RowsView, rules, settled, ◌∙◌}
+use Rattle.ksm_pages.proofs.Names.{ap, false, map, on_row, refl, RowsView, rules, settled, ◌∙◌}
 use Rattle.ksm_tree.proofs.Alike.{map_mapped}
-use Rattle.ksm_pages.proofs.Led.{led_still, stay_mapped}
-use Rattle.ksm_pages.proofs.Settling.{plain_rows, plain_seen, retained_all}
+use Rattle.ksm_pages.proofs.Led.{led_mapped}
+use Rattle.ksm_pages.proofs.Settling.{plain, plain_seen, retained_all}
 use Rattle.ksm_pages.proofs.rows.Rows.unshare_all.Goals as goal
-
-abbrev plain : Entry → Entry
-plain e = record e { unchanged = false }
 
 pub invariant_of-self : goal.invariant_of-self
 invariant_of-self c =
-    let s = c.self.inside in
-    let slots = retained_all _ plain (λ f k old keep new next t. search rules) _ _ _ _ c.retain.ensures.retained in (
-      plain_rows c.self.invariant.0 c.retain.new.self slots,
-      led_still s.by_node s.entries c.retain.new.self
-          (stay_mapped s.entries c.retain.new.self plain slots (λ e. refl) (λ e. refl) (λ e. refl)) s.unstable
-          c.self.invariant.1,
-    )
+    let slots = retained_all _ plain (λ f k old keep new next t. search rules) _ _ _ _ c.retain.ensures.retained in
+    ((plain_seen c.self.invariant.0 c.retain.new.self slots).rows, led_mapped c.self.inside.entries c.retain.new.self plain slots (λ e. (refl, refl, refl)) c.self.inside.by_node c.self.inside.unstable c.self.invariant.1)
 
 pub returns : goal.returns
 returns c =
     let s = c.self.inside in
-    let held = held_in s.pass s.entries s.order in
-    let slots = retained_all _ _ (λ f k old keep new next t. search rules) _ _ _ _ c.retain.ensures.retained in
+    let slots = retained_all _ plain (λ f k old keep new next t. search rules) _ _ _ _ c.retain.ensures.retained in
     c.settle_all.ensures
     ∙ ap (λ hs. record { held = hs; pass = c.settle_all.new.self.pass; by_node = s.by_node })
-    (ap (map (on_row settled)) (plain_seen c.self.invariant.0 c.retain.new.self slots)
+    (ap (map (on_row settled)) (plain_seen c.self.invariant.0 c.retain.new.self slots).seen
     ∙ map_mapped _ _ _ _ (λ k d lt. refl))
     ∙ ap (λ (v : RowsView). record v { held = map (on_row (λ r. record (settled r) { unchanged = false })) v.held; pass = c.settle_all.new.self.pass }) c.self.view_is

@@ -1,6 +1,5 @@
-use Rattle.ksm_pages.proofs.Names.{ap, arith, Entry, inr, is_some, refl, rules, sym, Updates-with_value, with_value}
-use Rattle.ksm_pages.proofs.Led.{led_still, stay_written}
-use Rattle.ksm_pages.proofs.Writing.{can_be, kept_mark, led_there, nothing, own_there, still, viewed, waits_now}
+use Rattle.ksm_pages.proofs.Names.{arith, Entry, inr, refl, rules, sym}
+use Rattle.ksm_pages.proofs.Writing.{can_be, kept_mark, led_so, led_there, nothing, own_there, still, viewed, waits_now}
 use Rattle.ksm_pages.proofs.rows.Rows.wait.Goals as goal
 use Rattle.ksm_pages.proofs.rows.Rows.wait.Goals.{After-change}
 
@@ -27,9 +26,7 @@ invariant_of-self c =
       still s c.self.invariant.0 there stood c.self.view_is (later c) (kept_mark s c.self.invariant.0 there stood _ refl)
           (refl, λ _ own. grind arith) c.state_alone-old.ensures
           (sym (waits_now s.pass (later c) own refl led)) c.change.ensures (inr (refl, λ may. may)),
-      led_still s.by_node s.entries (with_value s.entries c.in-Some.key (later c))
-          (stay_written s.entries (with_value s.entries c.in-Some.key (later c)) c.in-Some.key stood
-          (Updates-with_value _ _ _ (ap is_some stood)) (λ led. (led, refl, refl))) s.unstable c.self.invariant.1,
+      led_so s c.self.invariant.0 there stood c.self.invariant.1 (later c) (λ led. (led, refl, refl)),
     )
 
 pub returns : goal.returns
