@@ -3,7 +3,7 @@ use Rattle.ksm_pages.proofs.Names.{after_cursor, ap, arith, Bool, comes_before, 
 use Rattle.ksm_pages.proofs.Names.{GuestPage, held_at, held_of, InPageOrder, Inside, is_next, IsHeld, Kind, List, None, none-some, of_guest, Option, option_map, pages_ordered, PagesValue, place_of}
 use Rattle.ksm_pages.proofs.Names.{Row, row_at, rows_of, same_page_eq, seen, Some, state_of, sym, true, ℕ, [], ◌∙◌, ◌∷◌, ◌≡◌, ◌≤◌}
 use Rattle.ksm_pages.proofs.Options.{mapped_some, none_mapped}
-use Rattle.ksm_pages.proofs.Found.{first_found}
+use Rattle.ksm_pages.proofs.Found.{find_narrower, first_found}
 use Rattle.std.proofs.lemmas.Bool.{false_from_ne_true}
 use Rattle.ksm_rmap.proofs.Ordered.{found_parts}
 use Rattle.std.specs.Prelude.{IfSome, MatchOption, option_and_then}
@@ -20,12 +20,6 @@ pub ticket_told : (s : Inside) {p : PagesValue} → view_of s ≡ p → {page kn
 ticket_told s {p} seen_as {page} at e found is = grind (arith, row_seen)
 
 -- ---------------------------------------------------------------- the first page after a cursor
-
--- the first that passes a test is the first that passes a narrower one, if it does
-find_narrower : {X : Type 0} (p q : X → Bool) → ((x : X) → q x ≡ true → p x ≡ true) → (xs : List X) (x : X) → find p xs ≡ Some x
-    → q x ≡ true → find q xs ≡ Some x
-find_narrower p q less [] x is passes = is
-find_narrower p q less (y ∷ ys) x is passes = grind (arith, less y, find_narrower p q less ys x)
 
 -- where no row in front of a page passes, and that of the page does, that is the first that passes, if it is there
 pub first_at : (next : Row → Bool) (page : GuestPage) → ((r : Row) → r.page ≡ page → next r ≡ true)

@@ -1,6 +1,6 @@
 -- Entries under keys and the order of their pages: what is found, and what one entry that came, went or changed leaves.
-use Rattle.ksm_pages.proofs.Names.{All, All-append, All-cons, All-filter, All-head, All-tail, ap, ap₂, AreAscending, AreFiled, arith, Bool, cases_Bool, change_held, comes_before, Entry, false, filter}
-use Rattle.ksm_pages.proofs.Names.{filter_passes, find, find_all, find_passes, get, get_or, GuestPage, Held, held_at, held_in, held_of, held_under, if◌then◌else◌, inl, InPageOrder, inr, is_of}
+use Rattle.ksm_pages.proofs.Names.{All, All-append, All-cons, All-filter, All-head, All-tail, ap, ap₂, AreAscending, AreFiled, arith, Bool, change_held, comes_before, Entry, false, filter}
+use Rattle.ksm_pages.proofs.Names.{filter_passes, find, find_all, find_passes, get, get_or, GuestPage, Held, held_at, held_in, held_of, held_under, if◌then◌else◌, InPageOrder, is_of}
 use Rattle.ksm_pages.proofs.Names.{IsUnder, key_in, List, map, map-append, marked, Named, named_of, None, not, option_map, refl, rows_of, rules, same_page, same_page_eq, same_page_refl, same_page_sym}
 use Rattle.ksm_pages.proofs.Names.{same_Some, Slab, Some, sym, true, with_held, with_named, without_held, without_named, ℕ, [], ◌==◌, ◌∙◌, ◌∷◌, ◌≡◌, ◌≢◌}
 use Rattle.ksm_pages.proofs.Options.{mapped_some, none_mapped}
@@ -96,10 +96,7 @@ module _ (slab : Slab Entry) (order : List Named) (rise : AreAscending order) (f
   module _ {key : ℕ} {e : Entry} (stood : get slab key ≡ Some e) where
     -- under another key stands an entry of another page
     pub elsewhere : {k : ℕ} {f : Entry} → get slab k ≡ Some f → k ≢ key → same_page f.page e.page ≡ false
-    elsewhere stands apart = elim (cases_Bool _) [
-      | inl same ↦ absurd (apart (one_key slab _ filed stands stood (same_page_eq _ _ same)))
-      | inr other ↦ other
-    ]
+    elsewhere {k} {f} stands apart = grind (arith, one_key slab order filed stands stood, same_page_eq f.page e.page)
 
     module _ {later : Slab Entry} {e' : Entry} (fills : Fills slab later key (Some e')) (same : e'.page ≡ e.page) where
       -- where one entry is written anew, the row of its page is changed, and no other

@@ -12,6 +12,12 @@ pub find_kept : {X : Type 0} (test keep : X → Bool) (xs : List X) (o : Option 
 find_kept test keep [] o is kept = is
 find_kept test keep (x ∷ xs) o is kept = grind (arith, find_kept test keep xs o, kept x)
 
+-- the first that passes a test is the first that passes a narrower one, if it does
+pub find_narrower : {X : Type 0} (p q : X → Bool) → ((x : X) → q x ≡ true → p x ≡ true) → (xs : List X) (x : X) → find p xs ≡ Some x
+    → q x ≡ true → find q xs ≡ Some x
+find_narrower p q less [] x is passes = is
+find_narrower p q less (y ∷ ys) x is passes = grind (arith, less y, find_narrower p q less ys x)
+
 module _ {X : Type 0} (key : X → GuestPage) where
   abbrev Before : X → X → Type 0
   Before a b = comes_before (key a) (key b) ≡ true

@@ -2,6 +2,7 @@
 use Rattle.std.proofs.Common.{ap, ap₂, arith, Bool, drop, false, get_or, inl, inr, is_some, length, length-set}
 use Rattle.std.proofs.Common.{List, None, Option, refl, set, Some, suc, sym, true, true≢false, zero, ℕ, [], ◌+◌, ◌<◌, ◌∙◌, ◌∷◌, ◌≡◌, ◌≢◌}
 use Rattle.std.proofs.lemmas.Bool.{cases_Bool}
+use Rattle.std.proofs.lemmas.Bool.Decides.{nat_tests}
 use Rattle.std.proofs.lemmas.List.{drop_more, set-get_or}
 use Rattle.std.proofs.lemmas.List.Folds.{find_past}
 use Rattle.std.proofs.lemmas.Option.{get_or_from_slice_get, slice_get_within}
@@ -54,28 +55,19 @@ module _ (p q : ℕ → Bool) (key : ℕ) (alike : (k : ℕ) → k ≢ key → p
       → find p (set keys i key) ≡ Some key
   found_put [] i passes none lt = absurd (omega arith)
   found_put (k ∷ keys) zero passes none lt = grind arith
-  found_put (k ∷ keys) (suc i) passes none lt = elim (cases_Bool (k == key)) [
-    | inl is ↦ grind (arith, found_put keys i passes)
-    | inr other ↦ grind (arith, found_put keys i passes, alike k)
-  ]
+  found_put (k ∷ keys) (suc i) passes none lt = grind (arith, nat_tests, found_put keys i passes, alike k)
 
   -- where each key of the list is led to, and that one is not, none is found
   none_led : (slab : Slab Entry) (keys : List ℕ) → is_led slab key ≡ false
       → list_any (λ k. not (is_led slab k)) keys ≡ false → find q keys ≡ None → find p keys ≡ None
   none_led slab [] free led none = refl
-  none_led slab (k ∷ keys) free led none = elim (cases_Bool (k == key)) [
-    | inl is ↦ grind arith
-    | inr other ↦ grind (arith, none_led slab keys free, alike k)
-  ]
+  none_led slab (k ∷ keys) free led none = grind (arith, nat_tests, none_led slab keys free, alike k)
 
 -- where each key of a list is led to, none is as if it were never taken
 all_taken : (slab : Slab Entry) (keys : List ℕ) → list_any (λ k. not (is_led slab k)) keys ≡ false
     → list_any (λ k. k == NO_KEY) keys ≡ false
 all_taken slab [] led = refl
-all_taken slab (k ∷ keys) led = elim (cases_Bool (k == NO_KEY)) [
-  | inl is ↦ grind arith
-  | inr other ↦ grind (arith, all_taken slab keys)
-]
+all_taken slab (k ∷ keys) led = grind (arith, nat_tests, all_taken slab keys)
 
 -- what stands in a list, written where it stands, leaves the list
 set_own : {X : Type 0} (xs : List X) (i : ℕ) (x : X) → slice_get xs i ≡ Some x → set xs i x ≡ xs

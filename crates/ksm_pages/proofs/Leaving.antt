@@ -85,12 +85,9 @@ module _ (s : Inside) {p : PagesValue} (seen_as : view_of s ≡ p) (page : Guest
   pub known_there : held_at page s.rows.held ≡ None → IsKnown page p.rows → true ≡ false
   known_there gone known = sym known ∙ ap is_some (row_seen gone)
 
-  -- a page with a frame of its own is held
-  pub alone_there : held_at page s.rows.held ≡ None → IsAlone page p.rows → true ≡ false
-  alone_there gone alone = subst (λ o. MatchOption o (true ≡ false) (λ (r : Row). shared_state r.state ≡ false)) (row_seen gone) alone
-
-  -- what is held of a page with a frame of its own has a row that is not shared
-  pub alone_found : {h : Held} → held_at page s.rows.held ≡ Some h → IsAlone page p.rows → shared_state h.row.state ≡ false
+  -- a page with a frame of its own is held, with a row that is not shared
+  pub alone_found : {o : Option Held} → held_at page s.rows.held ≡ o → IsAlone page p.rows
+      → MatchOption (option_map (λ g. g.row) o) (true ≡ false) (λ r. shared_state r.state ≡ false)
   alone_found found alone = subst (λ o. MatchOption o (true ≡ false) (λ (r : Row). shared_state r.state ≡ false)) (row_seen found) alone
 
 module _ (s : Inside) (are : AreLawful s) (page : GuestPage) {h : Held} (found : held_at page s.rows.held ≡ Some h) where

@@ -1,7 +1,7 @@
 -- Each entry in the unstable tree is found there: what one entry that came, went or changed leaves, and what the rows show of it.
 use Rattle.ksm_pages.proofs.Names.{All, ap, AreAscending, AreFiled, arith, Bool, cases_Bool, Entry, false, find, find_all, find_none, find_nothing, find_passes, get, get_or, held_at}
 use Rattle.ksm_pages.proofs.Names.{held_in, held_of, holds, inl, inr, List, map, Named, nat_tests, None, Option, option_map, refl, RowsView, same_page_eq, same_Some, Slab, Some, sym, true, true≢false, waiting_state}
-use Rattle.ksm_pages.proofs.Names.{ℕ, [], ◌==◌, ◌∙◌, ◌∷◌, ◌≡◌, ◌≢◌, ◌⊎◌, is_some}
+use Rattle.ksm_pages.proofs.Names.{ℕ, [], ◌==◌, ◌∙◌, ◌∷◌, ◌≡◌, ◌≢◌, ◌⊎◌, is_some, none-some}
 use Rattle.ksm_pages.proofs.Options.{mapped_some}
 use Rattle.std.proofs.Math.ListN.{get_or-map}
 use Rattle.std.specs.Prelude.{if◌then◌else◌, nat_lt}
@@ -14,19 +14,11 @@ use Rattle.ksm_pages.specs.Filed.{StaysLed}
 use Rattle.ksm_pages.specs.Held.{AreInTree, has_content, Held, in_tree_by, IsFree, is_in, page_in_tree, tree_by}
 use Rattle.ksm_pages.specs.Unstable.{AreLed, found_or, holder, if_stands, in_place, Keeps, keys_at, LeadsTo, stands_under}
 use Rattle.ksm_pages.specs.declared.unstable.UnstableTree.{UnstableTree}
+use Rattle.ksm_pages.proofs.Found.{find_narrower}
 use Rattle.ksm_pages.proofs.Filing.{differ_by, held_found, named_under, one_key}
 use Rattle.ksm_pages.proofs.Gathering.{rows_all}
 
-none_some : {X : Type 0} (x : X) → None ≡ Some x → ⊥
-none_some x is = true≢false (sym (ap is_some is))
-
--- a search by a test that lets less through finds what was found before, if that passes still
-find_less : {X : Type 0} (p q : X → Bool) (xs : List X) (x : X) → ((y : X) → q y ≡ true → p y ≡ true) → find p xs ≡ Some x
-    → q x ≡ true → find q xs ≡ Some x
-find_less p q [] x less found passes = grind arith
-find_less p q (y ∷ ys) x less found passes = grind (arith, less y, find_less p q ys x)
-
--- and none where none was found
+-- where a test that lets less through is searched for, none is found where none was
 none_less : {X : Type 0} (p q : X → Bool) (xs : List X) → ((y : X) → q y ≡ true → p y ≡ true) → find p xs ≡ None → find q xs ≡ None
 none_less p q [] less none = refl
 none_less p q (y ∷ ys) less none = grind (arith, less y, none_less p q ys less)
@@ -41,19 +33,13 @@ module _ (by_node : Bool) (slab later : Slab Entry) (t : ℕ) (b : List ℕ) (ke
     (stands : stands_under by_node later t b key ≡ true) where
   other_less : (o : Option ℕ) → if_stands by_node slab t b o ≡ Some key → if_stands by_node later t b o ≡ Some key
   other_less None is = grind arith
-  other_less (Some k) is = elim (cases_Bool (stands_under by_node slab t b k)) [
-    | inl there ↦
-        let same : k ≡ key = grind arith in
-        (λ i. if stands_under by_node later t b (same i) then Some (same i) else None)
-        ∙ (λ i. if stands i then Some key else None)
-    | inr none ↦ grind arith
-  ]
+  other_less (Some k) is = grind (arith, stands)
 
   found_less : (keys : List ℕ) (o : Option ℕ) (r : Option ℕ) → find (stands_under by_node slab t b) keys ≡ r
       → found_or r keys (if_stands by_node slab t b o) ≡ Some key
       → found_or (find (stands_under by_node later t b) keys) keys (if_stands by_node later t b o) ≡ Some key
   found_less keys o (Some k) is got =
-      (λ i. found_or (find_less (stands_under by_node slab t b) (stands_under by_node later t b) keys key less (is ∙ got) stands i) keys (if_stands by_node later t b o))
+      (λ i. found_or (find_narrower (stands_under by_node slab t b) (stands_under by_node later t b) less keys key (is ∙ got) stands i) keys (if_stands by_node later t b o))
   found_less keys o None is got =
       (λ i. found_or (none_less (stands_under by_node slab t b) (stands_under by_node later t b) keys less is i) keys (if_stands by_node later t b o))
       ∙ free (list_any (λ k. k == NO_KEY) keys) got
@@ -170,7 +156,7 @@ module _ (by_node : Bool) (slab later : Slab Entry) (key : ℕ) (d e : Entry) (s
         | inl same ↦
             let content : (tree_by by_node d.home ≡ t) × (d.bytes ≡ b) =
             grind (arith, fills.changed, home, bytes, bytes_eq-Decides e.bytes b, nat_tests) in
-            absurd (none_some _ (sym none ∙ (λ i. holder by_node slab old (content.0 i) (content.1 i)) ∙ was))
+            absurd (none-some _ (sym none ∙ (λ i. holder by_node slab old (content.0 i) (content.1 i)) ∙ was))
         | inr other ↦ grind (arith, fills.others m other)
       ]
 
@@ -247,7 +233,7 @@ module _ (slab : Slab Entry) (order : List Named) (rise : AreAscending order) (f
     none_found t b none =
         find_nothing _ _ (rows_all slab order rise filed pass (λ h. has_content by_node t b h ≡ false) (λ k e stands.
         elim (cases_Bool (has_content by_node t b (held_of pass e))) [
-          | inl has ↦ absurd (none_some _ (sym none ∙ held_by_content t b k e stands has))
+          | inl has ↦ absurd (none-some _ (sym none ∙ held_by_content t b k e stands has))
           | inr not ↦ not
         ]))
 

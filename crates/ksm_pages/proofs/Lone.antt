@@ -1,7 +1,7 @@
 -- Rows that are said to be alone: no dup has their content, once rows or dups changed.
 use Rattle.ksm_pages.proofs.Names.{All, All-append, All-cons, All-filter, All-map, AllPairs, ap₂, AreAlone, arith, beside, change_held, comes_before, cond_both, DupRow, false, filter, find_all}
-use Rattle.ksm_pages.proofs.Names.{get_or, GuestPage, Held, held_at, holds, in_group, InPageOrder, InTree, Knobs, length-map, List, map, PageState, Row, rows_of, same_page_eq, shares, Some, subst, sym, tree_of, true, true≢false}
-use Rattle.ksm_pages.proofs.Names.{with_held, without_held, ◌∙◌, ◌≡◌}
+use Rattle.ksm_pages.proofs.Names.{get_or, GuestPage, Held, held_at, holds, in_group, InPageOrder, InTree, Knobs, length-map, List, PageState, Row, rows_of, same_page_eq, shares, Some, subst, sym, tree_of, true, true≢false}
+use Rattle.ksm_pages.proofs.Names.{with_held, ◌∙◌, ◌≡◌}
 use Rattle.std.proofs.Math.ListN.{get_or-map}
 use Rattle.ksm_pages.specs.Held.{is_alone}
 use Rattle.ksm_pages.proofs.Found.{each_found}
@@ -30,12 +30,7 @@ pub each_held : (held : List Held) → InPageOrder (rows_of held) → All (λ h.
 each_held held rise = each_found (λ (h : Held). h.row.page) held (held_rise held rise)
 
 module _ (knobs : Knobs) (dups : List DupRow) where
-  -- where a change leaves each row alone that it says to be so, all are
-  pub lone_mapped : (f : Held → Held) → ((h : Held) → IsLone knobs dups h → IsLone knobs dups (f h)) → (held : List Held)
-      → AreAlone knobs held dups → AreAlone knobs (map f held) dups
-  lone_mapped f keeps held are = All-map (IsLone knobs dups) f held (λ k d lt. keeps _ (are k d lt))
-
-  -- the same where the row of a page changes
+  -- where the row of a page changes, and is alone if it says so, so are all
   pub lone_changed : (page : GuestPage) (f : Held → Held) (held : List Held) {h : Held} → InPageOrder (rows_of held)
       → held_at page held ≡ Some h → (IsLone knobs dups h → IsLone knobs dups (f h)) → AreAlone knobs held dups
       → AreAlone knobs (change_held page f held) dups
@@ -48,10 +43,6 @@ module _ (knobs : Knobs) (dups : List DupRow) where
     where
       it : {g : Held} → holds page g ≡ true → held_at g.row.page held ≡ Some g → h ≡ g
       it {g} at there = grind (arith, same_page_eq g.row.page page at)
-
-  -- the same where the row of a page is gone
-  pub lone_without : (page : GuestPage) (held : List Held) → AreAlone knobs held dups → AreAlone knobs (without_held page held) dups
-  lone_without page held are = All-filter _ (IsLone knobs dups) held are
 
   -- the same with one more
   pub lone_with : (h : Held) (held : List Held) → IsLone knobs dups h → AreAlone knobs held dups → AreAlone knobs (with_held h held) dups

@@ -24,7 +24,7 @@ pub use Rattle.ksm_pages.specs.Held.{altered, AreInOrder, change_held, forgotten
 pub use Rattle.ksm_pages.specs.Held.{AreInTree, beside, has_content, in_tree_by, is_in, IsFree, out_of_tree, page_in_tree, RowsView, shares, state_of, tree_by, waiting_in, with_held, without_held, written}
 pub use Rattle.ksm_pages.specs.Left.{IsLeft}
 pub use Rattle.ksm_pages.specs.Ordered.{AreAscending, is_of, marked, named_by, visited, with_named, without_named}
-pub use Rattle.ksm_pages.specs.Paged.{AreAlone, AreKept, changed, elsewhere, Finds, FindsAt, frame_of, frame_seen, Frames, HasRoom, is_item, is_next, IsAlone, IsHeld, IsKnown, IsVacant, items_on, lies_on}
+pub use Rattle.ksm_pages.specs.Paged.{AreAlone, AreKept, changed, elsewhere, Finds, FindsAt, frame_of, frame_seen, Frames, HasRoom, is_item, is_next, IsAlone, IsHeld, IsKnown, IsVacant, items_on, lies_on, live_at}
 pub use Rattle.ksm_pages.specs.Paged.{lodging, lodgings_of, MayPair, of_guest, page_beside, PagesValue, PagesView, paired, relaid, seen}
 pub use Rattle.ksm_pages.specs.declared.named.Named.{Named}
 pub use Rattle.ksm_pages.specs.declared.pages.Find.{Find}

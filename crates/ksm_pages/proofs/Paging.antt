@@ -2,7 +2,7 @@
 use Rattle.ksm_pages.proofs.Names.{All, ap, AreDups, AreTied, arith, Dup, dup_at, dup_numbered, dup_of, DupRow, DupsState, each_has_number, find, find_all, found_passing, has_items}
 use Rattle.ksm_pages.proofs.Names.{Held, InPageOrder, InPlaceOrder, is_live, is_some, is_stale, items_in, items_of, length, List, list_any, live_placed, lodging, lodgings_of, merged_into, None}
 use Rattle.ksm_pages.proofs.Names.{Option, option_and_then, option_map, refl, Row, rows_of, slice_get, slice_get-get_or, Some, stale_alike, stands_at, sym, tied_counted, true}
-use Rattle.ksm_pages.proofs.Names.{unwrap_or-slice_get, ℕ, ◌&&◌, ◌<◌, ◌==◌, ◌∙◌, ◌≡◌}
+use Rattle.ksm_pages.proofs.Names.{unwrap_or-slice_get, ℕ, ◌&&◌, ◌<◌, ◌==◌, ◌∙◌, ◌≡◌, live_at}
 use Rattle.std.proofs.Common.{unwrap_or}
 use Rattle.ksm_base.specs.Rows.{is_stale as is_stale_row}
 use Rattle.ksm_tree.specs.Dups.{rows_of as dup_rows}
@@ -58,12 +58,12 @@ items_lodge held {s} frames rise lawful as_many {frame} is k e lt at i f lt_row 
 
 module _ (rows : List Row) (dups : List Dup) (place : ℕ) (tied : AreTied rows dups) where
   -- no dup with items stands at a place where none is found
-  pub items_none : None ≡ option_map (λ (d : Dup). d.row) (find (λ d. stands_at place d && is_live d) dups) → find (λ d. d.place == place && has_items rows d) (dup_rows dups) ≡ None
+  pub items_none : None ≡ option_map (λ (d : Dup). d.row) (find (λ d. stands_at place d && is_live d) dups) → live_at place rows (dup_rows dups) ≡ None
   items_none is = sym (live_placed rows _ _ (tied_counted rows _ tied)) ∙ sym is
 
   -- the items of the dup at a place are the pages of the rows merged into it
   pub items_there : {row : DupRow} → InPlaceOrder (dup_rows dups) → Some row ≡ option_map (λ (d : Dup). d.row) (find (λ d. stands_at place d && is_live d) dups)
-      → option_map (items_of rows) (find (λ d. d.place == place && has_items rows d) (dup_rows dups)) ≡ Some (items_in (dup_at place dups))
+      → option_map (items_of rows) (live_at place rows (dup_rows dups)) ≡ Some (items_in (dup_at place dups))
   items_there {row} rise is =
       let live = live_placed rows place _ (tied_counted rows _ tied) in
       let one = found_passing place is_live dups rise in

@@ -239,14 +239,8 @@ module _ {s : Inside} {p : PagesValue} {place : ℕ} {first second : GuestPage} 
     not_of_dup : (h : Held) → is_in h.in_tree ≡ true → holds a.row.page h ≡ false
         → (has_content s.rows.by_node tree b.row.bytes h ≡ true → page_in_tree s.rows tree b.row.bytes ≡ Some h.row.page)
         → in_group (tree_of s.knobs h.row) h.row.bytes dup ≡ false
-    not_of_dup h in_it other of_content = go _ refl
-      where
-        go : (o : Bool) → in_group (tree_of s.knobs h.row) h.row.bytes dup ≡ o → in_group (tree_of s.knobs h.row) h.row.bytes dup ≡ false
-        go false is = is
-        go true is =
-            let has : has_content s.rows.by_node tree b.row.bytes h ≡ true =
-            grind (arith, nat_tests, in_it, is, tree_is s.knobs are.by_node h.row, eq_bytes b.row.bytes h.row.bytes) in
-            absurd (grind (arith, of_content has, to_first, other, same_page_refl))
+    not_of_dup h in_it other of_content =
+        grind (arith, nat_tests, tree_is s.knobs are.by_node h.row, eq_bytes b.row.bytes h.row.bytes, to_first, same_page_refl h.row.page)
 
     half_alone : AreAlone s.knobs half dups_now
     half_alone = All-map (IsLone s.knobs dups_now) _ s.rows.held (λ k d lt.

@@ -1,5 +1,5 @@
 -- The pages in order as the items that are kept for them: what stands before a key, what comes behind it, and in between.
-use Rattle.ksm_pages.proofs.Names.{after_cursor, All, All-head, All-tail, ap, arith, Bool, comes_before, count_by, count_none, drop, false, filter, filter_all, find, find_all, get_or, GuestPage, IfSome, if◌then◌else◌}
+use Rattle.ksm_pages.proofs.Names.{after_cursor, All, All-filter, All-head, All-tail, ap, arith, Bool, comes_before, count_by, count_none, drop, false, filter, filter_all, find, find_all, get_or, GuestPage, IfSome, if◌then◌else◌}
 use Rattle.ksm_pages.proofs.Names.{is_of, is_some, key_of, last_of, length, length-filter, length-map, List, map, map-append, marked, Named, named_by, nat_lt, nat_tests, None, not, Option, option_map, page_of}
 use Rattle.ksm_pages.proofs.Names.{pages_behind, pages_between, pairs_head, pairs_tail, refl, rules, slice_get, slice_get-get_or, slice_get-map, slice_get_past, Some, suc, sym, take, true, visited}
 use Rattle.ksm_pages.proofs.Names.{with_named, zero, ℕ, [], ◌&&◌, ◌+◌, ◌-◌, ◌<◌, ◌^◌, ◌∙◌, ◌∷◌, ◌≡◌, ◌≤◌}
@@ -122,11 +122,14 @@ get_dropped zero k xs = grind arith
 get_dropped (suc n) k [] = grind (arith, slice_get_past)
 get_dropped (suc n) k (x ∷ xs) = grind (arith, get_dropped n k xs)
 
--- a key at a place is that of one of the items
-pub small_at : (P : ℕ → Type 0) (xs : List Item) (place : ℕ) {key : ℕ} → All (λ x. P x.key) xs → key_at xs place ≡ Some key → P key
-small_at P [] place all is = absurd (grind arith)
-small_at P (x ∷ xs) zero all is = grind (arith, All-head (λ y. P y.key) x xs all)
-small_at P (x ∷ xs) (suc n) all is = small_at P xs n (All-tail (λ y. P y.key) x _ all) is
+-- a key at a place of the marked ones is as small as each of the items
+pub small_at : (items : List Item) (place : ℕ) {key : ℕ} → All (λ x. x.key < 2 ^ 48) items → key_at (kept_marked items) place ≡ Some key → key < 2 ^ 48
+small_at items place all is = go _ place (All-filter _ (λ x. x.key < 2 ^ 48) items all) is
+  where
+    go : (xs : List Item) (place : ℕ) {key : ℕ} → All (λ x. x.key < 2 ^ 48) xs → key_at xs place ≡ Some key → key < 2 ^ 48
+    go [] place all is = absurd (grind arith)
+    go (x ∷ xs) zero all is = grind (arith, All-head (λ y. y.key < 2 ^ 48) x xs all)
+    go (x ∷ xs) (suc n) all is = go xs n (All-tail (λ y. y.key < 2 ^ 48) x _ all) is
 
 -- without an item that is there, the list has one fewer
 pub gone_one : (key : ℕ) (xs : List Item) → AreAscending xs → is_some (find (is_at key) xs) ≡ true → length (without key xs) + 1 ≡ length xs

@@ -1,21 +1,9 @@
 -- Rows that wait no more, and the row of a page that has one.
-use Rattle.ksm_pages.proofs.Names.{arith, bytes_eq, false, frame_seen, let_go, List, Option, PageState, Private, Row, settled, settled_state, shared_state, stored, waiting_state, ℕ, ◌&&◌, ◌≡◌}
+use Rattle.ksm_pages.proofs.Names.{arith, false, frame_seen, Option, PageState, Private, Row, settled, settled_state, shared_state, waiting_state, ℕ, ◌≡◌}
 
 -- a row with a frame of its own is Private once it is settled
 pub rests : (state : PageState) → shared_state state ≡ false → settled_state state ≡ Private
 rests state alone = grind arith
-
--- a row with these bytes; it stays unchanged only where they are those that it had
-abbrev pub put_bytes : List ℕ → Row → Row
-put_bytes bytes r = record r { bytes = bytes; unchanged = r.unchanged && bytes_eq r.bytes bytes }
-
--- a store to a row with a frame of its own settles the row and writes its bytes
-pub stored_settled : (bytes : List ℕ) (r : Row) → shared_state r.state ≡ false → put_bytes bytes (settled r) ≡ stored bytes r
-stored_settled bytes r alone = grind arith
-
--- a row with a frame of its own is let go where it is settled, and neither unchanged nor mergeable
-pub went : (r : Row) → shared_state r.state ≡ false → record (settled r) { mergeable = false; unchanged = false } ≡ let_go r
-went r alone = grind arith
 
 -- a state that is settled twice is the state settled once
 pub settled_again : (state : PageState) → settled_state (settled_state state) ≡ settled_state state

@@ -2,7 +2,7 @@
 use Rattle.ksm_pages.proofs.Names.{All, All-map, ap, arith, Bool, change_held, cond_both, DupsState, false, frame_of, frame_seen, get_or, GuestPage, Held, held_at, if◌then◌else◌, inl, inr, InTree, Inside, IsAlone, IsKnown, Knobs}
 use Rattle.ksm_pages.proofs.Names.{IsLeft, let_out, lies_on, List, lodgings_of, map, MatchOption, merged_state, None, not, Option, ordered_map, ordered_without, PageState, PagesValue, Private, private_state}
 use Rattle.ksm_pages.proofs.Names.{on_row, out_of_tree, refl, Row, row_at, rows_of, rows_out, RowsView, same_page, seen, settled, settled_state, shared_state, Some, sym, tied_dropped, tied_left, tied_mapped, tree_of, true, true≢false, waiting_state, without_held}
-use Rattle.ksm_pages.proofs.Names.{without_page, ℕ, [], ⊤, ◌∙◌, ◌∷◌, ◌==◌, ◌≡◌, ◌⊎◌, changed, relaid, length-map, InPageOrder, AreTied, AreAlone}
+use Rattle.ksm_pages.proofs.Names.{without_page, ℕ, [], ⊤, ◌∙◌, ◌∷◌, ◌==◌, ◌≡◌, ◌⊎◌, changed, relaid, length-map, InPageOrder, AreTied, AreAlone, All-filter}
 use Rattle.std.proofs.Math.ListN.{get_or-map}
 use Rattle.ksm_base.specs.Apply.{let_go}
 use Rattle.ksm_pages.specs.Paged.{HasRow}
@@ -12,8 +12,8 @@ use Rattle.ksm_pages.specs.Held.{is_alone}
 use Rattle.ksm_pages.proofs.Changing.{rows_without}
 use Rattle.ksm_pages.proofs.Joined.{let_out_alone}
 use Rattle.ksm_pages.proofs.Lodgings.{lodged_gone, seat}
-use Rattle.ksm_pages.proofs.Leaving.{alone_found, alone_there, AreLawful, Become, Comes, comes, held_as, known_there, lies, of_dup, of_page, row_seen, row_there, stays_there, turned_so, view_of}
-use Rattle.ksm_pages.proofs.Lone.{IsLone, lone_mapped, lone_without}
+use Rattle.ksm_pages.proofs.Leaving.{alone_found, AreLawful, Become, Comes, comes, held_as, known_there, lies, of_dup, of_page, row_seen, row_there, stays_there, turned_so, view_of}
+use Rattle.ksm_pages.proofs.Lone.{IsLone}
 use Rattle.ksm_pages.proofs.Resting.{idle_settled, lies_alike, settled_again}
 
 -- ---------------------------------------------------------------- a page that leaves what it is in
@@ -81,17 +81,17 @@ module _ {s : Inside} {p : PagesValue} {page : GuestPage} {later : DupsState} {f
           refl refl (λ lone. lone) refl
 
       -- a page with a frame of its own comes to be Private there
-      pub rested : (f : Held → Held) (g to : Row → Row) → ((x : Held) → (f x).row ≡ g x.row) → ((x : Held) → (f x).frame ≡ x.frame)
-          → ((r : Row) → (g r).page ≡ r.page) → (to it.held.row).state ≡ Private → IsAlone page p.rows
+      pub rested : (in_tree : InTree → InTree) (g to : Row → Row) → ((r : Row) → (g r).page ≡ r.page)
+          → (to it.held.row).state ≡ Private → IsAlone page p.rows
           → (shared_state it.held.row.state ≡ false → g it.held.row ≡ to it.held.row)
-          → StaysLone (f it.held)
-          → Become s.rows rows (change_held page f s.rows.held)
+          → StaysLone (record it.held { row = g it.held.row; in_tree = in_tree it.held.in_tree })
+          → Become s.rows rows (change_held page (λ h. record h { row = g h.row; in_tree = in_tree h.in_tree }) s.rows.held)
           → Comes s rows later (changed page to (seen p))
-      rested f g to is framed same private alone_seen agree keeps turned =
+      rested in_tree g to same private alone_seen agree keeps turned =
           let alone = alone_found s it.seen_as _ it.found alone_seen in
           let own = lies s it.lawful page it.found it.seen_as in
-          stays_there p page (left_so f g is same turned to (agree alone) (grind (arith, private)) keeps
-          (grind (arith, is it.held, framed it.held, agree alone, private, alone, own)))
+          stays_there p page (left_so (λ h. record h { row = g h.row; in_tree = in_tree h.in_tree }) g (λ x. refl) same turned to
+          (agree alone) (grind (arith, private)) keeps (grind (arith, agree alone, private, alone, own)))
 
       -- a page that has left and whose row is gone is seen no more, and lies on no frame
       pub parted : Become s.rows rows (without_held page s.rows.held)
@@ -104,7 +104,7 @@ module _ {s : Inside} {p : PagesValue} {page : GuestPage} {later : DupsState} {f
           (comes s it.lawful rows gone (rows_without page _) out (rows_out _ _ _)
           (ordered_without _ _ it.lawful.order)
           (tied_dropped _ _ _ it.lawful.order there _ it.lawful.tied)
-          (lone_without s.knobs _ page _ it.lawful.alone)
+          (All-filter _ (IsLone s.knobs (dup_rows s.dups.dups)) s.rows.held it.lawful.alone)
           (lodged_gone _ _ _))
 
 -- a page with a frame of its own is in no dup, and leaves nothing
@@ -113,7 +113,7 @@ pub own_left : {s : Inside} {p : PagesValue} {page : GuestPage} → AreLawful s 
 own_left {s} {p} {page} are seen_as alone = go _ refl
   where
     go : (o : Option Held) → held_at page s.rows.held ≡ o → HasLeft s p page s.dups s.frames.items (frame_of p.lodgings page)
-    go None gone = absurd (true≢false (alone_there s seen_as page gone alone))
+    go None gone = absurd (true≢false (alone_found s seen_as page gone alone))
     go (Some h) found = record {
       lawful = are;
       seen_as = seen_as;
@@ -125,11 +125,7 @@ own_left {s} {p} {page} are seen_as alone = go _ refl
       };
     }
 
--- a page with a Private row has a frame of its own
-pub private_alone : (p : PagesValue) (page : GuestPage) → HasRow page p.rows (λ r. private_state r.state ≡ true) → IsAlone page p.rows
-private_alone p page is = grind arith
-
--- what is held of it has a Private row
+-- what is held of a page with a Private row has that row
 pub private_left : {s : Inside} {p : PagesValue} {page : GuestPage} {later : DupsState} {frames : List ℕ} {lone : Option ℕ}
     → (it : HasLeft s p page later frames lone) → HasRow page p.rows (λ r. private_state r.state ≡ true) → it.held.row.state ≡ Private
 private_left {s} {p} {page} it is = grind (arith, row_seen s it.seen_as page it.found)
@@ -152,13 +148,10 @@ module _ (s : Inside) (are : AreLawful s) {p : PagesValue} (seen_as : view_of s 
       rw (← seen_as)
       (comes s are rows turned (rows_by F f is s.rows.held) refl refl (ordered_map f _ pages are.order)
       (tied_mapped f _ _ (λ k d lt. (pages _, λ number. grind (arith, like (get_or (rows_of s.rows.held) k d)))) are.tied)
-      (lone_mapped s.knobs _ F keeps _ are.alone)
-      (λ i. frame_of (lodged (s.rows.held) i)))
-    where
-      lodged : (held : List Held) → lodgings_of (of_dup s) (map F held) ≡ lodgings_of (of_dup s) held
-      lodged [] = refl
-      lodged (h ∷ held) =
-          grind (arith, lodged held, is h, framed h, pages h.row, lies_alike (of_dup s) (f h.row).state h.row.state h.frame (like h.row))
+      (All-map (IsLone s.knobs (dup_rows s.dups.dups)) F s.rows.held (λ k d lt. keeps _ (are.alone k d lt)))
+      (ap frame_of (map_mapped _ F _ s.rows.held (λ k d lt.
+      let h = get_or s.rows.held k d in
+      grind (arith, is h, framed h, pages h.row, lies_alike (of_dup s) (f h.row).state h.row.state h.frame (like h.row))))))
 
   -- where a row changes, but for its page and state, only that row is seen changed
   pub stays : (page : GuestPage) (g : Row → Row) → ((r : Row) → (g r).page ≡ r.page) → ((r : Row) → (g r).state ≡ r.state)

@@ -54,7 +54,7 @@ module _ (s : Inside) (are : AreRows s) where
 
   module _ {page : GuestPage} {key : ℕ} (there : IsUnder s.entries page key) {e : Entry} (stood : get s.entries key ≡ Some e) where
     -- the entry is that of the page
-    of_page : e.page ≡ page
+    pub of_page : e.page ≡ page
     of_page = grind arith
 
     -- a page with an entry under its key has the row that the entry says

@@ -10,7 +10,7 @@ use Rattle.ksm_base.specs.declared.row.DupRow.{DupRow}
 use Rattle.ksm_base.specs.declared.knobs.Knobs.{Knobs}
 use Rattle.ksm_base.specs.declared.shape.Shape.{Shape}
 use Rattle.ksm_base.specs.Values.{frames_of, IsShape}
-use Rattle.ksm_base.specs.Rows.{same_page, row_at, change_row, change_rows, shared_state, merged_into, merged_state, item_count, with_dup, InPageOrder, dup_numbered}
+use Rattle.ksm_base.specs.Rows.{same_page, row_at, change_row, change_rows, shared_state, merged_into, merged_state, has_items, item_count, with_dup, InPageOrder, dup_numbered}
 use Rattle.ksm_base.specs.State.{tree_of}
 use Rattle.ksm_base.specs.Visit.{after_cursor, best_dup, is_for_zero, partner, waits_for}
 use Rattle.ksm_base.specs.Answers.{every_row}
@@ -128,6 +128,10 @@ on_its_own r = record r { state = Private }
 -- no dup with items stands at the place
 abbrev pub IsVacant : ℕ → List Row → List DupRow → Type 0
 IsVacant place rows dups = All (λ d. d.place ≡ place → item_count rows d ≡ 0) dups
+
+-- the dup with items at a place
+abbrev pub live_at : ℕ → List Row → List DupRow → Option DupRow
+live_at place rows dups = find (λ d. d.place == place && has_items rows d) dups
 
 -- the dup stands at another place
 abbrev pub elsewhere : ℕ → DupRow → Bool

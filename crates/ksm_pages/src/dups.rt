@@ -1,14 +1,14 @@
 //! The dups by their places: which stand there, with which pages and on which frame, and where a new one goes.
 
-ghost use Rattle.std.specs.Prelude.{◌≡◌, ◌<◌, true, All, filter, find, ◌==◌, ◌&&◌, option_map};
+ghost use Rattle.std.specs.Prelude.{◌≡◌, ◌<◌, true, All, filter, find, ◌==◌, option_map};
 ghost use Rattle.std.specs.Prelude.{IfErr, IfOk, IsSome};
 ghost use Rattle.std.specs.List.{list_any};
 ghost use Rattle.ksm_base.specs.Counting.{shared_count};
 ghost use Rattle.ksm_base.specs.Reading.{items_of};
-ghost use Rattle.ksm_base.specs.Rows.{has_items, is_stale};
+ghost use Rattle.ksm_base.specs.Rows.{is_stale};
 ghost use Rattle.ksm_base.specs.State.{place_count};
 ghost use Rattle.ksm_base.specs.Visit.{new_place as a_new_place};
-ghost use Rattle.ksm_pages.specs.Paged.{IsVacant, ItemsLieOn, elsewhere, items_on, seen};
+ghost use Rattle.ksm_pages.specs.Paged.{IsVacant, ItemsLieOn, elsewhere, items_on, live_at, seen};
 
 use crate::left::frame_at;
 use crate::pages::Pages;
@@ -19,7 +19,7 @@ use std::alloc::{AllocError, Global};
 impl Pages {
     /// The dup with items at a place.
     pub fn live_at(&self, place: u32) -> Option<DupRow>
-        ensures { result ≡ find (λ d. d.place == place && has_items self.now.rows d) self.now.dups }
+        ensures { result ≡ live_at place self.now.rows self.now.dups }
     {
         self.dups.live_at(place)
     }
@@ -34,10 +34,9 @@ impl Pages {
     /// The pages merged into the dup at a place, ascending, in a vector of their own; none where no dup with items
     /// stands there. Fails for memory alone, and only where such a dup stands there.
     pub fn items_at(&self, alloc: Global, place: u32) -> Result<Option<Vec<GuestPage>>, AllocError>
-        ensures items { let live = find (λ d. d.place == place && has_items self.now.rows d) self.now.dups in
+        ensures items { let live = live_at place self.now.rows self.now.dups in
             IfOk result (λ pages. option_map (λ v. v.items) pages ≡ option_map (items_of self.now.rows) live) }
-        ensures refused { let live = find (λ d. d.place == place && has_items self.now.rows d) self.now.dups in
-            IfErr result (λ _. IsSome live) }
+        ensures refused { IfErr result (λ _. IsSome (live_at place self.now.rows self.now.dups)) }
     {
         // Called for its contract alone: one dup stands at a place.
         let _ = self.dups.at(place);

@@ -96,12 +96,7 @@ impl Pages {
         let Some(entry) = self.rows.find(spot) else {
             return false;
         };
-        match entry.state(self.rows.pass()) {
-            PageState::Waiting => true,
-            PageState::Private => false,
-            PageState::Merged(_) => false,
-            PageState::Zero => false,
-        }
+        matches!(entry.state(self.rows.pass()), PageState::Waiting)
     }
 
     /// The page that waits in the tree of a merged page with its bytes, if one does.

@@ -613,7 +613,8 @@ impl Rows {
 
     /// The row waits no more, is not unchanged, and no scan visits it.
     pub fn let_go(&mut self, spot: Spot)
-        ensures { self.new ≡ altered spot.page (on_row (λ r. record (settled r) { mergeable = false; unchanged = false })) self.old }
+        ensures { self.new ≡ altered spot.page
+            (on_row (λ r. record (settled r) { mergeable = false; unchanged = false })) self.old }
     {
         let was_restless = self.change(spot, |entry| {
             entry.mergeable = false;

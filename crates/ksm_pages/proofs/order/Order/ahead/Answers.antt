@@ -17,8 +17,7 @@ returns-then-left-visits g c =
     let a = (goal.at.returns-then-left-visits g c).After-count in grind (arith, many g a)
 
 pub page_of-requires : goal.page_of-requires
-page_of-requires g c = small_at (λ n. n < 2 ^ 48) _ _
-    (All-filter _ (λ (x : Item). x.key < 2 ^ 48) _ c.self.invariant.small) (sym c.nth.ensures ∙ c.in-Some.is)
+page_of-requires g c = small_at _ _ c.self.invariant.small (sym c.nth.ensures ∙ c.in-Some.is)
 
 pub returns-in-Some : goal.returns-in-Some
 returns-in-Some g c =

@@ -1,4 +1,4 @@
-use Rattle.ksm_pages.proofs.Names.{All-filter, ap, arith, key_of, last_of, length, length-filter, pages_between, rules, Some, sym, visited, ◌-◌, ◌<◌, ◌^◌, ◌∙◌, ◌≡◌}
+use Rattle.ksm_pages.proofs.Names.{ap, arith, key_of, last_of, length, length-filter, pages_between, rules, Some, sym, visited, ◌-◌, ◌∙◌, ◌≡◌}
 use Rattle.ksm_order.specs.declared.item.Item.{Item}
 use Rattle.ksm_order.specs.Listed.{marked, up_to}
 use Rattle.ksm_order.proofs.Parts.{up_to_few}
@@ -23,8 +23,7 @@ returns-then-before-passed-clause-last g c =
     _ c.passed-passed.ensures.ahead (grind (arith, before)) c.if-before-passed.true))
 
 pub page_of-requires : goal.page_of-requires
-page_of-requires g c = small_at (λ n. n < 2 ^ 48) _ _
-    (All-filter _ (λ (x : Item). x.key < 2 ^ 48) _ c.self.invariant.small) (sym c.nth.ensures ∙ c.in-Some.is)
+page_of-requires g c = small_at _ _ c.self.invariant.small (sym c.nth.ensures ∙ c.in-Some.is)
 
 pub returns-in-Some-clause-count : goal.returns-in-Some-clause-count
 returns-in-Some-clause-count g c =

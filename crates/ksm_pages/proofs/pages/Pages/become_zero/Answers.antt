@@ -1,5 +1,5 @@
 use Rattle.ksm_pages.proofs.Names.{beside, None, refl, relaid, seen, sym, true≢false, Zero, ◌∙◌}
-use Rattle.ksm_pages.proofs.Leaving.{alone_found, alone_there, Comes, held_as, lies}
+use Rattle.ksm_pages.proofs.Leaving.{alone_found, Comes, held_as, lies}
 use Rattle.ksm_pages.proofs.Joined.{seen_own}
 use Rattle.ksm_pages.proofs.Lone.{not_alone}
 use Rattle.ksm_pages.proofs.Turning.{moved, own_left}
@@ -26,8 +26,8 @@ returns-clause-zero c = (gone c).told_as
 
 pub returns-in_err-find-clause-left : goal.returns-in_err-find-clause-left
 returns-in_err-find-clause-left c =
-    absurd (true≢false (alone_there c.self.inside c.self.view_is _ c.in_err-find.ensures c.requires))
+    absurd (true≢false (alone_found c.self.inside c.self.view_is _ c.in_err-find.ensures c.requires))
 
 pub returns-in_err-find-clause-zero : goal.returns-in_err-find-clause-zero
 returns-in_err-find-clause-zero c =
-    absurd (true≢false (alone_there c.self.inside c.self.view_is _ c.in_err-find.ensures c.requires))
+    absurd (true≢false (alone_found c.self.inside c.self.view_is _ c.in_err-find.ensures c.requires))

@@ -1,7 +1,7 @@
 use Rattle.ksm_pages.proofs.Names.{arith, changed, held_of, None, on_row, refl, rules, same_page_refl, seen, Waiting, ◌≡◌}
 use Rattle.ksm_pages.proofs.Leaving.{Comes, held_as}
 use Rattle.ksm_pages.proofs.Partners.{held_led, partner_is}
-use Rattle.ksm_pages.proofs.Visiting.{best, finds_gone, finds_waits, IsAsked, lone_none, waits_then}
+use Rattle.ksm_pages.proofs.Visiting.{asked, best, finds_gone, finds_waits, IsAsked, lone_none, waits_then}
 use Rattle.ksm_pages.proofs.pages.Pages.glance.Goals as goal
 use Rattle.ksm_pages.proofs.pages.Pages.glance.Goals.{After-wait}
 
@@ -10,17 +10,16 @@ returns-then-not-is_restless-clause-gone c = search (rules, finds_gone)
 
 pub joins_none-requires : goal.joins_none-requires
 joins_none-requires c =
-    let it : IsAsked c.self.inside c.args.self.now c.args.spot.page c.in-Some.entry.now =
-    record { lawful = c.self.invariant; seen_as = c.self.view_is; found = c.in-Some.ensures; restless = grind arith } in
-    rw (c.tree_in-tree.ensures (held_of c.self.inside.rows.pass c.in-Some.entry.now).row refl) (lone_none it)
+    rw (c.tree_in-tree.ensures (held_of c.self.inside.rows.pass c.in-Some.entry.now).row refl)
+    (lone_none (asked c.self.inside c.self.invariant c.self.view_is c.in-Some.entry.now c.in-Some.ensures (grind arith)))
 
-asked : (c : After-wait) → IsAsked c.self.inside c.args.self.now c.args.spot.page c.in-Some.entry.now
-asked c = record { lawful = c.self.invariant; seen_as = c.self.view_is; found = c.in-Some.ensures; restless = grind arith }
+it : (c : After-wait) → IsAsked c.self.inside c.args.self.now c.args.spot.page c.in-Some.entry.now
+it c = asked c.self.inside c.self.invariant c.self.view_is c.in-Some.entry.now c.in-Some.ensures (grind arith)
 
 -- the page waits
 waits : (c : After-wait)
     → Comes c.self.inside c.wait.new.self c.self.inside.dups (changed c.args.spot.page (λ r. record r { state = Waiting }) (seen c.args.self.now))
-waits c = waits_then (asked c) (on_row (λ r. record r { state = Waiting })) (λ x. refl) (λ x. refl) (λ lone. lone) (held_as c.wait.ensures)
+waits c = waits_then (it c) (on_row (λ r. record r { state = Waiting })) (λ x. refl) (λ x. refl) (λ lone. lone) (held_as c.wait.ensures)
 
 pub invariant_of-self : goal.invariant_of-self
 invariant_of-self c = (waits (goal.at.invariant_of-self c).After-wait).lawful
@@ -30,10 +29,10 @@ returns-clause-waits c _ =
     let t = (goal.at.returns-clause-waits c).After-wait in
     let s = t.self.inside in
     let row = (held_of s.rows.pass t.in-Some.entry.now).row in
-    let none : best (asked t) ≡ None =
+    let none : best (it t) ≡ None =
     rw (← t.tree_in-tree.ensures row refl) (grind (arith, t.if-not-joins_none.ensures)) in
     let led = held_led s.knobs s.rows t.self.invariant.by_node t.are_lawful.ensures.found t.args.spot.page t.in-Some.ensures (grind arith) in
-    finds_waits (asked t) none (grind arith) (grind arith)
+    finds_waits (it t) none (grind arith) (grind arith)
     (grind (
       arith,
       led,

@@ -1,4 +1,4 @@
-use Rattle.ksm_pages.proofs.Names.{ap, dup_at, find, has_items, is_some, items_in, items_of, option_map, PagesValue, rows_of, Some, sym, ◌&&◌, ◌==◌, ◌∙◌, ◌≡◌}
+use Rattle.ksm_pages.proofs.Names.{ap, dup_at, is_some, items_in, items_of, option_map, PagesValue, rows_of, Some, sym, ◌∙◌, ◌≡◌, live_at}
 use Rattle.ksm_tree.proofs.Numbers.{on_err}
 use Rattle.ksm_pages.proofs.Options.{some_mapped}
 use Rattle.ksm_pages.proofs.Paging.{items_none, items_there}
@@ -6,10 +6,10 @@ use Rattle.ksm_pages.proofs.pages.Pages.items_at.Goals as goal
 use Rattle.ksm_pages.proofs.pages.Pages.items_at.Goals.{In-Some}
 
 -- the dup with items that stands at the place has the pages that are told
-there : (c : In-Some) → option_map (items_of c.args.self.now.rows) (find (λ d. d.place == c.args.place && has_items c.args.self.now.rows d) c.args.self.now.dups)
+there : (c : In-Some) → option_map (items_of c.args.self.now.rows) (live_at c.args.place c.args.self.now.rows c.args.self.now.dups)
     ≡ Some (items_in (dup_at c.args.place c.self.inside.dups.dups))
 there c =
-    ap (λ (v : PagesValue). option_map (items_of v.rows) (find (λ d. d.place == c.args.place && has_items v.rows d) v.dups))
+    ap (λ (v : PagesValue). option_map (items_of v.rows) (live_at c.args.place v.rows v.dups))
     (sym c.self.view_is)
     ∙ items_there (rows_of c.self.inside.rows.held) _ _ c.self.invariant.tied c.at.ensures.lawful.in_place_order c.in-Some.ensures
 
@@ -23,5 +23,5 @@ returns-in_err-items_at-in-Some-clause-refused c = on_err _
 
 pub returns-in-None-clause-items : goal.returns-in-None-clause-items
 returns-in-None-clause-items c =
-    sym (ap (λ (v : PagesValue). option_map (items_of v.rows) (find (λ d. d.place == c.args.place && has_items v.rows d) v.dups)) (sym c.self.view_is)
+    sym (ap (λ (v : PagesValue). option_map (items_of v.rows) (live_at c.args.place v.rows v.dups)) (sym c.self.view_is)
     ∙ ap (option_map (items_of (rows_of c.self.inside.rows.held))) (items_none (rows_of c.self.inside.rows.held) _ _ c.self.invariant.tied c.in-None.ensures))

@@ -1,6 +1,6 @@
-use Rattle.ksm_pages.proofs.Names.{rules, sym, tied_absent, ◌∙◌}
+use Rattle.ksm_pages.proofs.Names.{sym, tied_absent, ◌∙◌, true≢false}
 use Rattle.ksm_pages.proofs.Joined.{joins, own_not_merged, own_seat, room_found, told_joined}
-use Rattle.ksm_pages.proofs.Leaving.{alone_found, alone_there, lies, row_there}
+use Rattle.ksm_pages.proofs.Leaving.{alone_found, lies, row_there}
 use Rattle.ksm_pages.proofs.pages.Pages.join.Goals as goal
 
 pub join_at-requires-clause-known : goal.join_at-requires-clause-known
@@ -16,7 +16,7 @@ join_at-requires-clause-absent c =
     (own_not_merged _ (alone_found s c.self.view_is _ c.in-Some.ensures c.requires.alone)) c.self.invariant.tied
 
 pub unreachable-requires : goal.unreachable-requires
-unreachable-requires c = search (rules, alone_there)
+unreachable-requires c = true≢false (alone_found c.self.inside c.self.view_is _ c.in_default.ensures c.requires.alone)
 
 pub invariant_of-self-2 : goal.invariant_of-self-2
 invariant_of-self-2 c =

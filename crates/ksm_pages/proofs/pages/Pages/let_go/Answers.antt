@@ -1,7 +1,6 @@
-use Rattle.ksm_pages.proofs.Names.{changed, on_row, refl, Row, seen, settled, false}
+use Rattle.ksm_pages.proofs.Names.{changed, refl, Row, seen, settled, false, arith}
 use Rattle.ksm_base.specs.Apply.{let_go as as_let_go}
 use Rattle.ksm_pages.proofs.Leaving.{Comes, held_as}
-use Rattle.ksm_pages.proofs.Resting.{went}
 use Rattle.ksm_pages.proofs.Turning.{own_left, rested}
 use Rattle.ksm_pages.proofs.pages.Pages.let_go.Goals as goal
 
@@ -12,8 +11,7 @@ gone : (c : goal.After-let_go)
     → Comes c.self.inside c.let_go.new.self c.self.inside.dups (changed c.args.spot.page as_let_go (seen c.args.self.now))
 gone c =
     let left = own_left c.self.invariant c.self.view_is c.requires in
-    rested left c.let_go.new.self (on_row as_gone) as_gone as_let_go
-    (λ x. refl) (λ x. refl) (λ r. refl) refl c.requires (went left.held.row) (λ lone. lone) (held_as c.let_go.ensures)
+    rested left c.let_go.new.self (λ t. t) as_gone as_let_go (λ r. refl) refl c.requires (λ own. grind (arith, own)) (λ lone. lone) (held_as c.let_go.ensures)
 
 pub invariant_of-self : goal.invariant_of-self
 invariant_of-self c = (gone c).lawful

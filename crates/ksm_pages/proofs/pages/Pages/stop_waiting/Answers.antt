@@ -1,4 +1,4 @@
-use Rattle.ksm_pages.proofs.Names.{arith, changed, on_row, refl, seen, settled, rules}
+use Rattle.ksm_pages.proofs.Names.{arith, changed, refl, seen, settled, rules}
 use Rattle.ksm_pages.specs.Paged.{on_its_own}
 use Rattle.ksm_pages.proofs.Leaving.{Comes, held_as}
 use Rattle.ksm_pages.proofs.Turning.{own_left, rested}
@@ -8,8 +8,8 @@ use Rattle.ksm_pages.proofs.pages.Pages.stop_waiting.Goals as goal
 stopped : (c : goal.After-change)
     → Comes c.self.inside c.change.new.self c.self.inside.dups (changed c.args.spot.page on_its_own (seen c.args.self.now))
 stopped c =
-    rested (own_left c.self.invariant c.self.view_is c.requires) c.change.new.self (on_row settled) settled on_its_own
-    (λ x. refl) (λ x. refl) (λ r. refl) refl c.requires (λ own. grind (arith, own)) (λ lone. lone)
+    rested (own_left c.self.invariant c.self.view_is c.requires) c.change.new.self (λ t. t) settled on_its_own
+    (λ r. refl) refl c.requires (λ own. grind (arith, own)) (λ lone. lone)
     (held_as (c.change.ensures _ (search rules)))
 
 pub invariant_of-self : goal.invariant_of-self

@@ -1,9 +1,9 @@
-use Rattle.ksm_pages.proofs.Names.{ap, arith, best_of, changed, false, found_at, held_of, inl, inr, on_row, option_map, Private, refl, Row, rules, same_page, same_page_eq, seen, settled, Some, sym, true, ◌∙◌, ◌≡◌}
+use Rattle.ksm_pages.proofs.Names.{ap, arith, best_of, changed, false, found_at, held_of, inl, inr, option_map, Private, refl, Row, rules, same_page, same_page_eq, seen, settled, Some, sym, true, ◌∙◌, ◌≡◌}
 use Rattle.ksm_tree.proofs.Numbers.{on_err}
 use Rattle.ksm_pages.proofs.Leaving.{Comes, held_as, row_seen, view_of}
 use Rattle.ksm_pages.proofs.Turning.{own_left, rested}
 use Rattle.ksm_pages.proofs.Visiting.{asked, entered_not, entered_then, entered_waits, enters, enters_alone, enters_for, enters_free, enters_restless, finds_changed, finds_dup, finds_gone, finds_partner, finds_zero}
-use Rattle.ksm_pages.proofs.Visiting.{is_alone, IsAsked, lone_none, MayEnter, met, none_told, not_other}
+use Rattle.ksm_pages.proofs.Visiting.{is_alone, lone_none, MayEnter, met, none_told, not_other}
 use Rattle.ksm_pages.proofs.pages.Pages.visit.Goals as goal
 use Rattle.ksm_pages.proofs.pages.Pages.visit.Goals.{After-enter-arg-1, in-Some-in_tree+then-ne+else-waits, in-Some-in_tree+else-ne, in_default-in_tree}
 
@@ -15,9 +15,8 @@ returns-then-not-is_restless-clause-found c = search (rules, finds_gone)
 
 pub group_with_best-group-requires : goal.group_with_best-group-requires
 group_with_best-group-requires c =
-    let it : IsAsked c.self.inside c.args.self.now c.args.spot.page c.in-Some.entry.now =
-    record { lawful = c.self.invariant; seen_as = c.self.view_is; found = c.in-Some.ensures; restless = grind arith } in
-    rw (c.tree_in-tree.ensures (held_of c.self.inside.rows.pass c.in-Some.entry.now).row refl) (lone_none it)
+    rw (c.tree_in-tree.ensures (held_of c.self.inside.rows.pass c.in-Some.entry.now).row refl)
+    (lone_none (asked c.self.inside c.self.invariant c.self.view_is c.in-Some.entry.now c.in-Some.ensures (grind arith)))
 
 pub returns-in-Some-best-clause-found : goal.returns-in-Some-best-clause-found
 returns-in-Some-best-clause-found c =
@@ -40,7 +39,7 @@ went : (c : goal.After-change) → Comes c.self.inside c.change.new.self c.self.
 went c =
     let s = c.self.inside in
     let alone = is_alone s c.self.invariant c.args.spot.page c.in-Some.entry.now c.in-Some.ensures (grind arith) in
-    rested (own_left {p = view_of s} c.self.invariant refl alone) c.change.new.self (on_row kept) kept found (λ x. refl) (λ x. refl)
+    rested (own_left {p = view_of s} c.self.invariant refl alone) c.change.new.self (λ t. t) kept found
     (λ r. refl) refl alone (λ own. grind (arith, own)) (λ lone. lone) (held_as (c.change.ensures _ (search rules)))
 
 pub invariant_of-self-then-not-entry : goal.invariant_of-self-then-not-entry
@@ -81,6 +80,7 @@ way c =
     let none = none_told it tree_is c.group_with_best-group.ensures.best c.in_default-best.is in
     let not_zero = sym c.is_for_zero.ensures ∙ c.if-is_for_zero.false in
     let kept_dups = c.group_with_best-group.ensures.kept in
+    let may = enters it c.are_lawful.ensures.led c.are_lawful.ensures.found tree_is none not_zero c.group_with_best-group.result.0 c.group_with_best-group.ensures.none in
     elim c.match-in_tree.branch [
       | in-Some-in_tree+then-ne+else-waits w ↦
           let apart : same_page w.in-Some-in_tree.other.page c.args.spot.page ≡ false = grind arith in
@@ -89,13 +89,9 @@ way c =
           (sym w.in-Some-in_tree.ensures) apart w.waits.ensures w.if-waits.false)
       | in-Some-in_tree+else-ne w ↦
           let own = same_page_eq w.in-Some-in_tree.other.page c.args.spot.page (not_other _ w.if-ne.ensures) in
-          rw (w.self-inside-is, kept_dups)
-          (enters it c.are_lawful.ensures.led c.are_lawful.ensures.found tree_is none not_zero c.group_with_best-group.result.0 c.group_with_best-group.ensures.none
-          (inr (sym w.in-Some-in_tree.ensures ∙ ap Some own)))
+          rw (w.self-inside-is, kept_dups) (may (inr (sym w.in-Some-in_tree.ensures ∙ ap Some own)))
       | in_default-in_tree w ↦
-          rw (w.self-inside-is, kept_dups)
-          (enters it c.are_lawful.ensures.led c.are_lawful.ensures.found tree_is none not_zero c.group_with_best-group.result.0 c.group_with_best-group.ensures.none
-          (inl (grind arith)))
+          rw (w.self-inside-is, kept_dups) (may (inl (grind arith)))
     ]
 
 pub enter-requires-clause-own : goal.enter-requires-clause-own

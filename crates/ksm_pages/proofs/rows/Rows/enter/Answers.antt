@@ -1,7 +1,7 @@
-use Rattle.ksm_pages.proofs.Names.{ap, arith, Entry, held_at, held_of, IfSome, inr, is_some, Option, refl, rules, same_Some, subst, sym, Updates-with_value, with_value, ◌∙◌}
-use Rattle.ksm_pages.specs.Held.{Held, in_tree_by, IsFree, is_in, RowsView, waiting_in}
+use Rattle.ksm_pages.proofs.Names.{ap, arith, Entry, inr, is_some, refl, rules, sym, Updates-with_value, with_value, ◌∙◌}
+use Rattle.ksm_pages.specs.Held.{in_tree_by, is_in, waiting_in}
 use Rattle.ksm_pages.proofs.Led.{free_none, led_by_group}
-use Rattle.ksm_pages.proofs.Writing.{can_be, kept_mark, nothing, own_there, row_there, still, view_of, viewed, waits_now}
+use Rattle.ksm_pages.proofs.Writing.{can_be, kept_mark, nothing, of_page, own_there, row_there, still, viewed, waits_now}
 use Rattle.ksm_pages.proofs.rows.Rows.enter.Goals as goal
 use Rattle.ksm_pages.proofs.rows.Rows.enter.Goals.{After-change}
 
@@ -19,13 +19,8 @@ lead_to-requires-clause-free c d stood out =
     let s = c.self.inside in
     let are = c.self.invariant.0 in
     let under = c.in-Some.ensures.there in
-    let there = row_there s are under stood in
-    let page_is = ap (λ (x : Entry). x.page) (same_Some d under.entry (sym stood ∙ under.stands)) ∙ under.of_page in
-    let free = subst (λ (v : RowsView). IfSome (held_at c.args.spot.page v.held) (λ h. IsFree v c.args.spot.page h)) (sym c.self.view_is)
-    c.requires.free in
-    let here = subst (λ (o : Option Held). IfSome o (λ h. IsFree (view_of s) c.args.spot.page h)) there free in
     free_none s.entries s.order are.ascending are.filed s.pass s.by_node s.unstable c.self.invariant.1 c.in-Some.key d stood out
-    (subst (λ p. IsFree (view_of s) p (held_of s.pass d)) (sym page_is) here)
+    (rw (of_page s are under stood) (rw (row_there s are under stood) at (rw (← c.self.view_is) at c.requires.free)))
 
 -- the entry, which waits
 abbrev later : After-change → Entry

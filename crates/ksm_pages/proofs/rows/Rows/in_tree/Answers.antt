@@ -1,5 +1,4 @@
-use Rattle.ksm_pages.proofs.Names.{ap, arith, Held, None, option_map, RowsView, Spot, sym, ◌∙◌, ◌≡◌}
-use Rattle.ksm_pages.specs.Held.{page_in_tree}
+use Rattle.ksm_pages.proofs.Names.{arith, sym}
 use Rattle.ksm_pages.proofs.Led.{holder_stands, none_found, page_found, stands_some}
 use Rattle.ksm_pages.proofs.rows.Rows.in_tree.Goals as goal
 
@@ -7,11 +6,12 @@ pub returns-in_err-key : goal.returns-in_err-key
 returns-in_err-key c =
     let s = c.self.inside in
     let are = c.self.invariant.0 in
-    let none : option_map (λ (x : Spot). x.page) c.from_residual.result ≡ None = grind (arith, c.from_residual.ensures) in
-    none ∙ sym (ap (option_map (λ (h : Held). h.row.page))
-    (none_found s.entries s.order are.ascending are.filed s.pass s.by_node s.unstable c.self.invariant.1 c.args.tree c.args.bytes.now
-    (sym c.in_err-key.ensures)))
-    ∙ ap (λ (v : RowsView). page_in_tree v c.args.tree c.args.bytes.now) c.self.view_is
+    grind (
+      arith,
+      none_found s.entries s.order are.ascending are.filed s.pass s.by_node s.unstable c.self.invariant.1 c.args.tree c.args.bytes.now
+          (sym c.in_err-key.ensures),
+      c.from_residual.ensures,
+    )
 
 pub index-requires : goal.index-requires
 index-requires c =
@@ -24,6 +24,8 @@ returns c =
     let s = c.self.inside in
     let are = c.self.invariant.0 in
     let stands = holder_stands s.by_node s.entries s.unstable c.args.tree c.args.bytes.now (sym c.in_ok-key.ensures) in
-    sym (page_found s.entries s.order are.ascending are.filed s.pass s.by_node s.unstable c.self.invariant.1 c.args.tree c.args.bytes.now
-    c.in_ok-key.field-0 c.index.result.now c.index.ensures (grind (arith, stands, c.index.ensures)))
-    ∙ ap (λ (v : RowsView). page_in_tree v c.args.tree c.args.bytes.now) c.self.view_is
+    grind (
+      arith,
+      page_found s.entries s.order are.ascending are.filed s.pass s.by_node s.unstable c.self.invariant.1 c.args.tree c.args.bytes.now
+          c.in_ok-key.field-0 c.index.result.now c.index.ensures (grind (arith, stands, c.index.ensures)),
+    )

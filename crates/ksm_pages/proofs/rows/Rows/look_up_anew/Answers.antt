@@ -1,4 +1,4 @@
-use Rattle.ksm_pages.proofs.Names.{ap, held_at, held_of, is_some, refl, rules, Some, sym, ◌∙◌}
+use Rattle.ksm_pages.proofs.Names.{ap, arith, is_some, rules, sym}
 use Rattle.ksm_pages.proofs.Filing.{held_nowhere, under}
 use Rattle.ksm_pages.proofs.Writing.{row_there}
 use Rattle.ksm_pages.proofs.rows.Rows.look_up_anew.Goals as goal
@@ -10,9 +10,5 @@ pub returns-in_err-key : goal.returns-in_err-key
 returns-in_err-key c = search (rules, held_nowhere)
 
 pub returns : goal.returns
-returns c = (
-  refl,
-  (λ i. held_at c.args.page (sym c.self.view_is i).held)
-      ∙ row_there c.self.inside c.self.invariant.0 (under _ _ c.self.invariant.0.filed (sym c.in_ok-key.ensures)) c.index.ensures
-      ∙ (λ i. Some (held_of (c.self.view_is i).pass c.index.result.now)),
-)
+returns c =
+    grind (arith, row_there c.self.inside c.self.invariant.0 (under _ _ c.self.invariant.0.filed (sym c.in_ok-key.ensures)) c.index.ensures)
