@@ -1,8 +1,8 @@
 -- Entries under keys and the order of their pages: what is found, and what one entry that came, went or changed leaves.
-use Rattle.ksm_pages.proofs.Names.{All, All-append, All-cons, All-filter, All-head, All-tail, ap, ap₂, AreAscending, AreFiled, arith, Bool, change_held, comes_before, Entry, false, filter}
+use Rattle.ksm_pages.proofs.Names.{All, All-append, All-cons, All-filter, ap, ap₂, AreAscending, AreFiled, arith, Bool, change_held, comes_before, Entry, false, filter}
 use Rattle.ksm_pages.proofs.Names.{filter_passes, find, find_all, find_passes, get, get_or, GuestPage, Held, held_at, held_in, held_of, held_under, if◌then◌else◌, InPageOrder, is_of}
 use Rattle.ksm_pages.proofs.Names.{IsUnder, key_in, List, map, map-append, marked, Named, named_of, None, not, option_map, refl, rows_of, rules, same_page, same_page_eq, same_page_refl, same_page_sym}
-use Rattle.ksm_pages.proofs.Names.{same_Some, Slab, Some, sym, true, with_held, with_named, without_held, without_named, ℕ, [], ◌==◌, ◌∙◌, ◌∷◌, ◌≡◌, ◌≢◌}
+use Rattle.ksm_pages.proofs.Names.{same_Some, Slab, Some, sym, true, with_held, with_named, without_held, without_named, ℕ, ◌==◌, ◌∙◌, ◌≡◌, ◌≢◌}
 use Rattle.ksm_pages.proofs.Options.{mapped_some, none_mapped}
 use Rattle.std.proofs.lemmas.List.{map-id}
 use Rattle.slab.specs.Slab.{Updates as Fills}
@@ -168,19 +168,10 @@ module _ (slab : Slab Entry) (order : List Named) (rise : AreAscending order) (f
     )
       where
         part : (test : GuestPage → Bool) → map (held_by pass later) (filter (λ n. test n.page) order) ≡ filter (λ h. test h.row.page) (held_in pass slab order)
-        part test = go order all_stand
-          where
-            go : (ns : List Named) → All (Stands slab) ns
-                → map (held_by pass later) (filter (λ n. test n.page) ns) ≡ filter (λ h. test h.row.page) (held_in pass slab ns)
-            go [] stand = refl
-            go (n ∷ ns) stand =
-                let here = All-head (Stands slab) n ns stand in
-                grind (
-                  arith,
-                  go ns (All-tail (Stands slab) n ns stand),
-                  fills.others n.key (taken_key here),
-                  page_under pass slab here,
-                )
+        part test =
+            map_alike (held_by pass later) (held_by pass slab) (filter (λ n. test n.page) order)
+            (λ k d lt. ap (held_under pass) (fills.others _ (taken_key (All-filter (λ n. test n.page) (Stands slab) order all_stand k d lt))))
+            ∙ sym (filter_mapped (held_by pass slab) (λ h. test h.row.page) (λ n. test n.page) order (λ k d lt. ap test (page_under pass slab (all_stand k d lt))))
 
     -- where an entry came under a vacant key with a name, all pages are named as their entries say
     pub filed_put : AreFiled later (with_named (named_of key e) order)

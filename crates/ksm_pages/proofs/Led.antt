@@ -4,10 +4,9 @@ use Rattle.ksm_pages.proofs.Names.{held_in, held_of, holds, inl, inr, List, map,
 use Rattle.ksm_pages.proofs.Names.{ℕ, [], ◌==◌, ◌∙◌, ◌∷◌, ◌≡◌, ◌≢◌, ◌⊎◌, is_some, none-some}
 use Rattle.ksm_pages.proofs.Options.{mapped_some}
 use Rattle.std.proofs.Math.ListN.{get_or-map}
-use Rattle.std.specs.Prelude.{if◌then◌else◌, nat_lt}
-use Rattle.std.specs.List.{list_any}
+use Rattle.std.specs.Prelude.{nat_lt}
 use Rattle.ksm_tree.specs.Numbered.{number_of}
-use Rattle.ksm_pages.specs.declared.unstable.TheConstants.{GONE, NO_KEY}
+use Rattle.ksm_pages.specs.declared.unstable.TheConstants.{GONE}
 use Rattle.std.proofs.lemmas.Slice.Eq.{bytes_eq-Decides}
 use Rattle.slab.specs.Slab.{Updates as Fills}
 use Rattle.ksm_pages.specs.Filed.{StaysLed}
@@ -35,25 +34,19 @@ module _ (by_node : Bool) (slab later : Slab Entry) (t : ℕ) (b : List ℕ) (ke
   other_less None is = grind arith
   other_less (Some k) is = grind (arith, stands)
 
-  found_less : (keys : List ℕ) (o : Option ℕ) (r : Option ℕ) → find (stands_under by_node slab t b) keys ≡ r
-      → found_or r keys (if_stands by_node slab t b o) ≡ Some key
+  found_less : (keys : List ℕ) (o : Option ℕ)
+      → found_or (find (stands_under by_node slab t b) keys) keys (if_stands by_node slab t b o) ≡ Some key
       → found_or (find (stands_under by_node later t b) keys) keys (if_stands by_node later t b o) ≡ Some key
-  found_less keys o (Some k) is got =
-      (λ i. found_or (find_narrower (stands_under by_node slab t b) (stands_under by_node later t b) less keys key (is ∙ got) stands i) keys (if_stands by_node later t b o))
-  found_less keys o None is got =
-      (λ i. found_or (none_less (stands_under by_node slab t b) (stands_under by_node later t b) keys less is i) keys (if_stands by_node later t b o))
-      ∙ free (list_any (λ k. k == NO_KEY) keys) got
-    where
-      free : (full : Bool) → (if full then None else if_stands by_node slab t b o) ≡ Some key
-          → (if full then None else if_stands by_node later t b o) ≡ Some key
-      free true is = grind arith
-      free false is = other_less o is
+  found_less keys o got =
+      let p = stands_under by_node slab t b in
+      let q = stands_under by_node later t b in
+      grind (arith, got, stands, find_narrower p q less keys key, none_less p q keys less, other_less o)
 
   -- in a later slab in which no more entries stand with a tree and bytes the tree leads to the same one, if it stands still
   pub place_less : (p : Option (List ℕ)) (o : Option ℕ) → in_place by_node slab t b p (if_stands by_node slab t b o) ≡ Some key
       → in_place by_node later t b p (if_stands by_node later t b o) ≡ Some key
   place_less None o is = other_less o is
-  place_less (Some keys) o is = found_less keys o _ refl is
+  place_less (Some keys) o is = found_less keys o is
 
 -- the tree leads to the same entry in such a slab
 pub holder_less : (by_node : Bool) (slab : Slab Entry) (u : UnstableTree) (t : ℕ) (b : List ℕ) {key : ℕ} → holder by_node slab u t b ≡ Some key
@@ -81,11 +74,7 @@ module _ (by_node : Bool) (slab later : Slab Entry) (u : UnstableTree) (led : Ar
       holder_less by_node slab u t e.bytes before later (less t e.bytes) (grind (arith, bytes_eq-Decides e.bytes e.bytes))
     where
       less : (t : ℕ) (b : List ℕ) (k : ℕ) → stands_under by_node later t b k ≡ true → stands_under by_node slab t b k ≡ true
-      less t b k stands = go _ refl
-        where
-          go : (o : Option Entry) → get later k ≡ o → stands_under by_node slab t b k ≡ true
-          go None none = grind arith
-          go (Some e) is = grind (arith, stay k e is)
+      less t b k stands = grind (arith, stay k)
 
   module _ {key : ℕ} {o : Option Entry} (fills : Fills slab later key o) where
     led_filled : ((e : Entry) → o ≡ Some e → is_in e.in_tree ≡ true
@@ -173,11 +162,7 @@ led_by_group (Some group) = refl
 -- an entry stands under a key where one stands there with a tree and bytes
 pub stands_some : (by_node : Bool) (slab : Slab Entry) (t : ℕ) (b : List ℕ) (key : ℕ) → stands_under by_node slab t b key ≡ true
     → is_some (get slab key) ≡ true
-stands_some by_node slab t b key stands = go _ refl
-  where
-    go : (o : Option Entry) → get slab key ≡ o → is_some (get slab key) ≡ true
-    go None none = absurd (true≢false (sym stands ∙ grind (arith, none)))
-    go (Some e) is = ap is_some is
+stands_some by_node slab t b key stands = grind arith
 
 -- ---------------------------------------------------------------- what the rows show
 
@@ -251,17 +236,10 @@ module _ (slab : Slab Entry) (order : List Named) (rise : AreAscending order) (f
 
             at : (o : Option Entry) → get slab k ≡ o → ⊥
             at None none = true≢false (sym there ∙ grind (arith, none))
-            at (Some f) stood = elim (cases_Bool (holds e.page (held_of pass f))) [
-              | inl same ↦
-                  let key_is = one_key slab order filed stood stands (same_page_eq f.page e.page same) in
-                  let it = same_Some f e (sym stood ∙ ap (get slab) key_is ∙ stands) in
-                  let in_tree : is_in f.in_tree ≡ true = grind (arith, there, stood) in
-                  true≢false (sym in_tree ∙ ap (λ (x : Entry). is_in x.in_tree) it ∙ out)
-              | inr other ↦
-                  let here : held_at f.page (held_in pass slab order) ≡ Some (held_of pass f) =
-                  grind (arith, held_found slab order rise filed pass f.page, named_under slab order filed k f stood) in
-                  let none = find_all (holds f.page)
-                  (λ g. holds e.page g ≡ false → has_content by_node (tree_by by_node e.home) e.bytes g ≡ false)
-                  (held_in pass slab order) (held_of pass f) here free other in
-                  true≢false (sym there ∙ grind (arith, stood, none))
-            ]
+            at (Some f) stood =
+                let here : held_at f.page (held_in pass slab order) ≡ Some (held_of pass f) =
+                grind (arith, held_found slab order rise filed pass f.page, named_under slab order filed k f stood) in
+                let other = find_all (holds f.page)
+                (λ g. holds e.page g ≡ false → has_content by_node (tree_by by_node e.home) e.bytes g ≡ false)
+                (held_in pass slab order) (held_of pass f) here free in
+                grind (arith, there, stood, stands, out, other, one_key slab order filed stood stands, same_page_eq f.page e.page)

@@ -1,5 +1,5 @@
 -- What is read of the pages: rows and dups found by their pages, places and numbers.
-use Rattle.ksm_pages.proofs.Names.{All, ap, AreDups, AreTied, arith, Dup, dup_at, dup_numbered, dup_of, DupRow, DupsState, each_has_number, find, find_all, found_passing, has_items}
+use Rattle.ksm_pages.proofs.Names.{All, ap, AreDups, AreTied, arith, Dup, dup_at, dup_numbered, dup_of, DupRow, DupsState, each_has_number, find, find_all, found_passing}
 use Rattle.ksm_pages.proofs.Names.{Held, InPageOrder, InPlaceOrder, is_live, is_some, is_stale, items_in, items_of, length, List, list_any, live_placed, lodging, lodgings_of, merged_into, None}
 use Rattle.ksm_pages.proofs.Names.{Option, option_and_then, option_map, refl, Row, rows_of, slice_get, slice_get-get_or, Some, stale_alike, stands_at, sym, tied_counted, true}
 use Rattle.ksm_pages.proofs.Names.{unwrap_or-slice_get, ℕ, ◌&&◌, ◌<◌, ◌==◌, ◌∙◌, ◌≡◌, live_at}

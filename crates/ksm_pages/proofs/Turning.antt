@@ -1,14 +1,12 @@
 -- The pages once a call changed the row of one page: they are lawful, and what is seen of them changed so.
-use Rattle.ksm_pages.proofs.Names.{All, All-map, ap, arith, Bool, change_held, cond_both, DupsState, false, frame_of, frame_seen, get_or, GuestPage, Held, held_at, if◌then◌else◌, inl, inr, InTree, Inside, IsAlone, IsKnown, Knobs}
-use Rattle.ksm_pages.proofs.Names.{IsLeft, let_out, lies_on, List, lodgings_of, map, MatchOption, merged_state, None, not, Option, ordered_map, ordered_without, PageState, PagesValue, Private, private_state}
+use Rattle.ksm_pages.proofs.Names.{All, All-map, ap, arith, Bool, change_held, cond_both, DupsState, false, frame_of, get_or, GuestPage, Held, held_at, if◌then◌else◌, inl, inr, InTree, Inside, IsAlone, IsKnown, Knobs}
+use Rattle.ksm_pages.proofs.Names.{IsLeft, let_out, lies_on, List, lodgings_of, map, MatchOption, merged_state, None, not, Option, ordered_map, ordered_without, PagesValue, Private, private_state}
 use Rattle.ksm_pages.proofs.Names.{on_row, out_of_tree, refl, Row, row_at, rows_of, rows_out, RowsView, same_page, seen, settled, settled_state, shared_state, Some, sym, tied_dropped, tied_left, tied_mapped, tree_of, true, true≢false, waiting_state, without_held}
 use Rattle.ksm_pages.proofs.Names.{without_page, ℕ, [], ⊤, ◌∙◌, ◌∷◌, ◌==◌, ◌≡◌, ◌⊎◌, changed, relaid, length-map, InPageOrder, AreTied, AreAlone, All-filter}
 use Rattle.std.proofs.Math.ListN.{get_or-map}
-use Rattle.ksm_base.specs.Apply.{let_go}
 use Rattle.ksm_pages.specs.Paged.{HasRow}
 use Rattle.ksm_tree.specs.Dups.{rows_of as dup_rows}
 use Rattle.ksm_tree.proofs.Alike.{map_mapped}
-use Rattle.ksm_pages.specs.Held.{is_alone}
 use Rattle.ksm_pages.proofs.Changing.{rows_without}
 use Rattle.ksm_pages.proofs.Joined.{let_out_alone}
 use Rattle.ksm_pages.proofs.Lodgings.{lodged_gone, seat}
@@ -49,48 +47,34 @@ module _ {s : Inside} {p : PagesValue} {page : GuestPage} {later : DupsState} {f
     abbrev StaysLone : Held → Type 0
     StaysLone to = IsLone s.knobs (dup_rows s.dups.dups) it.held → IsLone s.knobs (dup_rows s.dups.dups) to
 
+    -- what is held with another row, and a frame and a place in the tree that come of those that it had
+    abbrev into : (Option ℕ → Option ℕ) → (InTree → InTree) → (Row → Row) → Held → Held
+    into own in_tree g h = record { row = g h.row; frame = own h.frame; in_tree = in_tree h.in_tree }
+
     module _ (rows : RowsView) where
-      -- a page that has left comes to another row and frame
-      pub left_so : (f : Held → Held) (g : Row → Row) → ((x : Held) → (f x).row ≡ g x.row)
-          → ((r : Row) → (g r).page ≡ r.page)
-          → Become s.rows rows (change_held page f s.rows.held) → (to : Row → Row) → g it.held.row ≡ to it.held.row
+      -- a page that has left comes to another row, and lies where that row and its frame say
+      pub moved : (own : Option ℕ → Option ℕ) (in_tree : InTree → InTree) (g : Row → Row) → ((r : Row) → (g r).page ≡ r.page)
+          → Become s.rows rows (change_held page (into own in_tree g) s.rows.held)
+          → (to : Row → Row) → g it.held.row ≡ to it.held.row
           → merged_state (to it.held.row).state ≡ false
-          → StaysLone (f it.held) → {frame : Option ℕ}
-          → seat (of_dup s) (Some (f it.held)) ≡ frame
+          → StaysLone (into own in_tree g it.held) → {frame : Option ℕ}
+          → seat (of_dup s) (Some (into own in_tree g it.held)) ≡ frame
           → Comes s rows later (relaid page to frame (seen p))
-      left_so f g is same turned to agree apart keeps =
-          turned_so s it.lawful page it.found it.seen_as rows f g is same turned out (rows_out _ _ _) to agree
+      moved own in_tree g same turned to agree apart keeps =
+          turned_so s it.lawful page it.found it.seen_as rows (into own in_tree g) g (λ x. refl) same turned out (rows_out _ _ _) to agree
           (tied_left _ _ _ it.lawful.order there _ _ apart it.lawful.tied) keeps
-
-      -- a page that has left comes to another state and lies where that state and its frame say
-      pub moved : (state : PageState) (own : Option ℕ) (in_tree : InTree → InTree)
-          → ((t : InTree) → is_alone (in_tree t) ≡ true → is_alone t ≡ true) → merged_state state ≡ false
-          → Become s.rows rows (change_held page
-          (λ h. record { row = record h.row { state = state }; frame = own; in_tree = in_tree h.in_tree }) s.rows.held)
-          → Comes s rows later (relaid page (λ r. record r { state = state }) (frame_seen (of_dup s) state own) (seen p))
-      moved state own in_tree less apart turned =
-          left_so (λ h. record { row = record h.row { state = state }; frame = own; in_tree = in_tree h.in_tree })
-          (λ r. record r { state = state }) (λ x. refl) (λ r. refl) turned _ refl apart
-          (λ lone is. lone (less it.held.in_tree is)) refl
-
-      -- a page that has left is let go, on a frame of its own
-      pub gone_on : (frame : ℕ) → Become s.rows rows (change_held page (λ h. record h { row = let_go h.row; frame = Some frame }) s.rows.held)
-          → Comes s rows later (relaid page let_go (Some frame) (seen p))
-      gone_on frame turned =
-          left_so (λ h. record h { row = let_go h.row; frame = Some frame }) let_go (λ x. refl) (λ r. refl) turned let_go
-          refl refl (λ lone. lone) refl
 
       -- a page with a frame of its own comes to be Private there
       pub rested : (in_tree : InTree → InTree) (g to : Row → Row) → ((r : Row) → (g r).page ≡ r.page)
           → (to it.held.row).state ≡ Private → IsAlone page p.rows
           → (shared_state it.held.row.state ≡ false → g it.held.row ≡ to it.held.row)
-          → StaysLone (record it.held { row = g it.held.row; in_tree = in_tree it.held.in_tree })
-          → Become s.rows rows (change_held page (λ h. record h { row = g h.row; in_tree = in_tree h.in_tree }) s.rows.held)
+          → StaysLone (into (λ o. o) in_tree g it.held)
+          → Become s.rows rows (change_held page (into (λ o. o) in_tree g) s.rows.held)
           → Comes s rows later (changed page to (seen p))
       rested in_tree g to same private alone_seen agree keeps turned =
           let alone = alone_found s it.seen_as _ it.found alone_seen in
           let own = lies s it.lawful page it.found it.seen_as in
-          stays_there p page (left_so (λ h. record h { row = g h.row; in_tree = in_tree h.in_tree }) g (λ x. refl) same turned to
+          stays_there p page (moved (λ o. o) in_tree g same turned to
           (agree alone) (grind (arith, private)) keeps (grind (arith, agree alone, private, alone, own)))
 
       -- a page that has left and whose row is gone is seen no more, and lies on no frame
@@ -184,9 +168,6 @@ trees_alike : (knobs tuned : Knobs) (row : Row) → not (tuned.merge_across_node
     → tree_of tuned row ≡ tree_of knobs row
 trees_alike knobs tuned row same = grind arith
 
-never_not : (b : Bool) → b ≡ not b → true ≡ false
-never_not b same = grind arith
-
 module _ (s : Inside) (are : AreLawful s) (knobs : Knobs) {by_node : Bool} (is : by_node ≡ not (knobs.merge_across_nodes == 1)) (rows : RowsView) where
   abbrev Tuned : Type 0
   Tuned = AreLawful (record s { rows = rows; knobs = knobs })
@@ -239,6 +220,4 @@ module _ (s : Inside) (are : AreLawful s) (knobs : Knobs) {by_node : Bool} (is :
       → Tuned
   tuned (inl same) may = tuned_same same.0 same.1
   tuned (inr went) (inr idle) = tuned_out idle went.1
-  tuned (inr went) (inl merge) =
-      absurd (true≢false (never_not s.rows.by_node
-      (are.by_node ∙ (λ i. not (sym merge i == 1)) ∙ sym is ∙ went.0)))
+  tuned (inr went) (inl merge) = absurd (grind (arith, are.by_node, merge, is, went.0))

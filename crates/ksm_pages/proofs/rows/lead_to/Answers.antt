@@ -1,7 +1,7 @@
-use Rattle.ksm_pages.proofs.Names.{ap, arith, Entry, false, nat_tests, None, same_Some, subst, sym, true, ◌∙◌, ◌≡◌, refl}
+use Rattle.ksm_pages.proofs.Names.{ap, arith, false, nat_tests, None, same_Some, sym, true, ◌∙◌, ◌≡◌, refl}
 use Rattle.std.proofs.lemmas.Result.{on_ok_weaker}
 use Rattle.ksm_pages.specs.Held.{is_in, tree_by}
-use Rattle.ksm_pages.specs.Unstable.{holder, Keeps, LeadsTo}
+use Rattle.ksm_pages.specs.Unstable.{holder, Keeps}
 use Rattle.ksm_pages.proofs.Led.{led_entered, led_kept, led_written}
 use Rattle.ksm_pages.proofs.rows.lead_to.Goals as goal
 use Rattle.ksm_pages.proofs.rows.lead_to.Goals.{After-lead}
@@ -32,13 +32,10 @@ pub returns-clause-leads : goal.returns-clause-leads
 returns-clause-leads c =
     on_ok_weaker c.lead.result (λ leads d e later stood fills home bytes in_tree.
     let it = same_Some c.index-entry.result.now d (sym c.index-entry.ensures ∙ stood) in
-    let gone : is_in d.in_tree ≡ false = subst (λ (x : Entry). is_in x.in_tree ≡ false) it (out c) in
-    let leads_to = subst (λ (x : Entry). LeadsTo c.args.entries.now c.args.unstable.now c.lead.new.self (tree_by c.args.by_node x.home) x.bytes c.args.key) it
-    (subst (λ n. LeadsTo c.args.entries.now c.args.unstable.now c.lead.new.self (tree_by c.args.by_node c.index-entry.result.now.home) c.index-entry.result.now.bytes n) (number_is c)
-    (subst (λ t. LeadsTo c.args.entries.now c.args.unstable.now c.lead.new.self t c.index-entry.result.now.bytes c.unwrap_or-number.result) c.tree_by-tree.ensures leads)) in
     led_entered c.args.by_node c.args.entries.now later c.args.key d e stood fills c.args.unstable.now c.lead.new.self c.requires.led
-    (c.requires.free d stood gone) home bytes in_tree
-    (grind (arith, nat_tests, number_is c, c.if-number-ge-GONE.false)) (kept c) leads_to) c.lead.ensures.leads
+    (c.requires.free d stood (rw (← it) (out c))) home bytes in_tree
+    (grind (arith, nat_tests, number_is c, c.if-number-ge-GONE.false)) (kept c)
+    (rw (← it, ← number_is c, ← c.tree_by-tree.ensures) leads)) c.lead.ensures.leads
 
 pub returns-clause-kept : goal.returns-clause-kept
 returns-clause-kept c =

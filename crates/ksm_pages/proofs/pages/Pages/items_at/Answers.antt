@@ -1,4 +1,4 @@
-use Rattle.ksm_pages.proofs.Names.{ap, dup_at, is_some, items_in, items_of, option_map, PagesValue, rows_of, Some, sym, ◌∙◌, ◌≡◌, live_at}
+use Rattle.ksm_pages.proofs.Names.{ap, dup_at, is_some, items_in, items_of, option_map, rows_of, Some, sym, ◌∙◌, ◌≡◌, live_at}
 use Rattle.ksm_tree.proofs.Numbers.{on_err}
 use Rattle.ksm_pages.proofs.Options.{some_mapped}
 use Rattle.ksm_pages.proofs.Paging.{items_none, items_there}
@@ -9,9 +9,8 @@ use Rattle.ksm_pages.proofs.pages.Pages.items_at.Goals.{In-Some}
 there : (c : In-Some) → option_map (items_of c.args.self.now.rows) (live_at c.args.place c.args.self.now.rows c.args.self.now.dups)
     ≡ Some (items_in (dup_at c.args.place c.self.inside.dups.dups))
 there c =
-    ap (λ (v : PagesValue). option_map (items_of v.rows) (live_at c.args.place v.rows v.dups))
-    (sym c.self.view_is)
-    ∙ items_there (rows_of c.self.inside.rows.held) _ _ c.self.invariant.tied c.at.ensures.lawful.in_place_order c.in-Some.ensures
+    rw (← c.self.view_is)
+    (items_there (rows_of c.self.inside.rows.held) _ _ c.self.invariant.tied c.at.ensures.lawful.in_place_order c.in-Some.ensures)
 
 pub returns-in_ok-items_at-in-Some-clause-items : goal.returns-in_ok-items_at-in-Some-clause-items
 returns-in_ok-items_at-in-Some-clause-items c =
@@ -23,5 +22,5 @@ returns-in_err-items_at-in-Some-clause-refused c = on_err _
 
 pub returns-in-None-clause-items : goal.returns-in-None-clause-items
 returns-in-None-clause-items c =
-    sym (ap (λ (v : PagesValue). option_map (items_of v.rows) (live_at c.args.place v.rows v.dups)) (sym c.self.view_is)
-    ∙ ap (option_map (items_of (rows_of c.self.inside.rows.held))) (items_none (rows_of c.self.inside.rows.held) _ _ c.self.invariant.tied c.in-None.ensures))
+    rw (← c.self.view_is)
+    (sym (ap (option_map (items_of (rows_of c.self.inside.rows.held))) (items_none (rows_of c.self.inside.rows.held) _ _ c.self.invariant.tied c.in-None.ensures)))

@@ -1,6 +1,6 @@
-use Rattle.ksm_pages.proofs.Names.{arith, rules}
+use Rattle.ksm_pages.proofs.Names.{arith, rules, refl, Some, let_go}
 use Rattle.ksm_pages.proofs.Leaving.{held_as}
-use Rattle.ksm_pages.proofs.Turning.{gone_on, HasLeft, known_left, lay}
+use Rattle.ksm_pages.proofs.Turning.{HasLeft, known_left, lay, moved}
 use Rattle.ksm_pages.proofs.pages.Pages.let_go_on.Goals as goal
 
 gone : (c : goal.After-change)
@@ -9,11 +9,13 @@ gone c = grind (arith, known_left)
 
 pub invariant_of-self : goal.invariant_of-self
 invariant_of-self c =
-    (gone_on (gone c) c.change.new.self c.args.frame (held_as (c.change.ensures _ (search rules)))).lawful
+    (moved (gone c) c.change.new.self (λ _. Some c.args.frame) (λ t. t) let_go (λ r. refl)
+    (held_as (c.change.ensures _ (search rules))) let_go refl refl (λ lone. lone) refl).lawful
 
 pub returns-clause-left : goal.returns-clause-left
 returns-clause-left c = lay (gone c) c.deref.ensures.value
 
 pub returns-clause-gone : goal.returns-clause-gone
 returns-clause-gone c =
-    (gone_on (gone c) c.change.new.self c.args.frame (held_as (c.change.ensures _ (search rules)))).told_as
+    (moved (gone c) c.change.new.self (λ _. Some c.args.frame) (λ t. t) let_go (λ r. refl)
+    (held_as (c.change.ensures _ (search rules))) let_go refl refl (λ lone. lone) refl).told_as
