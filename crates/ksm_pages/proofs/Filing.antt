@@ -117,12 +117,13 @@ module _ (slab : Slab Entry) (order : List Named) (rise : AreAscending order) (f
       -- where the flag stays, the order says so already
       pub unmarked : e'.mergeable ≡ e.mergeable → order ≡ marked e.page e'.mergeable order
       unmarked flag =
-          sym (map_alike mark (λ n. n) order (λ k d lt. alike _ (each_found page_of _ rise k d lt) _ refl) ∙ map-id order)
-        where
-          alike : (n : Named) → find (is_of n.page) order ≡ Some n → (b : Bool) → is_of e.page n ≡ b
-              → (if b then record n { mergeable = e'.mergeable } else n) ≡ n
-          alike n own true is = grind (arith, named_under slab order filed key e stood, same_page_eq n.page e.page is)
-          alike n own false is = refl
+          sym (map_alike mark (λ n. n) order (λ k d lt. grind (
+            arith,
+            flag,
+            each_found page_of _ rise k d lt,
+            named_under slab order filed key e stood,
+            same_page_eq (get_or order k d).page e.page,
+          )) ∙ map-id order)
 
     -- ---------------------------------------------------------------- one entry gone
 

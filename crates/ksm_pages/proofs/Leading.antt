@@ -1,6 +1,6 @@
 -- The unstable tree: what a key that came to a place or went from it leaves of what is found.
-use Rattle.std.proofs.Common.{ap, ap₂, arith, Bool, drop, false, get_or, inl, inr, is_some, length, length-set}
-use Rattle.std.proofs.Common.{List, None, Option, refl, set, Some, suc, sym, true, true≢false, zero, ℕ, [], ◌+◌, ◌<◌, ◌∙◌, ◌∷◌, ◌≡◌, ◌≢◌}
+use Rattle.std.proofs.Common.{ap, ap₂, arith, Bool, drop, false, get_or, inl, inr, length, length-set}
+use Rattle.std.proofs.Common.{List, None, Option, refl, set, Some, suc, sym, true, zero, ℕ, [], ◌+◌, ◌<◌, ◌∙◌, ◌∷◌, ◌≡◌, ◌≢◌}
 use Rattle.std.proofs.lemmas.Bool.{cases_Bool}
 use Rattle.std.proofs.lemmas.Bool.Decides.{nat_tests}
 use Rattle.std.proofs.lemmas.List.{drop_more, set-get_or}
@@ -190,10 +190,8 @@ module _ (old new : UnstableTree) (same : new.places.items ≡ old.places.items)
 
   -- so it leads as before, where it led to no row from that one
   pub beside_keeps : (slab : Slab Entry) (by_node : Bool) → holder by_node slab old tree bytes ≡ None → Keeps by_node slab old new
-  beside_keeps slab by_node none t b key found = elim (cases_Bool (t == tree && bytes_eq b bytes)) [
-    | inl is ↦ absurd (true≢false (ap is_some (sym found ∙ same_content old by_node slab t b is ∙ none)))
-    | inr apart ↦ elsewhere_same by_node slab t b apart ∙ found
-  ]
+  beside_keeps slab by_node none t b key found =
+      grind (arith, none, found, same_content old by_node slab t b, elsewhere_same by_node slab t b)
 
   -- and where that one had the number of a row to which the tree does not lead, it leads as before
   pub beside_forgets : (slab : Slab Entry) {key : ℕ} → is_led slab key ≡ false → number_of tree bytes old.others.entries ≡ Some key

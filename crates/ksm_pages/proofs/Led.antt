@@ -1,7 +1,7 @@
 -- Each entry in the unstable tree is found there: what one entry that came, went or changed leaves, and what the rows show of it.
-use Rattle.ksm_pages.proofs.Names.{All, ap, AreAscending, AreFiled, arith, Bool, cases_Bool, Entry, false, find, find_all, find_none, find_nothing, find_passes, get, get_or, held_at}
+use Rattle.ksm_pages.proofs.Names.{All, ap, AreAscending, AreFiled, arith, Bool, cases_Bool, Entry, false, find, find_all, find_none, find_nothing, find_passes, get, get_or}
 use Rattle.ksm_pages.proofs.Names.{held_in, held_of, holds, inl, inr, List, map, Named, nat_tests, None, Option, option_map, refl, RowsView, same_page_eq, same_Some, Slab, Some, sym, true, true≢false, waiting_state}
-use Rattle.ksm_pages.proofs.Names.{ℕ, [], ◌==◌, ◌∙◌, ◌∷◌, ◌≡◌, ◌≢◌, ◌⊎◌, is_some, none-some}
+use Rattle.ksm_pages.proofs.Names.{ℕ, [], ◌==◌, ◌∙◌, ◌∷◌, ◌≡◌, ◌≢◌, ◌⊎◌, is_some}
 use Rattle.ksm_pages.proofs.Options.{mapped_some}
 use Rattle.std.proofs.Math.ListN.{get_or-map}
 use Rattle.std.specs.Prelude.{nat_lt}
@@ -141,13 +141,8 @@ module _ (by_node : Bool) (slab later : Slab Entry) (key : ℕ) (d e : Entry) (s
     where
       less : (t : ℕ) (b : List ℕ) (l : ℕ) → holder by_node slab old t b ≡ Some l → (m : ℕ) → stands_under by_node later t b m ≡ true
           → stands_under by_node slab t b m ≡ true
-      less t b l was m stands = elim (same_or_apart m key) [
-        | inl same ↦
-            let content : (tree_by by_node d.home ≡ t) × (d.bytes ≡ b) =
-            grind (arith, fills.changed, home, bytes, bytes_eq-Decides e.bytes b, nat_tests) in
-            absurd (none-some _ (sym none ∙ (λ i. holder by_node slab old (content.0 i) (content.1 i)) ∙ was))
-        | inr other ↦ grind (arith, fills.others m other)
-      ]
+      less t b l was m stands =
+          grind (arith, nat_tests, fills.changed, fills.others m, home, bytes, bytes_eq-Decides e.bytes b, none, was, stands)
 
 -- where the tree leads to each entry to which it led, it leads to all that are in it
 pub led_kept : (by_node : Bool) (slab : Slab Entry) (old new : UnstableTree) → AreLed by_node slab old → Keeps by_node slab old new
@@ -171,6 +166,12 @@ module _ (slab : Slab Entry) (order : List Named) (rise : AreAscending order) (f
   pub rows_led : All (λ h. waiting_state h.row.state ≡ true → is_in h.in_tree ≡ true) (held_in pass slab order)
   rows_led = rows_all slab order rise filed pass (λ h. waiting_state h.row.state ≡ true → is_in h.in_tree ≡ true) (λ k e stands. grind arith)
 
+  -- what holds of all rows holds of that of each entry
+  holds_at : (P : Held → Type 0) → All P (held_in pass slab order) → (key : ℕ) (e : Entry) → get slab key ≡ Some e → P (held_of pass e)
+  holds_at P all key e stands =
+      find_all (holds e.page) P (held_in pass slab order) (held_of pass e)
+      (grind (arith, held_found slab order rise filed pass e.page, named_under slab order filed key e stands)) all
+
   module _ (by_node : Bool) (u : UnstableTree) (led : AreLed by_node slab u) where
     abbrev seen : RowsView
     seen = record { held = held_in pass slab order; pass = pass; by_node = by_node }
@@ -189,8 +190,7 @@ module _ (slab : Slab Entry) (order : List Named) (rise : AreAscending order) (f
       where
         same : All (λ h. has_content by_node t b h ≡ true → h.row.page ≡ e.page) (held_in pass slab order)
         same = rows_all slab order rise filed pass (λ h. has_content by_node t b h ≡ true → h.row.page ≡ e.page) (λ k f there also.
-            let one = same_Some k key (sym (held_by_content t b k f there also) ∙ held_by_content t b key e stands has) in
-            ap (λ (x : Entry). x.page) (same_Some f e (sym there ∙ ap (get slab) one ∙ stands)))
+            grind (arith, held_by_content t b k f there also, held_by_content t b key e stands has, there, stands))
 
         go : (o : Option Held) → find (has_content by_node t b) (held_in pass slab order) ≡ o
             → option_map (λ (h : Held). h.row.page) (find (has_content by_node t b) (held_in pass slab order)) ≡ Some e.page
@@ -198,14 +198,7 @@ module _ (slab : Slab Entry) (order : List Named) (rise : AreAscending order) (f
             ap (option_map (λ (h : Held). h.row.page)) is
             ∙ ap Some (find_all (has_content by_node t b) (λ h. has_content by_node t b h ≡ true → h.row.page ≡ e.page) (held_in pass slab order) h is same (find_passes (has_content by_node t b) (held_in pass slab order) h is))
         go None is =
-            let here = held_found slab order rise filed pass e.page in
-            absurd (grind (
-              arith,
-              here,
-              named_under slab order filed key e stands,
-              find_none (has_content by_node t b) (held_in pass slab order) is,
-              find_all (holds e.page) (λ h. has_content by_node t b h ≡ false) (held_in pass slab order) (held_of pass e),
-            ))
+            absurd (true≢false (sym has ∙ holds_at (λ h. has_content by_node t b h ≡ false) (find_none (has_content by_node t b) (held_in pass slab order) is) key e stands))
 
     -- each row in the tree is found by its tree and bytes
     pub rows_found : AreInTree seen
@@ -217,10 +210,7 @@ module _ (slab : Slab Entry) (order : List Named) (rise : AreAscending order) (f
     pub none_found : (t : ℕ) (b : List ℕ) → holder by_node slab u t b ≡ None → find (has_content by_node t b) (held_in pass slab order) ≡ None
     none_found t b none =
         find_nothing _ _ (rows_all slab order rise filed pass (λ h. has_content by_node t b h ≡ false) (λ k e stands.
-        elim (cases_Bool (has_content by_node t b (held_of pass e))) [
-          | inl has ↦ absurd (none-some _ (sym none ∙ held_by_content t b k e stands has))
-          | inr not ↦ not
-        ]))
+        grind (arith, none, held_by_content t b k e stands)))
 
     -- the tree leads to no entry from the tree and bytes of one that is not in it, where no other row has these
     pub free_none : (key : ℕ) (e : Entry) → get slab key ≡ Some e → is_in e.in_tree ≡ false → IsFree seen e.page (held_of pass e)
@@ -237,9 +227,5 @@ module _ (slab : Slab Entry) (order : List Named) (rise : AreAscending order) (f
             at : (o : Option Entry) → get slab k ≡ o → ⊥
             at None none = true≢false (sym there ∙ grind (arith, none))
             at (Some f) stood =
-                let here : held_at f.page (held_in pass slab order) ≡ Some (held_of pass f) =
-                grind (arith, held_found slab order rise filed pass f.page, named_under slab order filed k f stood) in
-                let other = find_all (holds f.page)
-                (λ g. holds e.page g ≡ false → has_content by_node (tree_by by_node e.home) e.bytes g ≡ false)
-                (held_in pass slab order) (held_of pass f) here free in
+                let other = holds_at (λ g. holds e.page g ≡ false → has_content by_node (tree_by by_node e.home) e.bytes g ≡ false) free k f stood in
                 grind (arith, there, stood, stands, out, other, one_key slab order filed stood stands, same_page_eq f.page e.page)

@@ -24,13 +24,10 @@ module _ (pass : ℕ) (slab : Slab Entry) (order : List Named) (rise : AreAscend
   -- the first page that passes a test is the same in the rows and in the order
   pub page_found : (test : GuestPage → Bool) → option_map (λ r. r.page) (find (λ r. test r.page) (rows_of (held_in pass slab order))) ≡ option_map page_of (find (λ n. test n.page) order)
   page_found test =
-      ap (λ rows. option_map (λ (r : Row). r.page) (find (λ r. test r.page) rows)) rows_by
-      ∙ ap (option_map (λ (r : Row). r.page)) (grind (arith, find_mapped, all_pages))
-      ∙ go _ refl
-    where
-      go : (o : Option Named) → find (λ n. test n.page) order ≡ o → option_map (λ (r : Row). r.page) (option_map row_by o) ≡ option_map page_of o
-      go None is = refl
-      go (Some n) is = ap Some (find_all _ (λ m. (row_by m).page ≡ m.page) _ n is all_pages)
+      let found = find_mapped row_by (λ r. test r.page) (λ n. test n.page) order (λ k d lt. ap test (all_pages k d lt)) in
+      let same : (n : Named) → find (λ m. test m.page) order ≡ Some n → (row_by n).page ≡ n.page =
+      λ n is. find_all _ (λ m. (row_by m).page ≡ m.page) _ n is all_pages in
+      grind (arith, rows_by, found, same)
 
   -- as many rows are mergeable as pages are named so in the order
   pub flags_counted : count_by (λ r. r.mergeable) (rows_of (held_in pass slab order)) ≡ count_by (λ n. n.mergeable) order

@@ -38,15 +38,6 @@ tally_settled f is held are = record {
   zero = are.zero ∙ sym (counts_alike f zero_state zero_state (λ h. grind (arith, is h)) held);
 }
 
--- the tally of rows whose states stay
-tally_kept : (f : Held → Held) → ((h : Held) → (f h).row.state ≡ h.row.state) → (held : List Held) {tally : Tally}
-    → IsTally (rows_of held) tally → IsTally (rows_of (map f held)) tally
-tally_kept f same held are = record {
-  merged = are.merged ∙ sym (counts_alike f merged_state _ (λ h. ap merged_state (same h)) held);
-  waiting = are.waiting ∙ sym (counts_alike f waiting_state _ (λ h. ap waiting_state (same h)) held);
-  zero = are.zero ∙ sym (counts_alike f zero_state _ (λ h. ap zero_state (same h)) held);
-}
-
 -- entries in an order are lawful rows, with a list, a tally and a pass, and are seen as these
 pub record AreSeen (slab : Slab Entry) (order : List Named) (restless : Listing) (tally : Tally) (pass : ℕ) (these : List Held) : Type 0 where
   pub rows : IsRows slab order restless tally pass
@@ -127,7 +118,11 @@ module _ {slab : Slab Entry} {order : List Named} {restless : Listing} {tally : 
         → AreSeen later order restless tally pass (map (on_row (λ r. record r { unchanged = false })) held)
     plain_seen slots =
         all_seen later pass plain slots (λ e. (refl, refl, refl)) (on_row (λ r. record r { unchanged = false })) (λ k e stands. refl)
-        are.begun are.counting (search (rules, tally_kept))
+        are.begun are.counting (record {
+          merged = are.counted.merged ∙ sym (counts_alike _ merged_state merged_state (λ h. refl) held);
+          waiting = are.counted.waiting ∙ sym (counts_alike _ waiting_state waiting_state (λ h. refl) held);
+          zero = are.counted.zero ∙ sym (counts_alike _ zero_state zero_state (λ h. refl) held);
+        })
 
     -- once the unstable tree leads to no entry, each row is seen so, and waits no more
     pub out_seen : later.slots ≡ map (option_map out) slab.slots

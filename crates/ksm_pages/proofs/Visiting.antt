@@ -208,10 +208,6 @@ module _ (s : Inside) (are : AreLawful s) (other : GuestPage) {w : Held} (found 
 
 -- ---------------------------------------------------------------- a row that may enter the tree
 
--- a test that is not passed where its contrary fails
-pub not_other : (b : Bool) → false ≡ not b → b ≡ true
-not_other b is = grind arith
-
 -- a row that a visit may change
 pub asked : (s : Inside) → AreLawful s → {p : PagesValue} → view_of s ≡ p → {page : GuestPage} (e : Entry)
     → held_at page s.rows.held ≡ Some (held_of s.rows.pass e) → is_restless_entry e ≡ true → IsAsked s p page e

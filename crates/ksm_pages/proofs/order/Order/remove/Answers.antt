@@ -1,5 +1,5 @@
 use Rattle.ksm_tree.proofs.Alike.{filter_mapped}
-use Rattle.ksm_pages.proofs.Names.{All-filter, ap, arith, find, is_of, is_some, length, sym, ◌<◌, ◌^◌, ◌∙◌}
+use Rattle.ksm_pages.proofs.Names.{All-filter, ap, arith, find, is_some, length, ◌<◌, ◌^◌, ◌≡◌, true}
 use Rattle.std.proofs.lemmas.List.Kept.{AllPairs-filter}
 use Rattle.ksm_order.specs.declared.item.Item.{Item}
 use Rattle.ksm_order.specs.Listed.{is_at}
@@ -9,11 +9,8 @@ use Rattle.ksm_pages.proofs.order.Order.remove.Goals as goal
 
 pub invariant_of-self : goal.invariant_of-self
 invariant_of-self g c =
-    let there =
-    ap (λ n. is_some (find (is_at n) c.self.inside.pages)) c.key_of.ensures.key
-    ∙ sym (some_mapped _ _)
-    ∙ ap is_some (sym (found_by _ c.key_of.ensures.few _) ∙ ap (find (is_of c.args.page)) c.self.view_is)
-    ∙ c.requires.there in
+    let there : is_some (find (is_at c.key_of.result) c.self.inside.pages) ≡ true =
+    grind (arith, c.key_of.ensures, found_by c.args.page c.key_of.ensures.few c.self.inside.pages, some_mapped, c.self.view_is, c.requires) in
     record {
       ascending = rw c.remove.ensures (AllPairs-filter (λ (x y : Item). x.key < y.key) _ _ c.self.invariant.ascending);
       long = omega (arith, c.self.invariant.long, ap length c.remove.ensures, gone_one _ _ c.self.invariant.ascending there);

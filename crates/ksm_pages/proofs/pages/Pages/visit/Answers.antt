@@ -3,7 +3,7 @@ use Rattle.ksm_tree.proofs.Numbers.{on_err}
 use Rattle.ksm_pages.proofs.Leaving.{Comes, held_as, row_seen, view_of}
 use Rattle.ksm_pages.proofs.Turning.{own_left, rested}
 use Rattle.ksm_pages.proofs.Visiting.{asked, entered_not, entered_then, entered_waits, enters, enters_alone, enters_for, enters_free, enters_restless, finds_changed, finds_dup, finds_gone, finds_partner, finds_zero}
-use Rattle.ksm_pages.proofs.Visiting.{is_alone, lone_none, MayEnter, met, none_told, not_other}
+use Rattle.ksm_pages.proofs.Visiting.{is_alone, lone_none, MayEnter, met, none_told}
 use Rattle.ksm_pages.proofs.pages.Pages.visit.Goals as goal
 use Rattle.ksm_pages.proofs.pages.Pages.visit.Goals.{After-enter-arg-1, in-Some-in_tree+then-ne+else-waits, in-Some-in_tree+else-ne, in_default-in_tree}
 
@@ -88,7 +88,8 @@ way c =
           (enters_for it c.are_lawful.ensures.led c.are_lawful.ensures.found tree_is none not_zero c.group_with_best-group.result.0 c.group_with_best-group.ensures.none
           (sym w.in-Some-in_tree.ensures) apart w.waits.ensures w.if-waits.false)
       | in-Some-in_tree+else-ne w ↦
-          let own = same_page_eq w.in-Some-in_tree.other.page c.args.spot.page (not_other _ w.if-ne.ensures) in
+          let own : w.in-Some-in_tree.other.page ≡ c.args.spot.page =
+          grind (arith, same_page_eq w.in-Some-in_tree.other.page c.args.spot.page, w.if-ne.ensures) in
           rw (w.self-inside-is, kept_dups) (may (inr (sym w.in-Some-in_tree.ensures ∙ ap Some own)))
       | in_default-in_tree w ↦
           rw (w.self-inside-is, kept_dups) (may (inl (grind arith)))
