@@ -1,7 +1,8 @@
 -- Visits of pages do what those of the definitions do, where the rows further on that still wait are hidden from these.
+use Rattle.ksm_book.proofs.Names.{Stage}
 use Rattle.ksm_book.proofs.Scanned.{restless_mergeable}
 use Rattle.ksm_book.proofs.Names.{after_cursor, All, All-map, ap, apart, AreAscending, arith, before_irrefl, best_dup, BookState, Bool, cases_Bool, change_row, change_rows, comes_before}
-use Rattle.ksm_book.proofs.Names.{comes_later, count_mapped, Deed, doing, due_visited, due_visits, dup_frame, DupRow, each_at_page, false, find_all, find_mapped, find_none, find_passes}
+use Rattle.ksm_book.proofs.Names.{comes_later, count_mapped, Deed, due_visited, due_visits, dup_frame, DupRow, each_at_page, false, find_all, find_mapped, find_none, find_passes}
 use Rattle.ksm_book.proofs.Names.{Frames, freed, get_or, get_or_from_slice_get, GuestPage, handled, has, has_item, hidden_from, if◌then◌else◌, inl, InPageOrder, inr, is_best, is_for_zero}
 use Rattle.ksm_book.proofs.Names.{is_no_rival, is_restless, is_stale, IsSound, item_count, List, made_dup, map_alike, map_mapped, may_join, mergeable_pages, merged_into, new_place, None}
 use Rattle.ksm_book.proofs.Names.{not, not_both, one_before, Option, option_map, page, page_visited, pages_visited, paired, pairs_head, pairs_tail, partner, place_count, refl, restless_at}
@@ -187,8 +188,8 @@ module _ (b : BookState) (r : Row) where
     )
 
     -- its visit does the same where the rows from it on are veiled; after it its own is not
-    visit_alike : (deed : Deed) → visited doing (covered, deed) (Some (settled r))
-        ≡ (veiled (comes_before r.page) (visited doing (b, deed) (Some r)).0, (visited doing (b, deed) (Some r)).1)
+    visit_alike : (deed : Deed) → visited (covered, deed) (Some (settled r))
+        ≡ (veiled (comes_before r.page) (visited (b, deed) (Some r)).0, (visited (b, deed) (Some r)).1)
     visit_alike deed =
         let frames = dup_frame_kept is_on b deed.frame in
         grind (arith, best_kept is_on b r, handled_alike, partner_alike, frames, place_kept is_on b)
@@ -229,17 +230,17 @@ module _ (b : BookState) (r : Row) where
 -- ---------------------------------------------------------------- one visit
 
 -- the visit of a page that is none that a visit may change changes nothing
-pub calm_stays : (s : BookState × Deed) (page : GuestPage) → restless_at page s.0.rows ≡ false
-    → due_visited doing s page ≡ s
+pub calm_stays : (s : Stage) (page : GuestPage) → restless_at page s.0.rows ≡ false
+    → due_visited s page ≡ s
 calm_stays s page calm = grind arith
 
 -- our visit of a page keeps the book sound, and which pages scans visit; and the visit of the definitions does the same
 -- where the rows from the page on are veiled, but that after it the row of the page is not
 abbrev pub IsAlike : BookState → Deed → GuestPage → Type 0
 IsAlike b deed page =
-    let due : BookState × Deed = due_visited doing (b, deed) page in
+    let due : Stage = due_visited (b, deed) page in
     IsSound due.0 × (mergeable_pages due.0.rows ≡ mergeable_pages b.rows)
-    × (page_visited doing (hidden_from page b, deed) page
+    × (page_visited (hidden_from page b, deed) page
     ≡ (veiled (comes_before page) due.0, due.1))
 
 module _ (b : BookState) (s : IsSound b) (deed : Deed) where
@@ -248,15 +249,15 @@ module _ (b : BookState) (s : IsSound b) (deed : Deed) where
   by_visit : (r : Row) → is_restless r ≡ true → (o : BookState) → IsSound o → row_at r.page o.rows ≡ Some r
       → mergeable_pages o.rows ≡ mergeable_pages b.rows → covered b r ≡ covered o r
       → (best_dup o.knobs o.rows o.dups r ≡ None → r.unchanged ≡ true → is_for_zero o.knobs r ≡ false → NoneVeiled o r)
-      → visited doing (o, deed) (Some r) ≡ due_visited doing (b, deed) r.page → IsAlike b deed r.page
+      → visited (o, deed) (Some r) ≡ due_visited (b, deed) r.page → IsAlike b deed r.page
   by_visit r restless o sound found same covers near is =
       let at = calmed_at (is_on o r) o r.page ∙ ap (option_map (cover o r)) found
       ∙ ap (λ z. Some (if not z then settled r else r)) (before_irrefl r.page) in (
-        subst (λ (z : BookState × Deed). IsSound z.0) is
+        subst (λ (z : Stage). IsSound z.0) is
             (rw found at (visits_page.sound o deed r.page sound)),
-        subst (λ (z : BookState × Deed). mergeable_pages z.0.rows ≡ mergeable_pages b.rows) is
+        subst (λ (z : Stage). mergeable_pages z.0.rows ≡ mergeable_pages b.rows) is
             (rw found at (visits_page.mergeable o deed r.page sound) ∙ same),
-        ap (λ c. page_visited doing (c, deed) r.page) covers ∙ ap (visited doing (covered o r, deed)) at
+        ap (λ c. page_visited (c, deed) r.page) covers ∙ ap (visited (covered o r, deed)) at
             ∙ visit_alike o r restless near deed ∙ (λ t. (veiled (comes_before r.page) (is t).0, (is t).1)),
       )
 
@@ -337,15 +338,15 @@ module _ (e : GuestPage → Bool) (up : (p q : GuestPage) → e q ≡ true → e
 
   -- our visits of these pages are those of the definitions in the book where the rows behind the cursor are veiled;
   -- after them only those are whose pages pass the test
-  pub along : (pages : List GuestPage) (c : Option GuestPage) (s : BookState × Deed) → IsSound s.0
+  pub along : (pages : List GuestPage) (c : Option GuestPage) (s : Stage) → IsSound s.0
       → Leaves e c s.0 pages
-      → pages_visited doing (veiled (after_cursor c) s.0, s.1) pages
-      ≡ (veiled e (due_visits doing s pages).0, (due_visits doing s pages).1)
+      → pages_visited (veiled (after_cursor c) s.0, s.1) pages
+      ≡ (veiled e (due_visits s pages).0, (due_visits s pages).1)
   along [] c s sound l =
       λ t. (veiled_same (after_cursor c) s.0 e sound (λ q has. grind (arith, l.are q, l.behind q)) t, s.1)
   along (page ∷ pages) c s sound l =
       let first = one_due s.0 sound s.1 page in
-      (λ t. pages_visited doing (veiled_same (after_cursor c) s.0 _ sound (from_first c s.0 page pages l) t, s.1)
+      (λ t. pages_visited (veiled_same (after_cursor c) s.0 _ sound (from_first c s.0 page pages l) t, s.1)
       (page ∷ pages))
-      ∙ ap (λ z. pages_visited doing z pages) first.2
-      ∙ along pages (Some page) (due_visited doing s page) first.0 (leaves_rest c s.0 page pages l _ first.1)
+      ∙ ap (λ z. pages_visited z pages) first.2
+      ∙ along pages (Some page) (due_visited s page) first.0 (leaves_rest c s.0 page pages l _ first.1)

@@ -1,6 +1,6 @@
 -- The visit of a page that is due, by what was found of it: it takes over from none, but where a row further on waits
 -- for it; and which pages are due then.
-use Rattle.ksm_book.proofs.Names.{ap, AreDue, arith, best_dup, BookState, BookValue, BookView, Bool, Comes, comes_before, doing, due_visited, Dup, false, Find, find_passes, FindsAt}
+use Rattle.ksm_book.proofs.Names.{ap, AreDue, arith, best_dup, BookState, BookValue, BookView, Bool, Comes, comes_before, due_visited, Dup, false, Find, find_passes, FindsAt}
 use Rattle.ksm_book.proofs.Names.{GuestPage, has_item, is_restless, IsDueNoMore, KeeperView, List, None, not_both, one_before, Option, page, PagesView, Partner, partner, refl}
 use Rattle.ksm_book.proofs.Names.{restless_at, Row, row_visited, state_of, subst, sym, takes_over, TakesOver, true, true≢false, view_of, VisitsPage, waits_for, waits_tells}
 use Rattle.ksm_book.proofs.Names.{IsLaid, IsSound, ℕ, ◌∙◌, ◌∷◌, ◌≡◌}
@@ -73,7 +73,7 @@ module _ (f : Find) (q : PagesView) {p : PagesView} {k : KeeperView} {cursor : O
   by = shared_by f p q cursor passes at.row (rw (page_is at) is) at.so
 
   -- where the row was visited in the book as it was, that is the visit of what is due, and the page is due no longer
-  pub shared_due : Comes v w (λ s. due_visited doing s page) × IsDueNoMore page v.state w.state
+  pub shared_due : Comes v w (λ s. due_visited s page) × IsDueNoMore page v.state w.state
   shared_due = (
     λ from s before. grind (arith, by, at.found, at.is, shared_comes v w at by.0 q by.1 did from s before),
     visited_undue at by.0 by.3 w.state (grind (arith, by, at.found, at.is)),

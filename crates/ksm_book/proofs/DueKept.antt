@@ -1,6 +1,6 @@
 -- Passes that visit only the pages that are due: what waits on is left as it is, and what is due stays so.
 use Rattle.ksm_book.proofs.Names.{All, All-cons, All-head, All-tail, all_changed, all_with_dup, ap, AreDue, arith, best_dup, BookState, Bool, bytes_eq, bytes_eq-Decides, cases_Bool}
-use Rattle.ksm_book.proofs.Names.{change_row, change_rows, cond_both, count_by, count_mapped, doing, due_visited, dup_of_row, DupRow, eqb-true, false, find_all, find_none, find_nothing}
+use Rattle.ksm_book.proofs.Names.{change_row, change_rows, cond_both, count_by, count_mapped, due_visited, dup_of_row, DupRow, eqb-true, false, find_all, find_none, find_nothing}
 use Rattle.ksm_book.proofs.Names.{find_passes, freed, get_or, GuestPage, handled, has, has_item, inl, InPageOrder, inr, is_best, is_for_zero, is_restless, IsSound, item_count, Knobs, List}
 use Rattle.ksm_book.proofs.Names.{list_all-from_AllPass, made_dup, may_join, Merged, merged_into, merged_state, nat_le, nat_lt, nat_tests, None, not, not_an_item, one_of_each_page, Option}
 use Rattle.ksm_book.proofs.Names.{page, paired, partner, refl, Row, row_at, row_visited, same_page, same_page_refl, same_page_sym, settled, Some, stayed, sym, takes_over, tree_of, true}
@@ -248,14 +248,14 @@ module _ (b : BookState) (sound : IsSound b) (row : Row) (found : row_at row.pag
 
 -- the visit of a page that is not due does nothing
 pub undue_rests : (b : BookState) (due : List GuestPage) → IsSound b → AreDue b due → (page : GuestPage) → has_item page due ≡ false
-    → Rests (due_visited doing) b page
+    → Rests due_visited b page
 undue_rests b due sound are page =
-    by_row (λ p. has_item p due ≡ false → Rests (due_visited doing) b p) page b.rows
+    by_row (λ p. has_item p due ≡ false → Rests due_visited b p) page b.rows
     (λ calm _ deed. calm_stays (b, deed) page calm) on_stays
   where
     -- the visit of a page that waits on changes nothing
     on_stays : (r : Row) → row_at r.page b.rows ≡ Some r → is_restless r ≡ true → has_item r.page due ≡ false
-        → Rests (due_visited doing) b r.page
+        → Rests due_visited b r.page
     on_stays r found restless out deed =
         let among = λ (P : Row → Type 0). find_all (λ x. same_page x.page r.page) P b.rows r found in
         let on : waits_on b r ≡ true =

@@ -1,6 +1,7 @@
 -- The visits of a pass are a fold over its pages, only restless pages count, and a quiet pass is repeated by those behind it.
-use Rattle.ksm_book.proofs.Names.{after_cursor, AllPairs-filter, and_right, ap, append-nil, AreAscending, arith, begun, BookState, cases_Bool, comes_before, Deed, doing, drop, drop_more, each_at_page, false, filter}
-use Rattle.ksm_book.proofs.Names.{filter_all, find_all, find_passes, get_or_from_slice_get, GuestPage, idle, inl, InPageOrder, inr, is_none, is_restless, IsBeside, IsStill, last_of, List, map}
+use Rattle.ksm_book.proofs.Names.{Stage, row_done}
+use Rattle.ksm_book.proofs.Names.{after_cursor, AllPairs-filter, and_right, ap, append-nil, AreAscending, arith, begun, BookState, cases_Bool, comes_before, Deed, drop, drop_more, each_at_page, false, filter}
+use Rattle.ksm_book.proofs.Names.{filter_all, find_all, find_passes, get_or_from_slice_get, GuestPage, idle, inl, InPageOrder, inr, is_none, is_restless, IsStill, last_of, List, map}
 use Rattle.ksm_book.proofs.Names.{map_mapped, mergeable_pages, next_row, next_visited, None, not-true, Option, option_map, page_visited, pages_ahead, pages_visited, pairs_mapped, pass_ended_at_last}
 use Rattle.ksm_book.proofs.Names.{refl, restless_at, restless_row, Row, row_at, row_visited, rowwise_visits, settled, slice_get, slice_get-get_or, slice_get_within, Some, subst, suc, sym, take, take-append-drop}
 use Rattle.ksm_book.proofs.Names.{then_doing, true, visit, visit_begun, visit_of, visits, visits_beside, zero, ℕ, [], ⊤, ◌++◌, ◌+◌, ◌∙◌, ◌∷◌, ◌≡◌}
@@ -58,7 +59,7 @@ settled_twice rows = grind (arith, map_mapped)
 pub every_page : (rows : List Row) → filter (after_cursor None) (mergeable_pages rows) ≡ mergeable_pages rows
 every_page rows = filter_all (after_cursor None) _ (λ k d lt. refl)
 
--- ---------------------------------------------------------------- visits with what they do beside
+-- ---------------------------------------------------------------- visits with what they do to the frames
 
 -- what is so of a page whose row no visit may change, and of that of each row that one may, is so of each page
 pub by_row : (P : GuestPage → Type 0) (page : GuestPage) (rows : List Row) → (restless_at page rows ≡ false → P page)
@@ -75,147 +76,139 @@ by_row P page rows calm some = by _ refl
     ]
 
 -- where nothing but which rows wait changed from a first book to a second and to a third, so it is from first to third
-pub still_on : {X : Type 0} (first second third : BookState × X) → IsStill first second → IsStill second third → IsStill first third
+pub still_on : (first second third : Stage) → IsStill first second → IsStill second third → IsStill first third
 still_on first second third f g = grind arith
-
-module _ {X : Type 0} (step : BookState → X → Row → X) where
-  -- n visits and then k come to the same as n + k visits
-  pub beside_on : (n k m : ℕ) (s : BookState × X) → m ≡ n + k → visits_beside step m s ≡ visits_beside step k (visits_beside step n s)
-  beside_on n zero m s sum = let same : m ≡ n = omega arith in rw same
-  beside_on n (suc k) m s sum =
-      (let more : m ≡ suc (n + k) = omega arith in rw more) ∙ ap (λ s. visits_beside step 1 s)
-      (beside_on n k (n + k) s refl)
-
-  -- the book after n visits with what they do beside is the book after n visits
-  pub beside_state : (n : ℕ) (s : BookState × X) → (visits_beside step n s).0 ≡ visits n s.0
-  beside_state zero s = refl
-  beside_state (suc n) s = by (begun (visits_beside step n s)) _ ∙ ap visit (beside_state n s)
-    where
-      by : (t : BookState × X) (o : Option Row) → (next_visited step t o).0 ≡ visit_of t.0 o
-      by t o = grind arith
-
-  -- visits keep which pages scans visit
-  pub visits_mergeable : (n : ℕ) (s : BookState × X) → mergeable_pages (visits_beside step n s).0.rows ≡ mergeable_pages s.0.rows
-  visits_mergeable n s = rw (beside_state n s) (grind (arith, (rowwise_visits n s.0).rows, mergeable_kept))
-
-  -- what the visit of a page keeps of the rows
-  page_goes : (s : BookState × X) (page : GuestPage) → InPageOrder s.0.rows → Goes s.0.rows (page_visited step s page).0.rows
-  page_goes s page rise = by_row (λ p. Goes s.0.rows (page_visited step s p).0.rows) page s.0.rows
-      (λ calm. grind (arith, goes_same {rows = s.0.rows}))
-      (λ r found restless. rw (found, restless) (visited_goes s.0 r rise found (grind (arith, not-true))))
-
-  -- visits of pages keep the rows in page order and which pages scans visit, and make no page restless
-  pub pages_go : (pages : List GuestPage) (s : BookState × X) → InPageOrder s.0.rows → Goes s.0.rows (pages_visited step s pages).0.rows
-  pages_go [] s rise = goes_same
-  pages_go (page ∷ pages) s rise =
-      let first = page_goes s page rise in grind
-      (arith, first, pages_go pages (page_visited step s page) (first.order rise))
-
-  module _ (beside : IsBeside step) where
-    -- the visit of the next row is that of its page
-    next_is_page : (s : BookState × X) (row : Row) → InPageOrder s.0.rows → next_row s.0.cursor s.0.rows ≡ Some row
-        → page_visited step s row.page ≡ (row_visited s.0 row, step s.0 s.1 row)
-    next_is_page s row rise next =
-        let there = find_all _ (λ r. row_at r.page s.0.rows ≡ Some r) _ row next (each_at_page _ rise) in
-        grind (arith, find_passes _ s.0.rows row next, beside.shared s.0 s.1 row)
-
-    -- visits of pages do the same wherever the cursor stands and however many passes have ended
-    module _ (cursor : Option GuestPage) (passes : ℕ) where
-      abbrev moved : BookState × X → BookState × X
-      moved s = (elsewhere cursor passes s.0, s.1)
-
-      page_alike : (s : BookState × X) (page : GuestPage) → page_visited step (moved s) page ≡ moved (page_visited step s page)
-      page_alike s page = grind arith
-
-      -- visits of pages from another cursor and count of passes come to the same, but for that cursor and count
-      pub pages_alike : (pages : List GuestPage) (s : BookState × X)
-          → pages_visited step (moved s) pages ≡ moved (pages_visited step s pages)
-      pages_alike [] s = refl
-      pages_alike (page ∷ pages) s = rw (page_alike s _) (pages_alike pages (page_visited step s page))
-
-    -- visits of pages leave the cursor and the count of passes
-    pub pages_stay : (pages : List GuestPage) (s : BookState × X)
-        → ((pages_visited step s pages).0.cursor ≡ s.0.cursor) × ((pages_visited step s pages).0.passes ≡ s.0.passes)
-    pages_stay pages s = grind (arith, pages_alike s.0.cursor s.0.passes pages s)
-
-    -- visits that begin from a state
-    module _ (s : BookState × X) (rise : InPageOrder s.0.rows) where
-      -- the pages ahead once a visit begins
-      abbrev pub ahead : List GuestPage
-      ahead = pages_ahead (visit_begun s.0)
-
-      -- after the visits of pages
-      abbrev pub after : List GuestPage → BookState × X
-      after pages = pages_visited step (begun s) pages
-
-      -- the pages ahead once a visit begins ascend
-      pub ascending : AreAscending ahead
-      ascending = grind (arith, ascending_ahead, begun_goes)
-
-      -- the first n pages ahead were visited, with the cursor at the last
-      abbrev pub stood : ℕ → BookState × X
-      stood n = (
-        record (after (take n ahead)).0 { cursor = last_of (visit_begun s.0).cursor (take n ahead) },
-        (after (take n ahead)).1,
-      )
-
-      -- the rows are in order then
-      order_then : (n : ℕ) → Goes (visit_begun s.0).rows (stood n).0.rows
-      order_then n = pages_go (take n ahead) (begun s) ((begun_goes s.0).order rise)
-
-      -- and the others are ahead
-      pub ahead_then : (n : ℕ) → pages_ahead (stood n).0 ≡ drop n ahead
-      ahead_then n =
-          let order = (begun_goes s.0).order rise in
-          ap (filter (after_cursor (stood n).0.cursor)) (order_then n).mergeable
-          ∙ behind_done (take n ahead) (drop n ahead) _ _ (ascending_mergeable _ order) (sym (take-append-drop n ahead))
-
-      -- one visit more is that of the next page
-      one_more : (n : ℕ) (page : GuestPage) → slice_get ahead n ≡ Some page → begun (visits_beside step n s) ≡ stood n
-          → visits_beside step (suc n) s ≡ (pass_ended_at_last (stood (suc n)).0, (stood (suc n)).1)
-      one_more n page at from =
-          let t = stood n in
-          let lt = slice_get_within ahead n page at in
-          let here = get_or_from_slice_get ahead n page page at in
-          let next = some_next t.0 (ahead_then n ∙ drop_more ahead n page lt ∙ ap (λ p. p ∷ drop (n + 1) ahead) here) in
-          let visit = subst (λ p. page_visited step t p ≡ (row_visited t.0 next.0, step t.0 t.1 next.0)) next.2
-          (next_is_page t next.0 ((order_then n).order ((begun_goes s.0).order rise)) next.1) in
-          let more = take-suc ahead n page lt ∙ ap (λ p. take n ahead ++ p ∷ []) here in
-          grind (
-            arith,
-            from,
-            visit,
-            more,
-            page_alike t.0.cursor t.0.passes (after (take n ahead)) page,
-            fold-append (page_visited step) (begun s) (take n ahead) (page ∷ []),
-            last_of_take ahead n (visit_begun s.0).cursor at,
-            pages_stay (take n ahead) (begun s),
-            pages_stay (take (suc n) ahead) (begun s),
-          )
-
-      -- the visit behind those of the first n pages ahead begins where these have led
-      pub begun_folded : (n : ℕ) (page : GuestPage) → slice_get ahead n ≡ Some page
-          → begun (visits_beside step n s) ≡ stood n
-      begun_folded zero page at = refl
-      begun_folded (suc n) page at =
-          let lt = slice_get_within ahead (suc n) page at in
-          let there = slice_get-get_or ahead n page (omega arith) in
-          let made = one_more n _ there (begun_folded n _ there) in
-          let cut = ahead_then (suc n) ∙ drop_more ahead (suc n) page lt in
-          let last = last_of_take ahead n (visit_begun s.0).cursor there in
-          grind (arith, made, last, pass_goes_on (stood (suc n)).0 _ _ cut)
-
-      -- as many visits as lead up to a page ahead are those of the pages up to it; the pass ends if it is the last
-      pub visits_folded : (n : ℕ) (page : GuestPage) → slice_get ahead n ≡ Some page
-          → visits_beside step (suc n) s ≡ (pass_ended_at_last (stood (suc n)).0, (stood (suc n)).1)
-      visits_folded n page at = one_more n page at (begun_folded n page at)
-
--- ---------------------------------------------------------------- what is done beside
 
 -- a deed and then no step is that deed alone
 pub then_idle : (deed : Deed) → then_doing deed (idle deed.frame) ≡ deed
 then_idle deed = grind (arith, append-nil deed.steps)
 
--- what visits do to the frames is nothing at a shared row, and the same wherever the cursor stands
-pub doing_beside : IsBeside doing
-doing_beside = record { shared = λ b deed row is. grind (arith, then_idle); alike = λ b deed row cursor passes. grind arith }
+-- n visits and then k come to the same as n + k visits
+pub beside_on : (n k m : ℕ) (s : Stage) → m ≡ n + k → visits_beside m s ≡ visits_beside k (visits_beside n s)
+beside_on n zero m s sum = let same : m ≡ n = omega arith in rw same
+beside_on n (suc k) m s sum =
+    (let more : m ≡ suc (n + k) = omega arith in rw more) ∙ ap (λ s. visits_beside 1 s)
+    (beside_on n k (n + k) s refl)
+
+-- the book after n visits with what they do to the frames is the book after n visits
+pub beside_state : (n : ℕ) (s : Stage) → (visits_beside n s).0 ≡ visits n s.0
+beside_state zero s = refl
+beside_state (suc n) s = by (begun (visits_beside n s)) _ ∙ ap visit (beside_state n s)
+  where
+    by : (t : Stage) (o : Option Row) → (next_visited t o).0 ≡ visit_of t.0 o
+    by t o = grind arith
+
+-- visits keep which pages scans visit
+pub visits_mergeable : (n : ℕ) (s : Stage) → mergeable_pages (visits_beside n s).0.rows ≡ mergeable_pages s.0.rows
+visits_mergeable n s = rw (beside_state n s) (grind (arith, (rowwise_visits n s.0).rows, mergeable_kept))
+
+-- what the visit of a page keeps of the rows
+page_goes : (s : Stage) (page : GuestPage) → InPageOrder s.0.rows → Goes s.0.rows (page_visited s page).0.rows
+page_goes s page rise = by_row (λ p. Goes s.0.rows (page_visited s p).0.rows) page s.0.rows
+    (λ calm. grind (arith, goes_same {rows = s.0.rows}))
+    (λ r found restless. rw (found, restless) (visited_goes s.0 r rise found (grind (arith, not-true))))
+
+-- visits of pages keep the rows in page order and which pages scans visit, and make no page restless
+pub pages_go : (pages : List GuestPage) (s : Stage) → InPageOrder s.0.rows → Goes s.0.rows (pages_visited s pages).0.rows
+pages_go [] s rise = goes_same
+pages_go (page ∷ pages) s rise =
+    let first = page_goes s page rise in grind
+    (arith, first, pages_go pages (page_visited s page) (first.order rise))
+
+-- the visit of the next row is that of its page
+next_is_page : (s : Stage) (row : Row) → InPageOrder s.0.rows → next_row s.0.cursor s.0.rows ≡ Some row
+    → page_visited s row.page ≡ row_done s row
+next_is_page s row rise next =
+    let there = find_all _ (λ r. row_at r.page s.0.rows ≡ Some r) _ row next (each_at_page _ rise) in
+    grind (arith, find_passes _ s.0.rows row next, then_idle s.1)
+
+-- visits of pages do the same wherever the cursor stands and however many passes have ended
+module _ (cursor : Option GuestPage) (passes : ℕ) where
+  abbrev moved : Stage → Stage
+  moved s = (elsewhere cursor passes s.0, s.1)
+
+  page_alike : (s : Stage) (page : GuestPage) → page_visited (moved s) page ≡ moved (page_visited s page)
+  page_alike s page = grind arith
+
+  -- visits of pages from another cursor and count of passes come to the same, but for that cursor and count
+  pub pages_alike : (pages : List GuestPage) (s : Stage)
+      → pages_visited (moved s) pages ≡ moved (pages_visited s pages)
+  pages_alike [] s = refl
+  pages_alike (page ∷ pages) s = rw (page_alike s _) (pages_alike pages (page_visited s page))
+
+-- visits of pages leave the cursor and the count of passes
+pub pages_stay : (pages : List GuestPage) (s : Stage)
+    → ((pages_visited s pages).0.cursor ≡ s.0.cursor) × ((pages_visited s pages).0.passes ≡ s.0.passes)
+pages_stay pages s = grind (arith, pages_alike s.0.cursor s.0.passes pages s)
+
+-- visits that begin from a state
+module _ (s : Stage) (rise : InPageOrder s.0.rows) where
+  -- the pages ahead once a visit begins
+  abbrev pub ahead : List GuestPage
+  ahead = pages_ahead (visit_begun s.0)
+
+  -- after the visits of pages
+  abbrev pub after : List GuestPage → Stage
+  after pages = pages_visited (begun s) pages
+
+  -- the pages ahead once a visit begins ascend
+  pub ascending : AreAscending ahead
+  ascending = grind (arith, ascending_ahead, begun_goes)
+
+  -- the first n pages ahead were visited, with the cursor at the last
+  abbrev pub stood : ℕ → Stage
+  stood n = (
+    record (after (take n ahead)).0 { cursor = last_of (visit_begun s.0).cursor (take n ahead) },
+    (after (take n ahead)).1,
+  )
+
+  -- the rows are in order then
+  order_then : (n : ℕ) → Goes (visit_begun s.0).rows (stood n).0.rows
+  order_then n = pages_go (take n ahead) (begun s) ((begun_goes s.0).order rise)
+
+  -- and the others are ahead
+  pub ahead_then : (n : ℕ) → pages_ahead (stood n).0 ≡ drop n ahead
+  ahead_then n =
+      let order = (begun_goes s.0).order rise in
+      ap (filter (after_cursor (stood n).0.cursor)) (order_then n).mergeable
+      ∙ behind_done (take n ahead) (drop n ahead) _ _ (ascending_mergeable _ order) (sym (take-append-drop n ahead))
+
+  -- one visit more is that of the next page
+  one_more : (n : ℕ) (page : GuestPage) → slice_get ahead n ≡ Some page → begun (visits_beside n s) ≡ stood n
+      → visits_beside (suc n) s ≡ (pass_ended_at_last (stood (suc n)).0, (stood (suc n)).1)
+  one_more n page at from =
+      let t = stood n in
+      let lt = slice_get_within ahead n page at in
+      let here = get_or_from_slice_get ahead n page page at in
+      let next = some_next t.0 (ahead_then n ∙ drop_more ahead n page lt ∙ ap (λ p. p ∷ drop (n + 1) ahead) here) in
+      let visit = subst (λ p. page_visited t p ≡ row_done t next.0) next.2
+      (next_is_page t next.0 ((order_then n).order ((begun_goes s.0).order rise)) next.1) in
+      let more = take-suc ahead n page lt ∙ ap (λ p. take n ahead ++ p ∷ []) here in
+      grind (
+        arith,
+        from,
+        visit,
+        more,
+        page_alike t.0.cursor t.0.passes (after (take n ahead)) page,
+        fold-append page_visited (begun s) (take n ahead) (page ∷ []),
+        last_of_take ahead n (visit_begun s.0).cursor at,
+        pages_stay (take n ahead) (begun s),
+        pages_stay (take (suc n) ahead) (begun s),
+      )
+
+  -- the visit behind those of the first n pages ahead begins where these have led
+  pub begun_folded : (n : ℕ) (page : GuestPage) → slice_get ahead n ≡ Some page
+      → begun (visits_beside n s) ≡ stood n
+  begun_folded zero page at = refl
+  begun_folded (suc n) page at =
+      let lt = slice_get_within ahead (suc n) page at in
+      let there = slice_get-get_or ahead n page (omega arith) in
+      let made = one_more n _ there (begun_folded n _ there) in
+      let cut = ahead_then (suc n) ∙ drop_more ahead (suc n) page lt in
+      let last = last_of_take ahead n (visit_begun s.0).cursor there in
+      grind (arith, made, last, pass_goes_on (stood (suc n)).0 _ _ cut)
+
+  -- as many visits as lead up to a page ahead are those of the pages up to it; the pass ends if it is the last
+  pub visits_folded : (n : ℕ) (page : GuestPage) → slice_get ahead n ≡ Some page
+      → visits_beside (suc n) s ≡ (pass_ended_at_last (stood (suc n)).0, (stood (suc n)).1)
+  visits_folded n page at = one_more n page at (begun_folded n page at)

@@ -1,5 +1,5 @@
 -- The visit of a page: what was found of its row, and what becomes of the book where the row alone changes.
-use Rattle.ksm_book.proofs.Names.{All, arith, BookState, BookValue, BookView, change_row, Comes, doing, false, Find, FindsAt, Frames, GuestPage, HasStayed, idle, is_restless}
+use Rattle.ksm_book.proofs.Names.{All, arith, BookState, BookValue, BookView, change_row, Comes, false, Find, FindsAt, Frames, GuestPage, HasStayed, idle, is_restless}
 use Rattle.ksm_book.proofs.Names.{IsLaid, IsSound, KeeperView, List, map, map_mapped, None, Option, page_visited, PagesView, partner, refl, Row, row_visited, row_visiting, same_page}
 use Rattle.ksm_book.proofs.Names.{settled, shared_state, state_of, sym, true, view_of, VisitsPage, Waiting, ℕ, ◌≡◌}
 use Rattle.ksm_pages.specs.declared.pages.Find.TheVariants as finds
@@ -28,7 +28,7 @@ finds_it f some lawful same q page is told = grind arith
 pub shared_comes : {P : BookState → Row → Type 0} {p : PagesView} {k : KeeperView} {cursor : Option GuestPage} {passes : ℕ}
     (v w : BookValue)
     {page : GuestPage} (at : Meets P p k cursor passes (view_of v) page) → is_restless at.row ≡ true → (q : PagesView) → q ≡ p
-    → VisitsPage (book q k cursor passes) (view_of w) page → Comes v w (λ s. page_visited doing s page)
+    → VisitsPage (book q k cursor passes) (view_of w) page → Comes v w (λ s. page_visited s page)
 shared_comes v w at restless q same did = grind (arith, restless, made_then)
 
 waiting_settles : (page : GuestPage) (rows : List Row) → All (λ r. same_page r.page page ≡ true → shared_state r.state ≡ false) rows
@@ -84,7 +84,7 @@ module _ {p q : PagesView} {k : KeeperView} {cursor : Option GuestPage} {passes 
 
 -- the visit of a page that is to wait changes nothing but which rows wait
 pub waits_quiet : {p q : PagesView} {k : KeeperView} {cursor : Option GuestPage} {passes : ℕ} (now : BookValue) {page : GuestPage}
-    → Meets (λ _ r. FindsAt p q r finds.Waits) p k cursor passes (view_of now) page → StaysStill now (λ s. page_visited doing s page)
+    → Meets (λ _ r. FindsAt p q r finds.Waits) p k cursor passes (view_of now) page → StaysStill now (λ s. page_visited s page)
 waits_quiet {p} {cursor = cursor} {passes} now at from s before =
     let settles = waiting_settles at.row.page p.rows
     (λ i d lt same. rw (row_of_page _ _ _ at.sound.rows_rise (there_is at) i d lt same) (restless_own at.row at.so.0)) in

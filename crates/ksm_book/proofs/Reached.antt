@@ -1,9 +1,10 @@
 -- What was reached of a scan: it begins with no step, and tells the state of the book.
+use Rattle.ksm_book.proofs.Names.{Stage}
 use Rattle.ksm_book.proofs.Names.{ap, BookState, BookValue, BookView, Comes, Deed, idle, mapped, Performs, Reached, refl, subst, sym, view_of, ◌∙◌, ◌≡◌}
 use Rattle.ksm_book.proofs.Made.{made_none}
 
 -- the state of a book, and a deed without a step
-abbrev pub first : BookValue → BookState × Deed
+abbrev pub first : BookValue → Stage
 first v = (v.state, idle (view_of v).frame)
 
 -- a book has reached its own state with no step made
@@ -11,11 +12,11 @@ pub begins : (v : BookValue) → Reached v v (first v)
 begins v = (refl, record { made = made_none refl; frame = refl })
 
 -- where a change was reached from one book to another, the other's state is what the change makes of the first one's
-pub comes_to : (v w : BookValue) (change : BookState × Deed → BookState × Deed) → Comes v w change → w.state ≡ (change (first v)).0
+pub comes_to : (v w : BookValue) (change : Stage → Stage) → Comes v w change → w.state ≡ (change (first v)).0
 comes_to v w change comes = (comes v (first v) (begins v)).0
 
 -- and the keeper is of the same table
-pub comes_own : (v w : BookValue) (change : BookState × Deed → BookState × Deed) → Comes v w change → w.keeper.table ≡ v.keeper.table
+pub comes_own : (v w : BookValue) (change : Stage → Stage) → Comes v w change → w.keeper.table ≡ v.keeper.table
 comes_own v w change comes = ap (λ k. k.table) (comes v (first v) (begins v)).1.made.after
 
 -- where the state alone changed, that change was reached
@@ -27,11 +28,11 @@ changed_comes v w f same from s before = (
 )
 
 -- two changes come to the same of whatever was reached with a book
-pub record Agree (v : BookValue) (f g : BookState × Deed → BookState × Deed) : Type 0 where
-  pub same : (from : BookValue) (s : BookState × Deed) → Reached from v s → f s ≡ g s
+pub record Agree (v : BookValue) (f g : Stage → Stage) : Type 0 where
+  pub same : (from : BookValue) (s : Stage) → Reached from v s → f s ≡ g s
 
 -- so they do where they come to the same of the book's state, with whatever deed was reached
-pub agrees : (v : BookValue) {f g : BookState × Deed → BookState × Deed}
+pub agrees : (v : BookValue) {f g : Stage → Stage}
     → ((from : BookValue) (deed : Deed) → Reached from v (v.state, deed) → f (v.state, deed) ≡ g (v.state, deed)) → Agree v f g
 agrees v {f} {g} each = record {
   same = λ from s before.
@@ -39,5 +40,5 @@ agrees v {f} {g} each = record {
 }
 
 -- what comes of the one comes of the other then
-pub comes_as : {v : BookValue} (w : BookValue) {f g : BookState × Deed → BookState × Deed} → Agree v f g → Comes v w f → Comes v w g
+pub comes_as : {v : BookValue} (w : BookValue) {f g : Stage → Stage} → Agree v f g → Comes v w f → Comes v w g
 comes_as w agree comes from s before = subst (Reached from w) (agree.same from s before) (comes from s before)

@@ -1,5 +1,5 @@
 -- A page waits in the stead of one further on: what becomes of the book, and which pages are due then.
-use Rattle.ksm_book.proofs.Names.{All, ap, AreDue, arith, before_differs, BookState, BookValue, change_row, change_rows, Comes, comes_before, Deed, doing, due_visited, each_at_page}
+use Rattle.ksm_book.proofs.Names.{All, ap, AreDue, arith, before_differs, BookState, BookValue, change_row, change_rows, Comes, comes_before, Deed, due_visited, each_at_page}
 use Rattle.ksm_book.proofs.Names.{find_all, find_passes, freed, GuestPage, has_item, hidden_from, IsAlone, IsSound, List, map_alike, not, not_both, page_visited, row_at, row_visited}
 use Rattle.ksm_book.proofs.Names.{same_page, same_page_eq, same_page_refl, same_page_sym, settled, Some, StaysBefore, sym, TakesOver, true, view_of, visits, waits_for, waits_tells, WaitsFor}
 use Rattle.ksm_book.proofs.Names.{with_rows, ◌&&◌, ◌||◌, ◌∙◌, ◌∷◌, ◌≡◌}
@@ -44,7 +44,7 @@ module _ {b : BookState} {page other : GuestPage} (sound : IsSound b) (at : Take
 
   -- the visit of the page, as one that is due, is that of the definitions once the other one waits no more
   due_is : (deed : Deed)
-      → due_visited doing (b, deed) page ≡ page_visited doing (record b { rows = change_row other settled b.rows }, deed) page
+      → due_visited (b, deed) page ≡ page_visited (record b { rows = change_row other settled b.rows }, deed) page
   due_is deed = grind (arith, page_is, freed_rows, freed_found)
 
 -- the other row waits no more
@@ -54,7 +54,7 @@ module _ (v m w : BookValue) {page other : GuestPage} (sound : IsSound v.state) 
   frees = changed_comes v m (λ b. record b { rows = change_row other settled b.rows }) freeing
 
   -- where the page was visited then, that is the visit of what is due
-  pub taken_comes : Comes m w (λ s. page_visited doing s page) → Comes v w (λ s. due_visited doing s page)
+  pub taken_comes : Comes m w (λ s. page_visited s page) → Comes v w (λ s. due_visited s page)
   taken_comes visits = comes_as w (agrees v (λ _ deed _. sym (due_is sound at deed))) (λ from s before. visits from _ (frees from s before))
 
   -- where that visit was refused, nothing changed but which rows from the page on wait
@@ -70,7 +70,7 @@ module _ (v m w : BookValue) {page other : GuestPage} (sound : IsSound v.state) 
       (added : (p : GuestPage) → has_item p more ≡ (same_page other p || has_item p old))
       (gone : (p : GuestPage) → has_item p new ≡ (has_item p more && not (same_page page p))) where
     -- the other page is due then, and the first one no longer
-    pub taken_leaves : Comes m w (λ s. page_visited doing s page) → AreDue v.state old → AreDue w.state new
+    pub taken_leaves : Comes m w (λ s. page_visited s page) → AreDue v.state old → AreDue w.state new
     taken_leaves visits due =
         let state : w.state ≡ row_visited (freed v.state at.row) at.row =
         grind (arith, comes_to v w _ (taken_comes visits), page_is sound at) in

@@ -1,9 +1,10 @@
 -- A walk from one page that is visited to the next comes to the visits of all pages ahead, where visits of those passed over do nothing.
+use Rattle.ksm_book.proofs.Names.{Stage}
 use Rattle.std.proofs.lemmas.List.Sums.{fold-append}
 use Rattle.std.proofs.Math.Seq.{take-suc}
 use Rattle.std.specs.Prelude.{fold}
 use Rattle.ksm_book.proofs.Names.{after_cursor, All, All-cons, All-filter, All-head, All-tail, ap, AreAscending, AreDue, arith, BookState, BookValue, Bool, cases_Bool, Comes, comes_before, Deed}
-use Rattle.ksm_book.proofs.Names.{doing, each_at_page, false, filter, filter_none, filter_passes, find_all, get_or, get_or_from_slice_get, GuestPage, has_item, if◌then◌else◌, inl, InPageOrder, inr}
+use Rattle.ksm_book.proofs.Names.{each_at_page, false, filter, filter_none, filter_passes, find_all, get_or, get_or_from_slice_get, GuestPage, has_item, if◌then◌else◌, inl, InPageOrder, inr}
 use Rattle.ksm_book.proofs.Names.{is_restless, IsDueNoMore, IsSound, IsStill, List, mergeable_pages, nat_lt, None, not, one_before, Option, page_visited, pages_ahead, pairs_head, pairs_tail, Reached}
 use Rattle.ksm_book.proofs.Names.{refl, restless_at, Row, same_page, same_page_eq, slice_get_within, Some, sound_row_visited, subst, suc, sym, take, true, true≢false, up_to, ℕ}
 use Rattle.ksm_book.proofs.Names.{[], ◌*◌, ◌++◌, ◌+◌, ◌-◌, ◌<◌, ◌^◌, ◌∙◌, ◌∷◌, ◌≡◌}
@@ -18,7 +19,7 @@ use Rattle.ksm_book.proofs.Scanned.{restless_mergeable}
 
 -- the visit of a page, with what it does beside
 abbrev pub Visit : Type 0
-Visit = BookState × Deed → GuestPage → BookState × Deed
+Visit = Stage → GuestPage → Stage
 
 -- the visit of a page does nothing to a book
 abbrev pub Rests : Visit → BookState → GuestPage → Type 0
@@ -32,14 +33,14 @@ pub record IsVisit (visit : Visit) : Type 0 where
   pub calm : (b : BookState) (page : GuestPage) → restless_at page b.rows ≡ false → Rests visit b page
 
 -- the pages ahead that are not behind a cursor were visited
-abbrev pub walked_to : Visit → Option GuestPage → BookState × Deed → BookState × Deed
+abbrev pub walked_to : Visit → Option GuestPage → Stage → Stage
 walked_to visit reached s = fold visit s (filter (λ p. not (after_cursor reached p)) (pages_ahead s.0))
 
 -- ---------------------------------------------------------------- visits of some pages
 
 module _ (visit : Visit) where
   -- visits that do nothing
-  pub resting : (pages : List GuestPage) (s : BookState × Deed) → All (Rests visit s.0) pages → fold visit s pages ≡ s
+  pub resting : (pages : List GuestPage) (s : Stage) → All (Rests visit s.0) pages → fold visit s pages ≡ s
   resting [] s rest = refl
   resting (page ∷ pages) s rest =
       ap (λ z. fold visit z pages) (All-head (Rests visit s.0) page pages rest s.1)
@@ -50,7 +51,7 @@ module _ (visit : Visit) where
     passed p = not (after_cursor reached p)
 
     -- visits of more pages come to the same, where those of pages behind the cursor do nothing then
-    more : (t : GuestPage → Bool) (pages : List GuestPage) (s c : BookState × Deed) → fold visit s (filter passed pages) ≡ c
+    more : (t : GuestPage → Bool) (pages : List GuestPage) (s c : Stage) → fold visit s (filter passed pages) ≡ c
         → AreAscending pages → All (λ q. passed q ≡ true → t q ≡ true) pages
         → ((q : GuestPage) → after_cursor reached q ≡ true → t q ≡ true → Rests visit c.0 q) → fold visit s (filter t pages) ≡ c
     more t [] s c came rise near rest = came
@@ -70,8 +71,8 @@ module _ (visit : Visit) where
     ]
 
     -- of pages in order those were visited that are not behind the cursor
-    module _ (s : BookState × Deed) (pages : List GuestPage) (rise : AreAscending pages) where
-      abbrev came : BookState × Deed
+    module _ (s : Stage) (pages : List GuestPage) (rise : AreAscending pages) where
+      abbrev came : Stage
       came = fold visit s (filter passed pages)
 
       -- visits of pages between the cursor and one behind it do nothing
@@ -120,7 +121,7 @@ pub record IsWalking (visit : Visit) (last : Option GuestPage) (old now : BookVa
       → up_to last p ≡ true
 
 -- up to the book's cursor no page ahead was visited
-none_walked : (visit : Visit) (s : BookState × Deed) → walked_to visit s.0.cursor s ≡ s
+none_walked : (visit : Visit) (s : Stage) → walked_to visit s.0.cursor s ≡ s
 none_walked visit s =
     let pages = mergeable_pages s.0.rows in
     ap (fold visit s) (filter_none (λ p. not (after_cursor s.0.cursor p)) (filter (after_cursor s.0.cursor) pages)
@@ -201,11 +202,11 @@ module _ {visit : Visit} (is : IsVisit visit) {last : Option GuestPage} {old mid
 -- ---------------------------------------------------------------- visits of the definitions
 
 -- the visit of a page by the definitions is one that a walk may make
-pub visits_page : IsVisit (page_visited doing)
+pub visits_page : IsVisit page_visited
 visits_page = record {
-  sound = λ b deed page sound. by_row (λ p. IsSound (page_visited doing (b, deed) p).0) page b.rows (grind arith)
+  sound = λ b deed page sound. by_row (λ p. IsSound (page_visited (b, deed) p).0) page b.rows (grind arith)
       (λ r found restless. rw (found, restless) (sound_row_visited b r (grind (arith, row_of_page)) sound));
-  mergeable = λ b deed page sound. (pages_go doing (page ∷ []) (b, deed) sound.rows_rise).mergeable;
+  mergeable = λ b deed page sound. (pages_go (page ∷ []) (b, deed) sound.rows_rise).mergeable;
   calm = λ b page calm deed. grind arith;
 }
 
@@ -220,7 +221,7 @@ all_restless P rows each page is =
 -- where no row behind a cursor that a visit may change is of a page that passes a test, visits of such pages do nothing
 pub rests_where : (b : BookState) (reached : Option GuestPage) (test : GuestPage → Bool)
     → All (λ r. is_restless r ≡ true → after_cursor reached r.page ≡ true → test r.page ≡ false) b.rows → (q : GuestPage)
-    → after_cursor reached q ≡ true → test q ≡ true → Rests (page_visited doing) b q
+    → after_cursor reached q ≡ true → test q ≡ true → Rests page_visited b q
 rests_where b reached test none q after inside = visits_page.calm b q
     (grind (arith, all_restless (λ p. after_cursor reached p ≡ true → test p ≡ false) b.rows none q))
 

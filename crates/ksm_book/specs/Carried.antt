@@ -16,7 +16,6 @@ use Rattle.ksm_base.specs.State.{BookState}
 use Rattle.frame_table.specs.Named.{KeeperView}
 use Rattle.ksm_book.specs.Commands.{Mapped, IsIdle, TurnsAway, Admits, Resettles, ResettlesEach, Moves, FindsHeld, Performs, Deed, idle, rewriting, emptying, pruning}
 use Rattle.ksm_book.specs.Folded.{visits_beside}
-use Rattle.ksm_book.specs.Scanned.{doing}
 use Rattle.ksm_book.specs.Steps.{AllocatesOn}
 use Rattle.ksm_pages.specs.Paged.{Frames, Lodging, frame_of}
 use Rattle.ksm_book.specs.Whole.{BookView, mapped, nodes_got, HasShown}
@@ -34,7 +33,7 @@ MovesTo v w node row = MatchBool (row.home == node) (IsIdle v w) (Resettles v w 
 
 -- what n visits do to the frames, one after another
 abbrev pub scanning : ℕ → BookState → Frames → Deed
-scanning n b frame = (visits_beside doing n (b, idle frame)).1
+scanning n b frame = (visits_beside n (b, idle frame)).1
 
 -- these rows are resettled, one after another; where there was a stop, no frame was found for the next
 abbrev pub UnmergesTo : List Row → Option Fault → Mapped → Mapped → Type 0

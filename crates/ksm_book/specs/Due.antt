@@ -8,7 +8,7 @@ use Rattle.ksm_base.specs.Visit.{after_cursor, best_dup, is_for_zero, partner, w
 use Rattle.ksm_rmap.specs.Items.{has_item}
 use Rattle.ksm_pages.specs.Paged.{is_restless}
 use Rattle.ksm_pages.specs.declared.row.Spot.{Spot}
-use Rattle.ksm_book.specs.Folded.{visited}
+use Rattle.ksm_book.specs.Folded.{Stage, visited}
 
 -- the pages that are due; whether all of them are known; and whether they are, and stand in order
 pub record DueView : Type 0 where
@@ -52,20 +52,19 @@ takes_over b row =
 abbrev pub freed : BookState → Row → BookState
 freed b row = record b { rows = change_rows (waits_for b.knobs row) settled b.rows }
 
--- the book, and what was done beside, after the visit of a row where rows further on still wait: none
--- waits any more for a row that takes over
-abbrev pub due_row_visited : {X : Type 0} → (BookState → X → Row → X) → BookState × X → Option Row → BookState × X
-due_row_visited step s None = s
-due_row_visited step s (Some row) =
-    visited step (if takes_over s.0 row then (freed s.0 row, s.1) else s) (Some row)
+-- after the visit of a row where rows further on still wait: none waits any more for a row that takes over
+abbrev pub due_row_visited : Stage → Option Row → Stage
+due_row_visited s None = s
+due_row_visited s (Some row) =
+    visited (if takes_over s.0 row then (freed s.0 row, s.1) else s) (Some row)
 
 -- the same for the row of a page
-abbrev pub due_visited : {X : Type 0} → (BookState → X → Row → X) → BookState × X → GuestPage → BookState × X
-due_visited step s page = due_row_visited step s (row_at page s.0.rows)
+abbrev pub due_visited : Stage → GuestPage → Stage
+due_visited s page = due_row_visited s (row_at page s.0.rows)
 
 -- the same for the rows of some pages, one after another
-abbrev pub due_visits : {X : Type 0} → (BookState → X → Row → X) → BookState × X → List GuestPage → BookState × X
-due_visits step s pages = fold (due_visited step) s pages
+abbrev pub due_visits : Stage → List GuestPage → Stage
+due_visits s pages = fold due_visited s pages
 
 -- where the page was due, it is so no longer, and every other page is due as it was
 abbrev pub IsDueNoMore : GuestPage → BookState → BookState → Type 0

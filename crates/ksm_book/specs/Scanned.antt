@@ -8,30 +8,26 @@ use Rattle.ksm_tree.specs.declared.dup.Best.{Best}
 use Rattle.ksm_pages.specs.Paged.{is_restless}
 use Rattle.ksm_base.specs.State.{BookState}
 use Rattle.ksm_rmap.specs.Items.{has_item}
-use Rattle.ksm_book.specs.Commands.{Deed, Performs, row_visiting, then_doing}
+use Rattle.ksm_book.specs.Commands.{Performs, row_visiting}
 use Rattle.ksm_book.specs.Whole.{BookValue, BookView, mapped, view_of}
-use Rattle.ksm_book.specs.Folded.{IsStill, begun, pages_ahead, pages_visited, visits_beside}
+use Rattle.ksm_book.specs.Folded.{IsStill, Stage, begun, pages_ahead, pages_visited, visits_beside}
 use Rattle.ksm_pages.specs.Ahead.{FindsNext, mergeable_pages, pages_between}
 use Rattle.ksm_pages.specs.declared.ahead.Ahead.{Ahead}
 use Rattle.ksm_pages.specs.declared.ahead.Ahead.TheVariants.{At, End}
 use Rattle.ksm_book.specs.declared.visiting.Visited.{Visited}
 use Rattle.ksm_book.specs.declared.visiting.Visited.TheVariants.{Same, Changed, Shared, Gone}
 
--- after a deed comes what the visit of a row does
-abbrev pub doing : BookState → Deed → Row → Deed
-doing b deed row = then_doing deed (row_visiting b deed.frame row)
-
 -- from the one to the other it came to this book, and this was done to the frames
-abbrev pub Reached : BookValue → BookValue → BookState × Deed → Type 0
+abbrev pub Reached : BookValue → BookValue → Stage → Type 0
 Reached old new s = (new.state ≡ s.0) × Performs (mapped (view_of old)) (mapped (view_of new)) s.1
 
 -- whatever was reached before, this is reached then
-abbrev pub Comes : BookValue → BookValue → (BookState × Deed → BookState × Deed) → Type 0
-Comes old new change = (from : BookValue) (s : BookState × Deed) → Reached from old s → Reached from new (change s)
+abbrev pub Comes : BookValue → BookValue → (Stage → Stage) → Type 0
+Comes old new change = (from : BookValue) (s : Stage) → Reached from old s → Reached from new (change s)
 
 -- whatever was reached before, this changes nothing but which rows wait
-abbrev pub StaysStill : BookValue → (BookState × Deed → BookState × Deed) → Type 0
-StaysStill old change = (from : BookValue) (s : BookState × Deed) → Reached from old s → IsStill s (change s)
+abbrev pub StaysStill : BookValue → (Stage → Stage) → Type 0
+StaysStill old change = (from : BookValue) (s : Stage) → Reached from old s → IsStill s (change s)
 
 -- a row that a visit may change has this for the best dup that it may join
 abbrev pub MayJoin : BookState → Best → Row → Type 0
@@ -56,7 +52,7 @@ abbrev pub MeetsPage : BookState → GuestPage → Row → Type 0
 MeetsPage b page r = HasStayed b false r × MatchOption (partner b.knobs b.rows r) (true ≡ false) (λ w. page ≡ w.page)
 
 -- these visits were made
-pub record HasVisited (old new : BookValue) (visits : BookState × Deed → BookState × Deed) (quiet : Bool) : Type 0 where
+pub record HasVisited (old new : BookValue) (visits : Stage → Stage) (quiet : Bool) : Type 0 where
   -- whatever was reached before, what they make of it is reached then
   pub comes : Comes old new visits
   -- where they are told to be quiet they change nothing but which rows wait
@@ -110,7 +106,7 @@ is_quiet Gone = true
 
 -- the visits of the pages ahead up to the last one, or of all of them, stopped before a page
 pub record Stops (old new : BookValue) (last : Option GuestPage) (page : GuestPage)
-    (visits : BookState × Deed → BookState × Deed) : Type 0 where
+    (visits : Stage → Stage) : Type 0 where
   -- it is one of them
   pub within : up_to last page ≡ true
   pub ahead : has_item page (pages_ahead old.state) ≡ true
@@ -118,7 +114,7 @@ pub record Stops (old new : BookValue) (last : Option GuestPage) (page : GuestPa
   pub comes : Comes old new visits
 
 abbrev pub StopsBefore : BookValue → BookValue → Option GuestPage → GuestPage → Type 0
-StopsBefore old new last page = Stops old new last page (λ s. pages_visited doing s (ahead_before page s.0))
+StopsBefore old new last page = Stops old new last page (λ s. pages_visited s (ahead_before page s.0))
 
 -- so many visits were made
 pub record GoesOn (old new : BookValue) (most made : ℕ) : Type 0 where
@@ -126,11 +122,11 @@ pub record GoesOn (old new : BookValue) (most made : ℕ) : Type 0 where
   pub some : 1 ≤ made
   pub fit : made ≤ most
   -- they did what the definitions say
-  pub comes : Comes old new (visits_beside doing made)
+  pub comes : Comes old new (visits_beside made)
 
 -- memory stopped the visits once so many were made
 pub record StopsShort (old new : BookValue) (most made : ℕ) : Type 0 where
   -- fewer than were wanted
   pub fewer : made < most
   -- and one more had begun
-  pub comes : Comes old new (λ s. begun (visits_beside doing made s))
+  pub comes : Comes old new (λ s. begun (visits_beside made s))

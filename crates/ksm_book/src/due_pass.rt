@@ -12,7 +12,7 @@ ghost use Rattle.ksm_pages.specs.Paged.{IsAlone};
 ghost use Rattle.ksm_book.specs.Due.{AreDue, due_visited, hidden_from};
 ghost use Rattle.ksm_book.specs.DuePass.{StaysBefore, StopsInPart, TakesOver, part_visited, with_rows};
 ghost use Rattle.ksm_book.specs.Folded.{restless_at};
-ghost use Rattle.ksm_book.specs.Scanned.{Comes, HasVisited, doing};
+ghost use Rattle.ksm_book.specs.Scanned.{Comes, HasVisited};
 ghost use Rattle.ksm_book.specs.Whole.{view_of};
 
 use crate::due::Due;
@@ -57,7 +57,7 @@ impl State {
         requires is_due { has_item spot.page due.old.pages ≡ true }
         requires due { AreDue self.old.state due.old.pages }
         ensures ready { due.new.ready ≡ true }
-        ensures comes { OnOk result (Comes self.old self.new (λ s. due_visited doing s spot.page)) }
+        ensures comes { OnOk result (Comes self.old self.new (λ s. due_visited s spot.page)) }
         ensures due { OnOk result (AreDue self.new.state due.new.pages) }
         ensures refused { OnErr result (StaysBefore spot.page self.old self.new) }
         ensures refused_row { OnErr result (restless_at spot.page self.old.state.rows ≡ true) }
@@ -95,7 +95,7 @@ impl State {
         requires due { AreDue self.old.state due.old.pages }
         requires takes { TakesOver self.old.state spot.page other }
         ensures ready { due.new.ready ≡ true }
-        ensures comes { OnOk result (Comes self.old self.new (λ s. due_visited doing s spot.page)) }
+        ensures comes { OnOk result (Comes self.old self.new (λ s. due_visited s spot.page)) }
         ensures due { OnOk result (AreDue self.new.state due.new.pages) }
         ensures refused { OnErr result (StaysBefore spot.page self.old self.new) }
     {

@@ -12,7 +12,7 @@ ghost use Rattle.ksm_book.specs.Due.{AreDue};
 ghost use Rattle.ksm_book.specs.DuePass.{StopsInPart, part_visited};
 ghost use Rattle.ksm_book.specs.Folded.{pages_ahead, pages_visited};
 ghost use Rattle.ksm_book.specs.Scanned.{Comes, FindsUpTo, GoesOn, HasVisited, StopsBefore, StopsShort};
-ghost use Rattle.ksm_book.specs.Scanned.{ahead_up_to, doing, is_nowhere, is_quiet, last_visited};
+ghost use Rattle.ksm_book.specs.Scanned.{ahead_up_to, is_nowhere, is_quiet, last_visited};
 ghost use Rattle.ksm_book.specs.Scanned.{passes_ended};
 ghost use Rattle.ksm_book.specs.Whole.{view_of};
 
@@ -122,7 +122,7 @@ impl State {
     ) -> Result<bool, GuestPage>
         requires own { self.old.keeper.table ≡ table.now }
         ensures visited { IfOk result (λ quiet. HasVisited self.old self.new
-            (λ s. pages_visited doing s (ahead_up_to last s.0)) quiet) }
+            (λ s. pages_visited s (ahead_up_to last s.0)) quiet) }
         ensures due { IfOk result (λ quiet. quiet ≡ true → self.old.state.cursor ≡ None → last ≡ None
             → AreDue self.new.state []) }
         ensures stopped { IfErr result (λ page. StopsBefore self.old self.new last page) }

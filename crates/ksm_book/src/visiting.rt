@@ -3,7 +3,7 @@
 ghost use Rattle.std.specs.Prelude.{◌≡◌, true, OnOk, OnErr, IfOk};
 ghost use Rattle.ksm_book.specs.Due.{IsDueNoMore};
 ghost use Rattle.ksm_book.specs.Folded.{page_visited, restless_at};
-ghost use Rattle.ksm_book.specs.Scanned.{Comes, IsForZero, MayJoin, MeetsPage, StaysStill, VisitsPage, doing};
+ghost use Rattle.ksm_book.specs.Scanned.{Comes, IsForZero, MayJoin, MeetsPage, StaysStill, VisitsPage};
 ghost use Rattle.ksm_book.specs.Scanned.{is_quiet};
 ghost use Rattle.ksm_book.specs.Whole.{view_of};
 ghost use Rattle.ksm_pages.specs.Paged.{HasRow};
@@ -37,9 +37,9 @@ impl State {
     pub fn visit(&mut self, table: &FrameTable, spot: Spot) -> Result<Visited, Fault>
         requires own { self.old.keeper.table ≡ table.now }
         ensures own { self.new.keeper.table ≡ self.old.keeper.table }
-        ensures comes { OnOk result (Comes self.old self.new (λ s. page_visited doing s spot.page)) }
+        ensures comes { OnOk result (Comes self.old self.new (λ s. page_visited s spot.page)) }
         ensures quiet { IfOk result (λ visited. is_quiet visited ≡ true
-            → StaysStill self.old (λ s. page_visited doing s spot.page)) }
+            → StaysStill self.old (λ s. page_visited s spot.page)) }
         ensures due { IfOk result (λ visited. is_quiet visited ≡ true
             → IsDueNoMore spot.page self.old.state self.new.state) }
         ensures refused { OnErr result (Comes self.old self.new (λ s. s)) }
@@ -57,9 +57,9 @@ impl State {
     fn visit_any(&mut self, table: &FrameTable, spot: Spot) -> Result<Visited, Fault>
         requires own { self.old.keeper.table ≡ table.now }
         ensures own { self.new.keeper.table ≡ self.old.keeper.table }
-        ensures comes { OnOk result (Comes self.old self.new (λ s. page_visited doing s spot.page)) }
+        ensures comes { OnOk result (Comes self.old self.new (λ s. page_visited s spot.page)) }
         ensures quiet { IfOk result (λ visited. is_quiet visited ≡ true
-            → StaysStill self.old (λ s. page_visited doing s spot.page)) }
+            → StaysStill self.old (λ s. page_visited s spot.page)) }
         ensures due { IfOk result (λ visited. is_quiet visited ≡ true
             → IsDueNoMore spot.page self.old.state self.new.state) }
         ensures refused { OnErr result (Comes self.old self.new (λ s. s)) }

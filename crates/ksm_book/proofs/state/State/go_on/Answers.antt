@@ -1,4 +1,5 @@
-use Rattle.ksm_book.proofs.Names.{ap, arith, begun, BookState, BookValue, Comes, Deed, doing, has_item, InPageOrder, last_of, last_visited, length, None, pages_ahead, part_before}
+use Rattle.ksm_book.proofs.Names.{Stage}
+use Rattle.ksm_book.proofs.Names.{ap, arith, begun, BookState, BookValue, Comes, Deed, has_item, InPageOrder, last_of, last_visited, length, None, pages_ahead, part_before}
 use Rattle.ksm_book.proofs.Names.{part_visited, pass_ended_at_last, Some, sym, true, visit_begun, visits_beside, ◌*◌, ◌<◌, ◌∙◌, ◌≡◌, ◌≤◌}
 use Rattle.ksm_book.specs.Scanned.{ahead_before, passes_ended}
 use Rattle.ksm_book.proofs.Scanned.{begun_ahead, begun_still, page_made, passes_made, some_ahead, stopped_fewer, stopped_made}
@@ -8,7 +9,7 @@ use Rattle.ksm_book.proofs.state.State.go_on.Goals as goal
 use Rattle.ksm_book.proofs.state.State.go_on.Goals.{else-whole, In-End, then-whole+then-quiet}
 
 -- the pass ends, if it had gone through all pages
-abbrev closed : BookState × Deed → BookState × Deed
+abbrev closed : Stage → Stage
 closed s = (pass_ended_at_last s.0, s.1)
 
 -- then the pages ahead are those once a visit begins
@@ -42,7 +43,7 @@ returns-in-Err-clause-stopped c =
           (rw same at c.close_pass-ahead.ensures.ahead) (rw (← c.last.ensures) stopped.within));
       comes = comes_as c.set_cursor-in-Err.new.self (agrees v
           {f = λ s. (record (part_before page (closed s)).0 { cursor = c.between-made.result.1 }, (part_before page (closed s)).1)}
-          {g = λ s. begun (visits_beside doing c.between-made.result.0 s)}
+          {g = λ s. begun (visits_beside c.between-made.result.0 s)}
           (λ from deed is. rw (last, many, (comes from _ is).0) (stopped_made (v.state, deed) rise page there)))
           (λ from s before. c.set_cursor-in-Err.ensures from _ (comes from s before));
     }
@@ -63,7 +64,7 @@ returns-in-At-clause-made c =
       fit = omega arith;
       comes = comes_as c.set_cursor.new.self (agrees v
           {f = λ s. (record (part_visited (Some page) (closed s)).0 { cursor = Some page }, (part_visited (Some page) (closed s)).1)}
-          {g = visits_beside doing c.args.most}
+          {g = visits_beside c.args.most}
           (λ _ deed _. page_made (v.state, deed) c.lies_lawfully.ensures.sound.rows_rise c.args.most page c.requires.most ends))
           (λ from s before. c.set_cursor.ensures from _ (visited.comes from _ (c.close_pass-ahead.ensures.comes from s before)));
     }
@@ -110,7 +111,7 @@ returns-after-whole-clause-made c =
       fit = told.1;
       comes = comes_as c.end_passes.new.self (agrees v
           {f = λ s. (passes_ended times (part_visited None (closed s)).0, (part_visited None (closed s)).1)}
-          {g = visits_beside doing (times * c.in-End.made)}
+          {g = visits_beside (times * c.in-End.made)}
           (λ from deed is.
           passes_made (v.state, deed) c.lies_lawfully.ensures.sound.rows_rise c.requires.some times told.0
           (λ more. (
@@ -118,6 +119,6 @@ returns-after-whole-clause-made c =
             begun_still (pass_ended_at_last v.state) deed _
                 (visited.still (told.2 more).0 from _ (c.close_pass-ahead.ensures.comes from _ is)),
           ))
-          ∙ ap (λ n. visits_beside doing (times * n) (v.state, deed)) (sym made.1)))
+          ∙ ap (λ n. visits_beside (times * n) (v.state, deed)) (sym made.1)))
           (λ from s before. c.end_passes.ensures from _ (visited.comes from _ (c.close_pass-ahead.ensures.comes from s before)));
     }

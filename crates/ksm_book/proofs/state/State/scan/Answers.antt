@@ -1,4 +1,4 @@
-use Rattle.ksm_book.proofs.Names.{AreDue, arith, BookValue, Comes, doing, false, list_any, list_any_none, None, none_counted, refl, Some, subst, sym, true, ◌+◌, ◌∙◌, ◌≡◌, ◌≤◌}
+use Rattle.ksm_book.proofs.Names.{AreDue, arith, BookValue, Comes, false, list_any, list_any_none, None, none_counted, refl, Some, subst, sym, true, ◌+◌, ◌∙◌, ◌≡◌, ◌≤◌}
 use Rattle.ksm_base.specs.declared.fault.Fault.TheVariants.{Memory}
 use Rattle.ksm_book.specs.contracts.state.State.{the_view}
 use Rattle.ksm_book.proofs.Folded.{beside_on, visits_mergeable}
@@ -36,7 +36,7 @@ go_on-requires-clause-some c = grind (arith, comes_to, visits_mergeable, c.self.
 pub loop-done-preserved : goal.loop-done-preserved
 loop-done-preserved c = (
   omega (arith, c.in-Ok.ensures.made.fit, c.loop-done.invariant.0),
-  λ from s before. rw (beside_on doing c.loop-done.done c.in-Ok.visits (c.loop-done.done + c.in-Ok.visits) s refl)
+  λ from s before. rw (beside_on c.loop-done.done c.in-Ok.visits (c.loop-done.done + c.in-Ok.visits) s refl)
       (c.in-Ok.ensures.made.comes from _ (c.loop-done.invariant.1 from s before)),
   c.go_on.ensures.due,
 )
@@ -48,7 +48,7 @@ returns-in-Err-clause-carried c =
     scanned c.args.self.now c.go_on.new.self _ (n + k) (Some Memory)
     (running ((goal.at.returns-in-Err-clause-carried c).After-mergeable))
     (some ((goal.at.returns-in-Err-clause-carried c).After-list_restless), omega (arith, c.in-Err.ensures.stopped.fewer))
-    (λ from s before. rw (beside_on doing n k (n + k) s refl) (c.in-Err.ensures.stopped.comes from _ (c.loop-done.invariant.1 from s before)))
+    (λ from s before. rw (beside_on n k (n + k) s refl) (c.in-Err.ensures.stopped.comes from _ (c.loop-done.invariant.1 from s before)))
 
 pub returns-clause-carried : goal.returns-clause-carried
 returns-clause-carried c =

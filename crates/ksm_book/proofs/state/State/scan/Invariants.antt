@@ -1,9 +1,9 @@
-use Rattle.ksm_book.proofs.Names.{AreDue, Comes, doing, true, visits_beside, ◌-◌, ◌≡◌, ◌≤◌}
+use Rattle.ksm_book.proofs.Names.{AreDue, Comes, true, visits_beside, ◌-◌, ◌≡◌, ◌≤◌}
 use Rattle.ksm_book.proofs.state.State.scan.Given as goal
 
 abbrev pub invariant-loop-done : goal.invariant-loop-done
 invariant-loop-done l =
-    (l.done ≤ l.count) × Comes l.fn.self l.self (visits_beside doing l.done)
+    (l.done ≤ l.count) × Comes l.fn.self l.self (visits_beside l.done)
     × (l.due.known ≡ true → AreDue l.self.state l.due.pages)
 
 abbrev pub decreases-loop-done : goal.decreases-loop-done

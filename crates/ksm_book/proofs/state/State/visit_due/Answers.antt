@@ -1,4 +1,5 @@
-use Rattle.ksm_book.proofs.Names.{ap, arith, BookState, BookValue, Comes, Deed, doing, due_visited, inl, inr, IsDueNoMore}
+use Rattle.ksm_book.proofs.Names.{Stage}
+use Rattle.ksm_book.proofs.Names.{ap, arith, BookState, BookValue, Comes, Deed, due_visited, inl, inr, IsDueNoMore}
 use Rattle.ksm_book.proofs.Names.{Reached, seen, state_of, StaysBefore, sym, true, view_of, ◌∙◌, ◌∷◌, ◌≡◌, ◌⊎◌}
 use Rattle.ksm_pages.specs.declared.pages.Find.TheVariants as finds
 use Rattle.ksm_tree.proofs.Numbers.{on_err}
@@ -12,7 +13,7 @@ use Rattle.ksm_book.proofs.Folded.{then_idle}
 use Rattle.ksm_book.proofs.state.State.visit_due.Goals.{After-remove, In_ok-visit, in-Dup+in_ok-join-in-Dup, in-Gone, in-Partner+in_ok-pair-in-Partner, in-Zero}
 
 -- where the search changed nothing, what was reached with the book is reached still
-before_it : (c : In_ok-visit) → seen c.visit.new.self ≡ seen c.self.inside.pages → (from : BookValue) (s : BookState × Deed)
+before_it : (c : In_ok-visit) → seen c.visit.new.self ≡ seen c.self.inside.pages → (from : BookValue) (s : Stage)
     → Reached from c.args.self.now s → Reached from (the_view (record c.self.inside { pages = c.visit.new.self })) s
 before_it c same from s before =
     let alike : view_of (the_view (record c.self.inside { pages = c.visit.new.self })) ≡ view_of c.args.self.now =
@@ -21,7 +22,7 @@ before_it c same from s before =
 
 -- a page that has gone, or goes on waiting, was visited as one that is due, which it is no longer
 rests : (c : In_ok-visit) → (c.in_ok-visit.field-0 ≡ finds.Gone) ⊎ (c.in_ok-visit.field-0 ≡ finds.Waits)
-    → Comes c.args.self.now (the_view (record c.self.inside { pages = c.visit.new.self })) (λ s. due_visited doing s c.args.spot.page)
+    → Comes c.args.self.now (the_view (record c.self.inside { pages = c.visit.new.self })) (λ s. due_visited s c.args.spot.page)
     × IsDueNoMore c.args.spot.page c.args.self.now.state
     (state_of (seen c.visit.new.self) c.self.inside.cursor c.self.inside.passes)
 rests c (inl gone) = (
@@ -77,7 +78,7 @@ returns-in-Changed-clause-due c =
     _ c.requires.is_due c.requires.due
 
 -- the page was visited as one that is due, which it is no longer
-left : (c : After-remove) → Comes c.args.self.now c.match-branch-2.self (λ s. due_visited doing s c.args.spot.page)
+left : (c : After-remove) → Comes c.args.self.now c.match-branch-2.self (λ s. due_visited s c.args.spot.page)
     × IsDueNoMore c.args.spot.page c.args.self.now.state c.match-branch-2.self.state
 left c =
     let at = (goal.at.returns-clause-comes c).In_ok-visit in
