@@ -1,5 +1,6 @@
 -- A page that is stored to while it is merged or Zero, comes or goes: of the others only one that waits in its tree with its
 -- bytes may come to join its dup by that, so no other page becomes due. And commands by which no page becomes due.
+use Rattle.ksm_base.specs.Answers.{IsAnswerOrMemory}
 use Rattle.ksm_book.proofs.Names.{All, All-filter, all_changed, all_with_row, Answer, AreDue, arith, BookState, BookView, Bool, bytes_eq, bytes_eq-Decides, change_row, Command, count_with_row}
 use Rattle.ksm_book.proofs.Names.{count_without_page, Drop, dup_of_item, DupRow, effect, Err, false, filter, find_all, find_none, fresh_row, get_or, GuestPage, has_item, InPageOrder, IsAlone, IsCarried, IsDupOf}
 use Rattle.ksm_book.proofs.Names.{IsSound, item_count, List, MatchOption, may_join, merged_into, merged_state, nat_tests, None, Ok, Option, partner, refl, Register, Reply, Row, row_at, same_page, same_page_refl}
@@ -126,32 +127,12 @@ fewer_due b keeps pages due k d lt restless out =
     on_still b b.rows (filter keeps b.dups) b.next row (All-filter keeps (λ e. may_join b.knobs b.rows row e ≡ false) b.dups)
     (due k d lt restless out)
 
--- where the command leaves what is due as it is, it is so after each answer
+-- what is due before a command is so after it, where each reply that it may give leaves it so
 pub stays_due : (v w : BookView) (command : Command) (answer : Answer) (pages : List GuestPage)
-    → ((reply : Reply) → AreDue (effect v.state command reply) pages) → AreDue v.state pages
-    → IsCarried v w command answer → AreDue w.state pages
-stays_due v w command (Ok reply) pages stays due carried = rw carried.state (stays reply)
+    → ((reply : Reply) → IsAnswerOrMemory v.state command (Ok reply) → AreDue (effect v.state command reply) pages)
+    → AreDue v.state pages → IsCarried v w command answer → AreDue w.state pages
+stays_due v w command (Ok reply) pages stays due carried = rw carried.state (stays reply carried.answer)
 stays_due v w command (Err fault) pages stays due carried = rw carried.state due
-
--- ---------------------------------------------------------------- a command that is answered with a reply
-
--- where a page was to be registered, what is due is so after it
-pub registered_due : (v w : BookView) (page : GuestPage) (node : ℕ) (bytes : List ℕ) (answer : Answer) (pages : List GuestPage)
-    → IsCarried v w (Register page node bytes) answer → AreDue v.state pages
-    → (row_at page v.state.rows ≡ None → AreDue (record v.state { rows = with_row (fresh_row page node bytes) v.state.rows }) pages)
-    → AreDue w.state pages
-registered_due v w page node bytes (Ok reply) pages carried kept come = grind arith
-registered_due v w page node bytes (Err fault) pages carried kept come = rw carried.state kept
-
--- where a page was to be dropped, what is due is so after it
-pub gone_due : (v w : BookView) (page : GuestPage) (answer : Answer) (pages : List GuestPage)
-    → IsCarried v w (Drop page) answer → AreDue v.state pages
-    → ((row : Row) → row_at page v.state.rows ≡ Some row → AreDue (record v.state { rows = without_page page v.state.rows }) pages)
-    → AreDue w.state pages
-gone_due v w page (Ok reply) pages carried kept gone =
-    let at : (row : Row) × (row_at page v.state.rows ≡ Some row) = grind arith in
-    rw carried.state (gone at.0 at.1)
-gone_due v w page (Err fault) pages carried kept gone = rw carried.state kept
 
 -- ---------------------------------------------------------------- a page with a frame of its own is stored to
 

@@ -14,34 +14,6 @@ use Rattle.ksm_book.proofs.Singles.{book}
 use Rattle.ksm_pages.proofs.Joined.{own_not_merged}
 use Rattle.ksm_pages.specs.declared.pages.Find.TheVariants as finds
 
--- ---------------------------------------------------------------- a page that is due no longer
-
--- once its row was visited a page is due no longer, but where its bytes had changed
-visited_undue : {P : BookState → Row → Type 0} {p : PagesView} {k : KeeperView} {cursor : Option GuestPage} {passes : ℕ} {v : BookView}
-    {page : GuestPage} (at : Meets P p k cursor passes v page) → is_restless at.row ≡ true
-    → (best_dup p.knobs p.rows p.dups at.row ≡ None → at.row.unchanged ≡ true) → (c : BookState)
-    → c ≡ row_visited (state_of p cursor passes) at.row → IsDueNoMore page v.state c
-visited_undue {page = page} at restless same c is pages was =
-    let due = subst (λ (x : BookView). AreDue x.state (page ∷ pages)) (sym at.is) was in
-    rw is (row_undue _ at.sound at.row (there_is at) restless pages (rw (page_is at) due) same)
-
--- a page found to wait is due no longer
-pub waits_due : {p q : PagesView} {k : KeeperView} {cursor : Option GuestPage} {passes : ℕ} {v : BookView} {page : GuestPage}
-    → Meets (λ _ r. FindsAt p q r finds.Waits) p k cursor passes v page → IsDueNoMore page v.state (state_of q cursor passes)
-waits_due {q = q} {cursor = cursor} {passes} at = visited_undue at at.so.0 (λ _. at.so.2) (state_of q cursor passes) (grind (arith, at.so))
-
--- a page found gone is not due
-pub gone_due : {p : PagesView} {k : KeeperView} {cursor : Option GuestPage} {passes : ℕ} {v : BookView} (q : PagesView)
-    (gone : GuestPage)
-    → IsSound (state_of p cursor passes) × IsLaid p k → book p k cursor passes ≡ v → Finds p q gone finds.Gone
-    → IsDueNoMore gone v.state (state_of q cursor passes)
-gone_due {p} {cursor = cursor} {passes} q gone lawful told is =
-    let same : q ≡ p = grind arith in
-    let calm : restless_at gone p.rows ≡ false = grind arith in
-    let rests : IsDueNoMore gone (state_of p cursor passes) (state_of q cursor passes) =
-    rw same (λ pages was k d lt restless out. was k d lt restless (grind (arith, at_own_page gone p.rows lawful.0.rows_rise k d lt))) in
-    subst (λ (x : BookView). IsDueNoMore gone x.state (state_of q cursor passes)) told rests
-
 -- ---------------------------------------------------------------- a page that shares a frame from now on
 
 -- by what was found, the page shares a frame once it was visited
@@ -60,52 +32,75 @@ shared_by finds.Zero p q cursor passes row is so = grind (arith, so)
 shared_by (Partner other) p q cursor passes row is so = let w = filled_by _ {o = partner p.knobs p.rows row} so.4 in grind (arith, so, w.1, not_both)
 shared_by _ p q cursor passes row is so = absurd (true≢false (sym is))
 
-module _ (f : Find) (q : PagesView) {p : PagesView} {k : KeeperView} {cursor : Option GuestPage} {passes : ℕ}
-    (v w : BookValue)
-    (page : GuestPage) (is : shares page f ≡ true) (lawful : IsSound (state_of p cursor passes) × IsLaid p k)
-    (told : book p k cursor passes ≡ view_of v) (found : Finds p q page f)
-    (did : VisitsPage (book q k cursor passes) (view_of w) page) where
-  at : Meets (λ _ r. FindsAt p q r f) p k cursor passes (view_of v) page
-  at = finds_it f (λ gone. true≢false (sym is ∙ ap (shares page) gone)) lawful told q page refl found
+-- ---------------------------------------------------------------- a page that is due no longer
 
-  by : (is_restless at.row ≡ true) × (q ≡ p) × (takes_over (state_of p cursor passes) at.row ≡ false)
-      × (best_dup p.knobs p.rows p.dups at.row ≡ None → at.row.unchanged ≡ true)
-  by = shared_by f p q cursor passes at.row (rw (page_is at) is) at.so
+module _ {p : PagesView} {k : KeeperView} {cursor : Option GuestPage} {passes : ℕ} where
+  module _ {v : BookView} where
+    -- a page found gone is not due
+    pub gone_due : (q : PagesView) (gone : GuestPage) → IsSound (state_of p cursor passes) × IsLaid p k → book p k cursor passes ≡ v → Finds p q gone finds.Gone
+        → IsDueNoMore gone v.state (state_of q cursor passes)
+    gone_due q gone lawful told is =
+        let same : q ≡ p = grind arith in
+        let calm : restless_at gone p.rows ≡ false = grind arith in
+        let rests : IsDueNoMore gone (state_of p cursor passes) (state_of q cursor passes) =
+        rw same (λ pages was k d lt restless out. was k d lt restless (grind (arith, at_own_page gone p.rows lawful.0.rows_rise k d lt))) in
+        subst (λ (x : BookView). IsDueNoMore gone x.state (state_of q cursor passes)) told rests
 
-  -- where the row was visited in the book as it was, that is the visit of what is due, and the page is due no longer
-  pub shared_due : Comes v w (λ s. due_visited s page) × IsDueNoMore page v.state w.state
-  shared_due = (
-    λ from s before. grind (arith, by, at.found, at.is, shared_comes v w at by.0 q by.1 did from s before),
-    visited_undue at by.0 by.3 w.state (grind (arith, by, at.found, at.is)),
-  )
+    module _ {page : GuestPage} where
+      -- once its row was visited a page is due no longer, but where its bytes had changed
+      visited_undue : {P : BookState → Row → Type 0} (at : Meets P p k cursor passes v page) → is_restless at.row ≡ true
+          → (best_dup p.knobs p.rows p.dups at.row ≡ None → at.row.unchanged ≡ true) → (c : BookState)
+          → c ≡ row_visited (state_of p cursor passes) at.row → IsDueNoMore page v.state c
+      visited_undue at restless same c is pages was =
+          let due = subst (λ (x : BookView). AreDue x.state (page ∷ pages)) (sym at.is) was in
+          rw is (row_undue _ at.sound at.row (there_is at) restless pages (rw (page_is at) due) same)
 
--- ---------------------------------------------------------------- by what was found
+      -- a page found to wait is due no longer
+      pub waits_due : {q : PagesView} → Meets (λ _ r. FindsAt p q r finds.Waits) p k cursor passes v page → IsDueNoMore page v.state (state_of q cursor passes)
+      waits_due {q} at = visited_undue at at.so.0 (λ _. at.so.2) (state_of q cursor passes) (grind (arith, at.so))
 
-module _ {p q : PagesView} {k : KeeperView} {cursor : Option GuestPage} {passes : ℕ} {v : BookView} {page : GuestPage} where
-  -- a page that meets no earlier one is to wait in the stead of the other
-  pub partner_takes : (other : GuestPage) → Meets (λ _ r. FindsAt p q r (Partner other)) p k cursor passes v page
-      → comes_before other page ≡ false → TakesOver (state_of p cursor passes) page other
-  partner_takes other at none =
-      let met = filled_by _ at.so.4 in
-      let apart = (waits_tells p.knobs at.row met.0 (find_passes (waits_for p.knobs at.row) p.rows _ met.1)).other in
-      let before : comes_before at.row.page met.0.page ≡ true =
-      one_before met.0.page at.row.page apart (grind (arith, page_is at)) in
-      record {
-        row = at.row;
-        found = at.found;
-        takes = grind (arith, at.so, met.1, before);
-        waiter = met.0;
-        waits = met.1;
-        is = met.2;
-      }
+      -- a page that meets no earlier one is to wait in the stead of the other
+      pub partner_takes : {q : PagesView} (other : GuestPage) → Meets (λ _ r. FindsAt p q r (Partner other)) p k cursor passes v page
+          → comes_before other page ≡ false → TakesOver (state_of p cursor passes) page other
+      partner_takes other at none =
+          let met = filled_by _ at.so.4 in
+          let apart = (waits_tells p.knobs at.row met.0 (find_passes (waits_for p.knobs at.row) p.rows _ met.1)).other in
+          let before : comes_before at.row.page met.0.page ≡ true =
+          one_before met.0.page at.row.page apart (grind (arith, page_is at)) in
+          record {
+            row = at.row;
+            found = at.found;
+            takes = grind (arith, at.so, met.1, before);
+            waiter = met.0;
+            waits = met.1;
+            is = met.2;
+          }
 
-  -- a page whose bytes had changed stays due
-  pub changed_keeps : Meets (λ _ r. FindsAt p q r finds.Changed) p k cursor passes v page → (due : List GuestPage)
-      → has_item page due ≡ true → AreDue v.state due → AreDue (state_of q cursor passes) due
-  changed_keeps at due there was =
-      rw at.so.3
-      (own_due (state_of p cursor passes) at.row.page
-      (λ r. record r { unchanged = true; state = Private }) at.row at.sound.rows_rise
-      (there_is at) (own_not_merged _ (restless_own at.row at.so.0), refl) due due (grind (arith, page_is at))
-      (λ g _ is. is)
-      (grind (arith, at.is)))
+      -- a page whose bytes had changed stays due
+      pub changed_keeps : {q : PagesView} → Meets (λ _ r. FindsAt p q r finds.Changed) p k cursor passes v page → (due : List GuestPage)
+          → has_item page due ≡ true → AreDue v.state due → AreDue (state_of q cursor passes) due
+      changed_keeps at due there was =
+          rw at.so.3
+          (own_due (state_of p cursor passes) at.row.page
+          (λ r. record r { unchanged = true; state = Private }) at.row at.sound.rows_rise
+          (there_is at) (own_not_merged _ (restless_own at.row at.so.0), refl) due due (grind (arith, page_is at))
+          (λ g _ is. is)
+          (grind (arith, at.is)))
+
+  module _ (f : Find) (q : PagesView) (v w : BookValue)
+      (page : GuestPage) (is : shares page f ≡ true) (lawful : IsSound (state_of p cursor passes) × IsLaid p k)
+      (told : book p k cursor passes ≡ view_of v) (found : Finds p q page f)
+      (did : VisitsPage (book q k cursor passes) (view_of w) page) where
+    at : Meets (λ _ r. FindsAt p q r f) p k cursor passes (view_of v) page
+    at = finds_it f (λ gone. true≢false (sym is ∙ ap (shares page) gone)) lawful told q page refl found
+
+    by : (is_restless at.row ≡ true) × (q ≡ p) × (takes_over (state_of p cursor passes) at.row ≡ false)
+        × (best_dup p.knobs p.rows p.dups at.row ≡ None → at.row.unchanged ≡ true)
+    by = shared_by f p q cursor passes at.row (rw (page_is at) is) at.so
+
+    -- where the row was visited in the book as it was, that is the visit of what is due, and the page is due no longer
+    pub shared_due : Comes v w (λ s. due_visited s page) × IsDueNoMore page v.state w.state
+    shared_due = (
+      λ from s before. grind (arith, by, at.found, at.is, shared_comes v w at by.0 q by.1 did from s before),
+      visited_undue at by.0 by.3 w.state (grind (arith, by, at.found, at.is)),
+    )

@@ -3,10 +3,9 @@ use Rattle.ksm_book.proofs.Names.{All, All-cons, All-head, All-tail, all_changed
 use Rattle.ksm_book.proofs.Names.{change_row, change_rows, cond_both, count_by, count_mapped, due_visited, dup_of_row, DupRow, eqb-true, false, find_all, find_none, find_nothing}
 use Rattle.ksm_book.proofs.Names.{find_passes, freed, get_or, GuestPage, handled, has, has_item, inl, InPageOrder, inr, is_best, is_for_zero, is_restless, IsSound, item_count, Knobs, List}
 use Rattle.ksm_book.proofs.Names.{list_all-from_AllPass, made_dup, may_join, Merged, merged_into, merged_state, nat_le, nat_lt, nat_tests, None, not, not_an_item, one_of_each_page, Option}
-use Rattle.ksm_book.proofs.Names.{page, paired, partner, refl, Row, row_at, row_visited, same_page, same_page_refl, same_page_sym, settled, Some, stayed, sym, takes_over, tree_of, true}
+use Rattle.ksm_book.proofs.Names.{page, paired, partner, refl, Row, row_at, row_visited, same_page, same_page_refl, same_page_sym, settled, Some, sym, takes_over, tree_of, true}
 use Rattle.ksm_book.proofs.Names.{true≢false, Waiting, waiting_state, waits_for, waits_on, waits_tells, WaitsFor, with_dup, Zero, [], ℕ, ◌&&◌, ◌+◌, ◌==◌, ◌||◌, ◌∙◌, ◌∷◌, ◌≡◌}
 use Rattle.ksm_book.proofs.DueAlike.{by_counts, calm_stays, freed_found, freed_sound, one_waits}
-use Rattle.ksm_base.specs.declared.row.PageState.TheVariants.{Private}
 use Rattle.ksm_book.proofs.ByPage.{row_of_page}
 use Rattle.ksm_book.proofs.Folded.{by_row, then_idle}
 use Rattle.ksm_book.proofs.RowVisits.{restless_own}
@@ -227,13 +226,9 @@ module _ (b : BookState) (sound : IsSound b) (row : Row) (found : row_at row.pag
         → AreDue (handled o b row) pages
     handled_due (Some dup) best same = joined_due dup best
     handled_due None best same =
-        cond_both row.unchanged (stayed b row)
-        (record b { rows = change_row row.page (λ r. record r { unchanged = true; state = Private }) b.rows })
-        (λ c. AreDue c pages)
-        (λ _. cond_both (is_for_zero b.knobs row)
-        (record b { rows = change_row row.page (λ r. record r { state = Zero }) b.rows })
-        (paired (partner b.knobs b.rows row) b row) (λ c. AreDue c pages)
-        (λ _. alone_due (λ r. record r { state = Zero }) refl (grind arith)) (λ other. paired_due _ refl other))
+        cond_both row.unchanged _ _ (λ c. AreDue c pages)
+        (λ _. cond_both (is_for_zero b.knobs row) _ _ (λ c. AreDue c pages)
+        (λ _. alone_due (λ r. record r { state = Zero }) refl (grind arith)) (paired_due _ refl))
         (λ changed. absurd (true≢false (sym (same refl) ∙ changed)))
       where
         paired_due : (o : Option Row) → partner b.knobs b.rows row ≡ o → is_for_zero b.knobs row ≡ false → AreDue (paired o b row) pages

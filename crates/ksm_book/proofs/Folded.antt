@@ -3,7 +3,7 @@ use Rattle.ksm_book.proofs.Names.{Stage, row_done}
 use Rattle.ksm_book.proofs.Names.{after_cursor, AllPairs-filter, and_right, ap, append-nil, AreAscending, arith, begun, BookState, cases_Bool, comes_before, Deed, drop, drop_more, each_at_page, false, filter}
 use Rattle.ksm_book.proofs.Names.{filter_all, find_all, find_passes, get_or_from_slice_get, GuestPage, idle, inl, InPageOrder, inr, is_none, is_restless, IsStill, last_of, List, map}
 use Rattle.ksm_book.proofs.Names.{map_mapped, mergeable_pages, next_row, next_visited, None, not-true, Option, option_map, page_visited, pages_ahead, pages_visited, pairs_mapped, pass_ended_at_last}
-use Rattle.ksm_book.proofs.Names.{refl, restless_at, restless_row, Row, row_at, row_visited, rowwise_visits, settled, slice_get, slice_get-get_or, slice_get_within, Some, subst, suc, sym, take, take-append-drop}
+use Rattle.ksm_book.proofs.Names.{refl, restless_at, restless_row, Row, row_at, rowwise_visits, settled, slice_get, slice_get-get_or, slice_get_within, Some, subst, suc, sym, take, take-append-drop}
 use Rattle.ksm_book.proofs.Names.{then_doing, true, visit, visit_begun, visit_of, visits, visits_beside, zero, ℕ, [], ⊤, ◌++◌, ◌+◌, ◌∙◌, ◌∷◌, ◌≡◌}
 use Rattle.ksm_book.proofs.Going.{begun_goes, elsewhere, Goes, goes_same, mergeable_kept, visited_goes}
 use Rattle.ksm_book.proofs.PagesAhead.{Before, behind_first}

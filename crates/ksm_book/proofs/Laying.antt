@@ -7,42 +7,43 @@ use Rattle.ksm_book.proofs.ByPage.{found_page, row_of_page}
 use Rattle.std.proofs.lemmas.List.{get_or-replicate}
 use Rattle.ksm_book.proofs.Moves.{inserted, remapped, Serves, swapped}
 
-module _ {sh : Shape} {across : ℕ} (v : KeeperView) {rows : List Row} {frame : Frames} {dups : List DupRow} {hand : Option ℕ} (same : v.table.shape ≡ sh) where
-  -- a placement that is lawful before a call is lawful after it, where the call keeps every lawful placement
-  pub kept : (w : KeeperView) (hand' : Option ℕ) → Keeps v w hand hand' → Placed sh across v.ledger rows frame dups hand → Placed sh across w.ledger rows frame dups hand'
-  kept w hand' keeps p = rw (← same) (keeps across rows frame dups (rw same p))
-
--- the frame taken serves a row with its bytes on its home
-module _ {sh : Shape} {across : ℕ} {v w : KeeperView} {rows : List Row} {frame : Frames} {dups : List DupRow} (same : v.table.shape ≡ sh) {node : ℕ} {bytes : List ℕ} {g : ℕ} (took : HasNewFrame v w node bytes g) (p : Placed sh across v.ledger rows frame dups None) where
-  in_new_hand : Placed sh across w.ledger rows frame dups (Some g)
-  in_new_hand = kept v same w _ took.keeps p
-
-  serves : (r : Row) → r.state ≡ OwnPage → r.home ≡ node → r.bytes ≡ bytes → Serves sh w.ledger dups r g
-  serves r own home content = grind (arith, in_new_hand)
-
-  -- a page moves to the frame taken: its placement is lawful, with the frame that it had, if it had one, in hand
-  pub moved_there : (page : GuestPage) (c : Row → Row) → InPageOrder rows → Houses c page node bytes rows → Placed sh across w.ledger (change_row page c rows) (lies_on page (Some g) frame) dups (frame page)
-  moved_there page c rise houses =
-      let found : (row : Row) × (row_at page rows ≡ Some row) = grind arith in
-      swapped (Some g) c found.0 rise found.1 houses.pages in_new_hand
-      (serves _ (grind arith) (grind arith) (grind arith))
-
-  -- where a new row comes on the frame taken, rows and dups lie lawfully
-  pub come_there : (r : Row) → row_at r.page rows ≡ None → r.state ≡ OwnPage → r.home ≡ node → r.bytes ≡ bytes → Placed sh across w.ledger (with_row r rows) (lies_on r.page (Some g) frame) dups None
-  come_there r absent own home content = inserted _ r absent in_new_hand (serves r own home content)
-
 -- a row may stand in the stead of another on its frame: same home and bytes, and the same state, or neither is shared
 abbrev pub LodgesAs : Row → Row → Type 0
 LodgesAs row r = (row.home ≡ r.home) × (row.bytes ≡ r.bytes) × ((row.state ≡ r.state) ⊎ ((shared_state r.state ≡ false) × (shared_state row.state ≡ false)))
 
-module _ {sh : Shape} {across : ℕ} {k : Ledger} {rows : List Row} {frame : Frames} {dups : List DupRow} {hand : Option ℕ} (p : Placed sh across k rows frame dups hand) where
-  -- the row of a page is served by its frame
-  pub served_at : (page : GuestPage) (row : Row) → row_at page rows ≡ Some row → IsServed sh k dups row (frame page)
-  served_at page row found = subst (λ q. IsServed sh k dups row (frame q)) (found_page _ _ row found) (find_all _ (λ r. IsServed sh k dups r (frame r.page)) _ row found p.each_row)
+module _ {sh : Shape} {across : ℕ} {rows : List Row} {frame : Frames} {dups : List DupRow} where
+  -- a placement that is lawful before a call is lawful after it, where the call keeps every lawful placement
+  pub kept : (v : KeeperView) {hand : Option ℕ} → v.table.shape ≡ sh → (w : KeeperView) (hand' : Option ℕ)
+      → Keeps v w hand hand' → Placed sh across v.ledger rows frame dups hand → Placed sh across w.ledger rows frame dups hand'
+  kept v same w hand' keeps p = rw (← same) (keeps across rows frame dups (rw same p))
 
-  -- and the frame on which the page lies serves it
-  pub serves_at : {page : GuestPage} {row : Row} {g : ℕ} → row_at page rows ≡ Some row → frame page ≡ Some g → Serves sh k dups row g
-  serves_at found lies = rw lies at (served_at _ _ found)
+  -- the frame taken serves a row with its bytes on its home
+  module _ {v w : KeeperView} (same : v.table.shape ≡ sh) {node : ℕ} {bytes : List ℕ} {g : ℕ} (took : HasNewFrame v w node bytes g) (p : Placed sh across v.ledger rows frame dups None) where
+    in_new_hand : Placed sh across w.ledger rows frame dups (Some g)
+    in_new_hand = kept v same w _ took.keeps p
+
+    serves : (r : Row) → r.state ≡ OwnPage → r.home ≡ node → r.bytes ≡ bytes → Serves sh w.ledger dups r g
+    serves r own home content = grind (arith, in_new_hand)
+
+    -- a page moves to the frame taken: its placement is lawful, with the frame that it had, if it had one, in hand
+    pub moved_there : (page : GuestPage) (c : Row → Row) → InPageOrder rows → Houses c page node bytes rows → Placed sh across w.ledger (change_row page c rows) (lies_on page (Some g) frame) dups (frame page)
+    moved_there page c rise houses =
+        let found : (row : Row) × (row_at page rows ≡ Some row) = grind arith in
+        swapped (Some g) c found.0 rise found.1 houses.pages in_new_hand
+        (serves _ (grind arith) (grind arith) (grind arith))
+
+    -- where a new row comes on the frame taken, rows and dups lie lawfully
+    pub come_there : (r : Row) → row_at r.page rows ≡ None → r.state ≡ OwnPage → r.home ≡ node → r.bytes ≡ bytes → Placed sh across w.ledger (with_row r rows) (lies_on r.page (Some g) frame) dups None
+    come_there r absent own home content = inserted _ r absent in_new_hand (serves r own home content)
+
+  module _ {k : Ledger} {hand : Option ℕ} (p : Placed sh across k rows frame dups hand) where
+    -- the row of a page is served by its frame
+    pub served_at : (page : GuestPage) (row : Row) → row_at page rows ≡ Some row → IsServed sh k dups row (frame page)
+    served_at page row found = subst (λ q. IsServed sh k dups row (frame q)) (found_page _ _ row found) (find_all _ (λ r. IsServed sh k dups r (frame r.page)) _ row found p.each_row)
+
+    -- and the frame on which the page lies serves it
+    pub serves_at : {page : GuestPage} {row : Row} {g : ℕ} → row_at page rows ≡ Some row → frame page ≡ Some g → Serves sh k dups row g
+    serves_at found lies = rw lies at (served_at _ _ found)
 
 module _ {p : PagesView} {k : KeeperView} (h : IsLaid p k) where
   abbrev across : ℕ

@@ -124,6 +124,10 @@ module _ {sh : Shape} {across : ℕ} {k : Ledger} {rows : List Row} {frame : Fra
             (λ n x l. grind (arith, get_or-set_other)),
       )
 
+-- what the keeper knows once a place names nothing
+abbrev pub emptied : Ledger → ℕ → Ledger
+emptied k place = record { frames = k.frames; places = set k.places place None }
+
 -- the row of a page leaves its frame, and comes back changed; items of dups
 module _ {sh : Shape} {across : ℕ} {k : Ledger} {rows : List Row} {frame : Frames} {dups : List DupRow} where
   module _ (p : Placed sh across k rows frame dups None) (page : GuestPage) (row : Row) (rise : InPageOrder rows) (found : row_at page rows ≡ Some row)
@@ -224,43 +228,38 @@ module _ {sh : Shape} {across : ℕ} {k : Ledger} {rows : List Row} {frame : Fra
   joined page row item g c rise found keeps on_it state bytes merged p =
       swapped _ c row rise found keeps p (grind arith)
 
--- what the keeper knows once a place names nothing
-abbrev pub emptied : Ledger → ℕ → Ledger
-emptied k place = record { frames = k.frames; places = set k.places place None }
+  -- a place is emptied, and the dup that stood there goes
+  module _ {hand : Option ℕ} (q : ℕ) (inside : q < frames_of sh) (p : Placed sh across k rows frame dups hand) where
+    named_off : (r : ℕ) → r ≢ q → named_at (emptied k q) r ≡ named_at k r
+    named_off r ne = grind (arith, get_or-set_other)
 
--- a place is emptied, and the dup that stood there goes
-module _ {sh : Shape} {across : ℕ} {k : Ledger} {rows : List Row} {frame : Frames} {dups : List DupRow} {hand : Option ℕ} (q : ℕ) (inside : q < frames_of sh)
-    (p : Placed sh across k rows frame dups hand) where
-  named_off : (r : ℕ) → r ≢ q → named_at (emptied k q) r ≡ named_at k r
-  named_off r ne = grind (arith, get_or-set_other)
+    -- what holds of each dup is said of those that stay
+    staying : (P Q : DupRow → Type 0) → ((d : DupRow) → d.place ≢ q → P d → Q d) → All P dups → All Q (filter (elsewhere q) dups)
+    staying P Q f h = grind (arith, filter_passes (elsewhere q) dups, eq-eqb, All-filter (elsewhere q) P dups h)
 
-  -- what holds of each dup is said of those that stay
-  staying : (P Q : DupRow → Type 0) → ((d : DupRow) → d.place ≢ q → P d → Q d) → All P dups → All Q (filter (elsewhere q) dups)
-  staying P Q f h = grind (arith, filter_passes (elsewhere q) dups, eq-eqb, All-filter (elsewhere q) P dups h)
-
-  -- rows and dups lie lawfully where the place names nothing and the dup that stood there is gone
-  pub withdrawn : Placed sh across (emptied k q) rows frame (filter (elsewhere q) dups) hand
-  withdrawn = record {
-    frames_long = p.frames_long;
-    places_long = grind (arith, length-set);
-    widths = p.widths;
-    lives = p.lives;
-    each_row = λ i r0 lt.
-        let r = get_or rows i r0 in
-        served_as sh k _ _ _ r _
-        (λ f is both. (
-          grind arith,
-          staying (Agrees k r f) (Agrees (emptied k q) r f) (grind (arith, named_off)) both.1,
-        )) (p.each_row i r0 lt);
-    each_dup = staying (DupFits sh across k) (DupFits sh across (emptied k q)) (grind (arith, named_off)) p.each_dup;
-    bases = p.bases;
-    kinds = p.kinds;
-    empty = λ r h. dite (ℕ_discrete r q)
-        (grind (arith, get_or-set_same))
-        (λ ne. named_off r ne ∙ p.empty r
-        (λ n x lt. grind (
-          arith,
-          contains_filter (elsewhere q) dups (get_or dups n x) (Contains-get_or _ n x lt),
-          h,
-        )));
-  }
+    -- rows and dups lie lawfully where the place names nothing and the dup that stood there is gone
+    pub withdrawn : Placed sh across (emptied k q) rows frame (filter (elsewhere q) dups) hand
+    withdrawn = record {
+      frames_long = p.frames_long;
+      places_long = grind (arith, length-set);
+      widths = p.widths;
+      lives = p.lives;
+      each_row = λ i r0 lt.
+          let r = get_or rows i r0 in
+          served_as sh k _ _ _ r _
+          (λ f is both. (
+            grind arith,
+            staying (Agrees k r f) (Agrees (emptied k q) r f) (grind (arith, named_off)) both.1,
+          )) (p.each_row i r0 lt);
+      each_dup = staying (DupFits sh across k) (DupFits sh across (emptied k q)) (grind (arith, named_off)) p.each_dup;
+      bases = p.bases;
+      kinds = p.kinds;
+      empty = λ r h. dite (ℕ_discrete r q)
+          (grind (arith, get_or-set_same))
+          (λ ne. named_off r ne ∙ p.empty r
+          (λ n x lt. grind (
+            arith,
+            contains_filter (elsewhere q) dups (get_or dups n x) (Contains-get_or _ n x lt),
+            h,
+          )));
+    }

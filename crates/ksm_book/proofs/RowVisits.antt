@@ -45,12 +45,6 @@ pub record Meets (P : BookState → Row → Type 0) (p : PagesView) (k : KeeperV
   -- the property holds of the book and the row
   pub so : P (state_of p cursor passes) row
 
--- where something is so of a page's row in a sound book that lies lawfully, as callers see it, the row is met with it
-pub meets : (P : BookState → Row → Type 0) {p : PagesView} {k : KeeperView} {cursor : Option GuestPage} {passes : ℕ} {now : BookView}
-    {page : GuestPage} → IsSound (state_of p cursor passes) × IsLaid p k → book p k cursor passes ≡ now
-    → HasRow page now.state.rows (P now.state) → Meets P p k cursor passes now page
-meets P lawful same told = grind arith
-
 -- the visit of a page in the book seen as v leads to this book
 pub record Leads (v : BookView) (q : PagesView) (l : KeeperView) (cursor : Option GuestPage) (passes : ℕ) (page : GuestPage) : Type 0 where
   -- the book then is sound, and its rows and dups lie lawfully
@@ -58,144 +52,147 @@ pub record Leads (v : BookView) (q : PagesView) (l : KeeperView) (cursor : Optio
   -- the page's row was visited
   pub visits : VisitsPage v (book q l cursor passes) page
 
-module _ {P : BookState → Row → Type 0} {p : PagesView} {k : KeeperView} {cursor : Option GuestPage} {passes : ℕ} {v : BookView}
-    {page : GuestPage} (at : Meets P p k cursor passes v page) where
-  -- the row that is met is of the page
-  pub page_is : at.row.page ≡ page
-  page_is = found_page _ _ _ at.found
+module _ {p : PagesView} {k : KeeperView} {cursor : Option GuestPage} {passes : ℕ} {v : BookView} {page : GuestPage} where
+  -- where something is so of a page's row in a sound book that lies lawfully, as callers see it, the row is met with it
+  pub meets : (P : BookState → Row → Type 0) → IsSound (state_of p cursor passes) × IsLaid p k → book p k cursor passes ≡ v
+      → HasRow page v.state.rows (P v.state) → Meets P p k cursor passes v page
+  meets P lawful same told = grind arith
 
-  -- the row that is met is found at its own page
-  pub there_is : row_at at.row.page p.rows ≡ Some at.row
-  there_is = grind (arith, page_is)
+  module _ {P : BookState → Row → Type 0} (at : Meets P p k cursor passes v page) where
+    -- the row that is met is of the page
+    pub page_is : at.row.page ≡ page
+    page_is = found_page _ _ _ at.found
 
-  -- where the row met was visited and rows and dups lie lawfully then, the visit leads to the book as it is then
-  pub leads : (q : PagesView) (l : KeeperView) → is_restless at.row ≡ true → IsLaid q l
-      → state_of q cursor passes ≡ row_visited (state_of p cursor passes) at.row
-      → Performs (lying p k) (lying q l) (row_visiting (state_of p cursor passes) p.frame at.row) → Leads v q l cursor passes page
-  leads q l restless laid state does = record {
-    lawful = (
-      subst IsSound (sym state) (sound_row_visited _ _ (grind (arith, row_of_page, there_is)) at.sound),
-      laid,
-    );
-    visits = grind arith;
-  }
+    -- the row that is met is found at its own page
+    pub there_is : row_at at.row.page p.rows ≡ Some at.row
+    there_is = grind (arith, page_is)
 
--- ---------------------------------------------------------------- a page joins a dup
+    -- where the row met was visited and rows and dups lie lawfully then, the visit leads to the book as it is then
+    pub leads : (q : PagesView) (l : KeeperView) → is_restless at.row ≡ true → IsLaid q l
+        → state_of q cursor passes ≡ row_visited (state_of p cursor passes) at.row
+        → Performs (lying p k) (lying q l) (row_visiting (state_of p cursor passes) p.frame at.row) → Leads v q l cursor passes page
+    leads q l restless laid state does = record {
+      lawful = (
+        subst IsSound (sym state) (sound_row_visited _ _ (grind (arith, row_of_page, there_is)) at.sound),
+        laid,
+      );
+      visits = grind arith;
+    }
 
-module _ (best : Best) {p : PagesView} {k : KeeperView} {cursor : Option GuestPage} {passes : ℕ} {v : BookView} {page : GuestPage}
-    (at : Meets (λ b. MayJoin b best) p k cursor passes v page) (g : ℕ)
-    (lies : All (λ d. d.place ≡ best.place → ItemsLieOn d.number g p) p.dups) where
-  abbrev row : Row
-  row = at.row
+  -- ---------------------------------------------------------------- a page joins a dup
 
-  told : (d : DupRow) × (best_dup p.knobs p.rows p.dups row ≡ Some d) × ((best.number ≡ d.number) × (best.place ≡ d.place))
-  told = filled_by _ at.so.1
+  module _ (best : Best) (at : Meets (λ b. MayJoin b best) p k cursor passes v page) (g : ℕ)
+      (lies : All (λ d. d.place ≡ best.place → ItemsLieOn d.number g p) p.dups) where
+    abbrev row : Row
+    row = at.row
 
-  abbrev dup : DupRow
-  dup = told.0
+    told : (d : DupRow) × (best_dup p.knobs p.rows p.dups row ≡ Some d) × ((best.number ≡ d.number) × (best.place ≡ d.place))
+    told = filled_by _ at.so.1
 
-  -- what holds of all dups holds of this one, and what holds of all rows of its first item
-  among : (P : DupRow → Type 0) → All P p.dups → P dup
-  among P all = find_all _ P _ dup told.1 all
+    abbrev dup : DupRow
+    dup = told.0
 
-  live : Lives k.ledger p.dups p.shape p.rows p.frame dup
-  live = among (λ d. (item_count p.rows d ≡ 0 → ⊥) → Lives k.ledger p.dups p.shape p.rows p.frame d) (lives at.laid.placed)
-      (λ none. grind (arith, find_passes (is_best p.knobs p.rows p.dups row) p.dups dup told.1))
+    -- what holds of all dups holds of this one, and what holds of all rows of its first item
+    among : (P : DupRow → Type 0) → All P p.dups → P dup
+    among P all = find_all _ P _ dup told.1 all
 
-  abbrev item : Row
-  item = live.item
+    live : Lives k.ledger p.dups p.shape p.rows p.frame dup
+    live = among (λ d. (item_count p.rows d ≡ 0 → ⊥) → Lives k.ledger p.dups p.shape p.rows p.frame d) (lives at.laid.placed)
+        (λ none. grind (arith, find_passes (is_best p.knobs p.rows p.dups row) p.dups dup told.1))
 
-  of_item : (P : Row → Type 0) → All P p.rows → P item
-  of_item P all = find_all _ P _ _ live.first all
+    abbrev item : Row
+    item = live.item
 
-  item_merged : merged_state item.state ≡ true
-  item_merged = grind arith
+    of_item : (P : Row → Type 0) → All P p.rows → P item
+    of_item P all = find_all _ P _ _ live.first all
 
-  found_item : row_at item.page p.rows ≡ Some item
-  found_item = of_item (λ r. row_at r.page p.rows ≡ Some r) (each_at_page _ at.sound.rows_rise)
+    item_merged : merged_state item.state ≡ true
+    item_merged = grind arith
 
-  there : p.frame item.page ≡ Some g
-  there = of_item (λ r. merged_into dup.number r.state ≡ true → p.frame r.page ≡ Some g)
-      (among (λ d. d.place ≡ best.place → ItemsLieOn d.number g p) lies (sym told.2.1)) live.merged
+    found_item : row_at item.page p.rows ≡ Some item
+    found_item = of_item (λ r. row_at r.page p.rows ≡ Some r) (each_at_page _ at.sound.rows_rise)
 
-  joins : IsJoined (state_of p cursor passes) row dup
-  joins = best_dup_has_room _ row dup at.sound told.1
+    there : p.frame item.page ≡ Some g
+    there = of_item (λ r. merged_into dup.number r.state ≡ true → p.frame r.page ≡ Some g)
+        (among (λ d. d.place ≡ best.place → ItemsLieOn d.number g p) lies (sym told.2.1)) live.merged
 
-  same_bytes : row.bytes ≡ item.bytes
-  same_bytes =
-      let item_is = of_item (λ r. (number : ℕ) → r.state ≡ Merged number → (d : DupRow) × IsDupOf p.knobs p.dups r
-      number d) at.sound.items in
-      grind (arith, joins, live.merged, state_of_item dup.number item.state live.merged)
+    joins : IsJoined (state_of p cursor passes) row dup
+    joins = best_dup_has_room _ row dup at.sound told.1
 
-  few : item_count p.rows dup ≤ MOST_REFERENCES - 1
-  few = omega (arith, joins.room)
+    same_bytes : row.bytes ≡ item.bytes
+    same_bytes =
+        let item_is = of_item (λ r. (number : ℕ) → r.state ≡ Merged number → (d : DupRow) × IsDupOf p.knobs p.dups r
+        number d) at.sound.items in
+        grind (arith, joins, live.merged, state_of_item dup.number item.state live.merged)
 
-  stands : Contains p.dups dup
-  stands = among (Contains p.dups) (All-contains_itself _)
+    few : item_count p.rows dup ≤ MOST_REFERENCES - 1
+    few = omega (arith, joins.room)
 
-  -- the dup that a page is to join has room for one item more
-  pub has_room : HasRoom p.rows p.dups best.number
-  has_room = (dup, stands, sym told.2.0, few)
+    stands : Contains p.dups dup
+    stands = among (Contains p.dups) (All-contains_itself _)
 
-  -- a reference may come to the frame of the dup that a page is to join
-  pub may_add : May k (Add g)
-  may_add =
-      join_may at.laid at.sound.rows_rise _ row _ at.found found_item g there item_merged dup stands live.merged few
+    -- the dup that a page is to join has room for one item more
+    pub has_room : HasRoom p.rows p.dups best.number
+    has_room = (dup, stands, sym told.2.0, few)
 
-  abbrev change : Row → Row
-  change r = record r { state = Merged best.number }
+    -- a reference may come to the frame of the dup that a page is to join
+    pub may_add : May k (Add g)
+    may_add =
+        join_may at.laid at.sound.rows_rise _ row _ at.found found_item g there item_merged dup stands live.merged few
 
-  state_is : Merged best.number ≡ item.state
-  state_is = grind arith
+    abbrev change : Row → Row
+    change r = record r { state = Merged best.number }
 
-  -- once a reference came to the dup's frame, the joining page's own frame, if it has one, may be left
-  pub may_sub : (w : KeeperView) → MakesSteps k w (Add g ∷ []) → IfSome (p.frame page) (MayLeave w)
-  may_sub = may_part at.laid at.sound.rows_rise page row item at.found found_item g there item_merged change
-      (λ r. refl) state_is same_bytes
+    state_is : Merged best.number ≡ item.state
+    state_is = grind arith
 
-  module _ (lone : ℕ) (left : p.frame page ≡ Some lone) {w l : KeeperView} (comes : MakesSteps k w (Add g ∷ []))
-      (leaves : MakesSteps w l (Sub lone ∷ [])) (q : PagesView)
-      (goes : q ≡ record p { rows = change_row page change p.rows; frame = q.frame })
-      (frame : All (λ r. merged_into best.number r.state ≡ true → q.frame ≡ lies_on page (p.frame r.page) p.frame) p.rows) where
-    frame_is : q.frame ≡ lies_on page (Some g) p.frame
-    frame_is = grind (arith, there, of_item)
+    -- once a reference came to the dup's frame, the joining page's own frame, if it has one, may be left
+    pub may_sub : (w : KeeperView) → MakesSteps k w (Add g ∷ []) → IfSome (p.frame page) (MayLeave w)
+    may_sub = may_part at.laid at.sound.rows_rise page row item at.found found_item g there item_merged change
+        (λ r. refl) state_is same_bytes
 
-    q_is : q ≡ record p { rows = change_row page change p.rows; frame = lies_on page (Some g) p.frame }
-    q_is = grind (arith, frame_is)
+    module _ (lone : ℕ) (left : p.frame page ≡ Some lone) {w l : KeeperView} (comes : MakesSteps k w (Add g ∷ []))
+        (leaves : MakesSteps w l (Sub lone ∷ [])) (q : PagesView)
+        (goes : q ≡ record p { rows = change_row page change p.rows; frame = q.frame })
+        (frame : All (λ r. merged_into best.number r.state ≡ true → q.frame ≡ lies_on page (p.frame r.page) p.frame) p.rows) where
+      frame_is : q.frame ≡ lies_on page (Some g) p.frame
+      frame_is = grind (arith, there, of_item)
 
-    steps : MakesSteps k l (Add g ∷ leaving (p.frame page))
-    steps = rw left (made_then comes leaves)
+      q_is : q ≡ record p { rows = change_row page change p.rows; frame = lies_on page (Some g) p.frame }
+      q_is = grind (arith, frame_is)
 
-    -- once the page is an item of the dup and lies on the dup's frame, the book is what the visit leads to
-    pub joined_leads : Leads v q l cursor passes page
-    joined_leads =
-        leads at q l at.so.0
-        (rw q_is
-        (laid_joined at.laid at.sound.rows_rise _ row _ at.found found_item g there
-        item_merged _ (λ r. refl) state_is same_bytes l steps))
-        (grind (arith, q_is, page_is at, told, at.so))
-        (grind (arith, page_is at, live.first, there, steps, frame_is, told, at.so))
+      steps : MakesSteps k l (Add g ∷ leaving (p.frame page))
+      steps = rw left (made_then comes leaves)
 
--- ---------------------------------------------------------------- a page becomes Zero
+      -- once the page is an item of the dup and lies on the dup's frame, the book is what the visit leads to
+      pub joined_leads : Leads v q l cursor passes page
+      joined_leads =
+          leads at q l at.so.0
+          (rw q_is
+          (laid_joined at.laid at.sound.rows_rise _ row _ at.found found_item g there
+          item_merged _ (λ r. refl) state_is same_bytes l steps))
+          (grind (arith, q_is, page_is at, told, at.so))
+          (grind (arith, page_is at, live.first, there, steps, frame_is, told, at.so))
 
-module _ {p : PagesView} {k : KeeperView} {cursor : Option GuestPage} {passes : ℕ} {v : BookView} {page : GuestPage}
-    (at : Meets IsForZero p k cursor passes v page) where
-  abbrev zeroed : Row → Row
-  zeroed r = record r { state = Zero }
+  -- ---------------------------------------------------------------- a page becomes Zero
 
-  zero_hand : Placed p.shape p.knobs.merge_across_nodes k.ledger (change_row page zeroed p.rows) (lies_on page None p.frame) p.dups
-      (p.frame page)
-  zero_hand = swapped None _ _ at.sound.rows_rise at.found (λ r. refl) at.laid.placed refl
+  module _ (at : Meets IsForZero p k cursor passes v page) where
+    abbrev zeroed : Row → Row
+    zeroed r = record r { state = Zero }
 
-  -- the frame of a page that is to become Zero may be left
-  pub may_empty : {left : Option ℕ} → left ≡ p.frame page → IfSome left (MayLeave k)
-  may_empty was = rw was (may_leave k at.laid.same _ zero_hand)
+    zero_hand : Placed p.shape p.knobs.merge_across_nodes k.ledger (change_row page zeroed p.rows) (lies_on page None p.frame) p.dups
+        (p.frame page)
+    zero_hand = swapped None _ _ at.sound.rows_rise at.found (λ r. refl) at.laid.placed refl
 
-  -- once the page is Zero and has left its frame, the book is what the visit leads to
-  pub zero_leads : (q : PagesView) {l : KeeperView} {left : Option ℕ} → left ≡ p.frame page → MakesSteps k l (leaving left)
-      → q ≡ record p { rows = change_row page zeroed p.rows; frame = lies_on page None p.frame } → Leads v q l cursor passes page
-  zero_leads q {l} was made goes =
-      let leaves = subst (λ o. MakesSteps k l (leaving o)) was made in
-      leads at q l at.so.restless
-      (rw goes (laid_rows at.laid l (rw leaves.after) (left_spends _ leaves) (left_placed _ leaves zero_hand)))
-      (grind (arith, goes, page_is at, at.so)) (grind (arith, goes, page_is at, at.so))
+    -- the frame of a page that is to become Zero may be left
+    pub may_empty : {left : Option ℕ} → left ≡ p.frame page → IfSome left (MayLeave k)
+    may_empty was = rw was (may_leave k at.laid.same _ zero_hand)
+
+    -- once the page is Zero and has left its frame, the book is what the visit leads to
+    pub zero_leads : (q : PagesView) {l : KeeperView} {left : Option ℕ} → left ≡ p.frame page → MakesSteps k l (leaving left)
+        → q ≡ record p { rows = change_row page zeroed p.rows; frame = lies_on page None p.frame } → Leads v q l cursor passes page
+    zero_leads q {l} was made goes =
+        let leaves = subst (λ o. MakesSteps k l (leaving o)) was made in
+        leads at q l at.so.restless
+        (rw goes (laid_rows at.laid l (rw leaves.after) (left_spends _ leaves) (left_placed _ leaves zero_hand)))
+        (grind (arith, goes, page_is at, at.so)) (grind (arith, goes, page_is at, at.so))

@@ -178,25 +178,26 @@ module _ {p m : PagesView} {page : GuestPage} {node : ℕ} {bytes : List ℕ} (n
   pub come_alone : IsAlone page m.rows
   come_alone = grind (arith, found_fresh)
 
-  -- `Register` is carried out, and all lies lawfully, where the page comes on a frame taken with its bytes
-  pub register_come : {k l : KeeperView} {cursor : Option GuestPage} {passes : ℕ} {q : PagesView} {g : ℕ} → IsLaid p k → q ≡ record m { frame = lies_on page (Some g) m.frame } → Provides k l node bytes g → HasNewFrame k l node bytes g
-      → Carries p k q l cursor passes (Register page node bytes) (Ok Done)
-  register_come {l = l} {q = q} {g} h goes provides taken =
-      let there : q ≡ record p { rows = with_row fresh p.rows; frame = lies_on page (Some g) p.frame } =
-      grind (arith, goes, new.comes, new.others, lies_again) in (
-        grind arith,
-        rw there (laid_rows h l (provides_does provides).1.table taken.spent
-            (come_there h.same taken h.placed _ new.absent refl refl refl)),
-      )
+  module _ {k l : KeeperView} {cursor : Option GuestPage} {passes : ℕ} {q : PagesView} (h : IsLaid p k) where
+    -- `Register` is carried out, and all lies lawfully, where the page comes on a frame taken with its bytes
+    pub register_come : {g : ℕ} → q ≡ record m { frame = lies_on page (Some g) m.frame } → Provides k l node bytes g → HasNewFrame k l node bytes g
+        → Carries p k q l cursor passes (Register page node bytes) (Ok Done)
+    register_come {g} goes provides taken =
+        let there : q ≡ record p { rows = with_row fresh p.rows; frame = lies_on page (Some g) p.frame } =
+        grind (arith, goes, new.comes, new.others, lies_again) in (
+          grind arith,
+          rw there (laid_rows h l (provides_does provides).1.table taken.spent
+              (come_there h.same taken h.placed _ new.absent refl refl refl)),
+        )
 
-  -- `Register` is refused, and all lies lawfully, where no frame of the node was left and the page went again
-  pub register_turned : {k l : KeeperView} {cursor : Option GuestPage} {passes : ℕ} {q : PagesView} → IsLaid p k → p.frame page ≡ None → q ≡ record m { rows = without_page page m.rows; frame = lies_on page None m.frame } → FindsNone k l node
-      → Carries p k q l cursor passes (Register page node bytes) (Err (NoFrame node))
-  register_turned {q = q} h nowhere_there goes searched =
-      let rows = ap (λ (x : PagesView). without_page page x.rows) new.comes ∙ without_come _ _ new.rise new.absent in
-      let frame : lies_on page None m.frame ≡ p.frame = grind (arith, new.others, lies_again, lies_still) in
-      let back : q ≡ p = grind (arith, goes, new.comes) in
-      (grind arith, rw back (turned h searched).laid)
+    -- `Register` is refused, and all lies lawfully, where no frame of the node was left and the page went again
+    pub register_turned : p.frame page ≡ None → q ≡ record m { rows = without_page page m.rows; frame = lies_on page None m.frame } → FindsNone k l node
+        → Carries p k q l cursor passes (Register page node bytes) (Err (NoFrame node))
+    register_turned nowhere_there goes searched =
+        let rows = ap (λ (x : PagesView). without_page page x.rows) new.comes ∙ without_come _ _ new.rise new.absent in
+        let frame : lies_on page None m.frame ≡ p.frame = grind (arith, new.others, lies_again, lies_still) in
+        let back : q ≡ p = grind (arith, goes, new.comes) in
+        (grind arith, rw back (turned h searched).laid)
 
 -- ---------------------------------------------------------------- a dup that moves
 

@@ -46,42 +46,42 @@ module _ (visit : Visit) where
       ap (λ z. fold visit z pages) (All-head (Rests visit s.0) page pages rest s.1)
       ∙ resting pages s (All-tail (Rests visit s.0) page pages rest)
 
-  module _ (reached : Option GuestPage) where
+  module _ (reached : Option GuestPage) (b : BookState) where
     abbrev passed : GuestPage → Bool
     passed p = not (after_cursor reached p)
 
-    -- visits of more pages come to the same, where those of pages behind the cursor do nothing then
-    more : (t : GuestPage → Bool) (pages : List GuestPage) (s c : Stage) → fold visit s (filter passed pages) ≡ c
+    -- visits of more pages come to the same, where those of pages behind the cursor do nothing to the book reached
+    more : (t : GuestPage → Bool) (pages : List GuestPage) (s c : Stage) → fold visit s (filter passed pages) ≡ c → b ≡ c.0
         → AreAscending pages → All (λ q. passed q ≡ true → t q ≡ true) pages
-        → ((q : GuestPage) → after_cursor reached q ≡ true → t q ≡ true → Rests visit c.0 q) → fold visit s (filter t pages) ≡ c
-    more t [] s c came rise near rest = came
-    more t (p ∷ pages) s c came rise near rest = elim (cases_Bool (after_cursor reached p)) [
+        → ((q : GuestPage) → after_cursor reached q ≡ true → t q ≡ true → Rests visit b q) → fold visit s (filter t pages) ≡ c
+    more t [] s c came its rise near rest = came
+    more t (p ∷ pages) s c came its rise near rest = elim (cases_Bool (after_cursor reached p)) [
       | inl here ↦
           let behind = All-cons (λ q. after_cursor reached q ≡ true) p pages here
           (λ k d lt. after_later reached p (get_or pages k d) here (pairs_head Before p pages rise k d lt)) in
           let same : s ≡ c = ap (fold visit s) (sym (filter_none passed (p ∷ pages) (grind (arith, behind)))) ∙ came in
-          resting (filter t (p ∷ pages)) s (λ k d lt. subst (λ z. Rests visit z.0 (get_or (filter t (p ∷ pages)) k d)) (sym same)
+          resting (filter t (p ∷ pages)) s (λ k d lt. subst (λ z. Rests visit z (get_or (filter t (p ∷ pages)) k d)) (its ∙ ap (λ (z : Stage). z.0) (sym same))
           (rest _ (All-filter t (λ q. after_cursor reached q ≡ true) (p ∷ pages) behind k d lt)
           (filter_passes t (p ∷ pages) k d lt)))
           ∙ same
       | inr over ↦
           rw (near 0 p (omega arith) (ap not over))
-          (more t pages (visit s p) c (rw over at came) (pairs_tail Before p pages rise)
+          (more t pages (visit s p) c (rw over at came) its (pairs_tail Before p pages rise)
           (λ k d lt. near (suc k) d (omega arith)) rest)
     ]
 
     -- of pages in order those were visited that are not behind the cursor
-    module _ (s : Stage) (pages : List GuestPage) (rise : AreAscending pages) where
+    module _ (s : Stage) (pages : List GuestPage) (rise : AreAscending pages) (its : b ≡ (fold visit s (filter passed pages)).0) where
       abbrev came : Stage
       came = fold visit s (filter passed pages)
 
       -- visits of pages between the cursor and one behind it do nothing
       module _ (page : GuestPage) (behind : after_cursor reached page ≡ true)
-          (between : (q : GuestPage) → after_cursor reached q ≡ true → comes_before q page ≡ true → Rests visit came.0 q) where
+          (between : (q : GuestPage) → after_cursor reached q ≡ true → comes_before q page ≡ true → Rests visit b q) where
         before : fold visit s (filter (λ p. comes_before p page) pages) ≡ came
-        before = more (λ p. comes_before p page) pages s came refl rise (λ k d lt out. grind arith) between
+        before = more (λ p. comes_before p page) pages s came refl its rise (λ k d lt out. grind arith) between
 
-        next : (has_item page pages ≡ false → Rests visit came.0 page)
+        next : (has_item page pages ≡ false → Rests visit b page)
             → fold visit s (filter (λ p. not (comes_before page p)) pages) ≡ visit came page
         next out = elim (cases_Bool (has_item page pages)) [
           | inl there ↦
@@ -93,14 +93,14 @@ module _ (visit : Visit) where
               ∙ fold-append visit s (filter (λ p. comes_before p page) pages) (page ∷ [])
               ∙ ap (λ z. visit z page) before
           | inr off ↦
-              more (λ p. not (comes_before page p)) pages s came refl rise
+              more (λ p. not (comes_before page p)) pages s came refl its rise
               (λ k d lt out. grind (arith, after_later reached page (get_or pages k d) behind))
               (λ q after up. elim (cases_Bool (comes_before q page)) [
                 | inl low ↦ between q after low
                 | inr high ↦
-                    subst (Rests visit came.0) (same_page_eq page q (grind (arith, one_before page q))) (out off)
+                    subst (Rests visit b) (same_page_eq page q (grind (arith, one_before page q))) (out off)
               ])
-              ∙ sym (out off came.1)
+              ∙ sym (subst (λ z. Rests visit z page) its (out off) came.1)
         ]
 
 -- ---------------------------------------------------------------- a walk
@@ -154,10 +154,9 @@ module _ {visit : Visit} (is : IsVisit visit) {last : Option GuestPage} {old mid
   -- where visits of the pages left up to the last do nothing, all pages ahead up to it were visited
   pub walk_ends : ((q : GuestPage) → after_cursor reached q ≡ true → up_to last q ≡ true → Rests visit mid.state q)
       → Agree old (walked_to visit reached) (λ s. fold visit s (ahead_up_to last s.0))
-  walk_ends rest = agrees old (λ from deed there. let at = (w.comes from _ there).0 in sym (more visit reached (up_to last) pages (old.state, deed) _ refl rises
+  walk_ends rest = agrees old (λ from deed there. sym (more visit reached mid.state (up_to last) pages (old.state, deed) _ refl (w.comes from _ there).0 rises
       (λ k d lt out. w.within (get_or pages k d)
-      (filter_passes (after_cursor old.state.cursor) (mergeable_pages old.state.rows) k d lt) (grind arith))
-      (λ q after inside. subst (λ (b : BookState). Rests visit b q) at (rest q after inside))))
+      (filter_passes (after_cursor old.state.cursor) (mergeable_pages old.state.rows) k d lt) (grind arith)) rest))
 
   -- so they do up to a page behind the one reached
   module _ (page : GuestPage) (behind : after_cursor reached page ≡ true)
@@ -169,14 +168,13 @@ module _ {visit : Visit} (is : IsVisit visit) {last : Option GuestPage} {old mid
 
     -- the pages ahead before it were visited
     pub before_it : Agree old (walked_to visit reached) (λ s. fold visit s (ahead_before page s.0))
-    before_it = agrees old (λ from deed there. let at = (w.comes from _ there).0 in sym (before visit reached (old.state, deed) pages rises page behind
-        (λ q after low. subst (λ (b : BookState). Rests visit b q) at (between q after low))))
+    before_it = agrees old (λ from deed there. sym (before visit reached mid.state (old.state, deed) pages rises
+        (w.comes from _ there).0 page behind between))
 
     -- with its visit the pages ahead up to it were visited
     step : Agree old (walked_to visit (Some page)) (λ s. visit (walked_to visit reached s) page)
-    step = agrees old (λ from deed there. let at = (w.comes from _ there).0 in next visit reached (old.state, deed) pages rises page behind
-        (λ q after low. subst (λ (b : BookState). Rests visit b q) at (between q after low))
-        (λ off. subst (λ (b : BookState). Rests visit b page) at (is.calm mid.state page (grind (arith, is_ahead)))))
+    step = agrees old (λ from deed there. next visit reached mid.state (old.state, deed) pages rises
+        (w.comes from _ there).0 page behind between (λ off. is.calm mid.state page (grind (arith, is_ahead))))
 
     -- the walk has reached that page once it was visited
     pub walks_on : up_to last page ≡ true → {new : BookValue} → Comes mid new (λ s. visit s page)

@@ -1,9 +1,9 @@
 -- Visits as a fold over pages: which pages a pass still visits, and what the visit of each does to the book and to the
 -- frames (own).
-use Rattle.std.specs.Prelude.{◌≡◌, ℕ, zero, suc, Bool, true, false, List, fold, map, Option, Some, None, if◌then◌else◌}
+use Rattle.std.specs.Prelude.{◌≡◌, ℕ, zero, suc, Bool, false, List, fold, map, Option, Some, None, if◌then◌else◌}
 use Rattle.ksm_base.specs.declared.page.GuestPage.{GuestPage}
 use Rattle.ksm_base.specs.declared.row.Row.{Row}
-use Rattle.ksm_base.specs.Rows.{row_at, settled, shared_state}
+use Rattle.ksm_base.specs.Rows.{row_at, settled}
 use Rattle.ksm_base.specs.State.{BookState}
 use Rattle.ksm_pages.specs.Ahead.{mergeable_pages, pages_behind}
 use Rattle.ksm_pages.specs.Paged.{is_restless}

@@ -1,33 +1,37 @@
-use Rattle.ksm_book.proofs.DueBroken.{added_come, added_due, fewer_due, gone_due, left_dropped, registered_due, stays_due}
+use Rattle.ksm_book.proofs.DueBroken.{added_come, added_due, fewer_due, left_dropped, stays_due}
 use Rattle.ksm_book.proofs.DueKept.{more_due}
-use Rattle.ksm_book.proofs.Names.{AreDue, arith, MoveDup, Prune, SetPagesToScan}
+use Rattle.ksm_book.proofs.Names.{AreDue, arith, Drop, MoveDup, Prune, Register, Row, row_at, SetPagesToScan, Some, ◌≡◌}
 use Rattle.ksm_book.proofs.book.carry_out.Goals as goal
 
 pub returns-in-Register-command-clause-due : goal.returns-in-Register-command-clause-due
 returns-in-Register-command-clause-due c = λ known.
+    let b = c.args.state.now.state in
     let added = c.add.ensures known in
-    let due : AreDue c.args.state.now.state c.if-not-matches.due.pages = grind (arith, added.0) in
-    registered_due _ _ _ _ _ _ _ c.register.ensures (added_due c.args.state.now.state _ _ _ added.1 due)
-    (λ absent. added_come c.args.state.now.state _ _ _ added.1 due absent _ _)
+    let due : AreDue b c.if-not-matches.due.pages = grind (arith, added.0) in
+    stays_due _ _ (Register _ _ _) _ _ (λ _ is. added_come b _ _ _ added.1 due (grind arith) _ _)
+    (added_due b _ _ _ added.1 due) c.register.ensures
 
 pub returns-in-Drop-clause-due : goal.returns-in-Drop-clause-due
 returns-in-Drop-clause-due c = λ known.
+    let b = c.args.state.now.state in
     let left = c.note_leaving.ensures known in
-    let due : AreDue c.args.state.now.state c.if-not-matches.due.pages = grind (arith, left.0) in
-    gone_due _ _ _ _ _ c.drop_page.ensures (more_due c.args.state.now.state _ _ (λ p is. grind (arith, left.1 p)) due)
-    (λ row found. left_dropped _ _ _ _ due left.1 c.lies_lawfully.ensures.sound row found)
+    let due : AreDue b c.if-not-matches.due.pages = grind (arith, left.0) in
+    stays_due _ _ (Drop _) _ _ (λ _ is.
+    let at : (row : Row) × (row_at c.in-Drop.page b.rows ≡ Some row) = grind arith in
+    left_dropped _ _ _ _ due left.1 c.lies_lawfully.ensures.sound at.0 at.1)
+    (more_due b _ _ (λ p is. grind (arith, left.1 p)) due) c.drop_page.ensures
 
 pub returns-in-Prune-clause-due : goal.returns-in-Prune-clause-due
 returns-in-Prune-clause-due c = λ known.
     let due : AreDue c.args.state.now.state c.if-not-matches.due.pages = grind (arith, known) in
-    stays_due _ _ Prune _ _ (λ _. fewer_due c.args.state.now.state _ _ due) due c.prune.ensures
+    stays_due _ _ Prune _ _ (λ _ _. fewer_due c.args.state.now.state _ _ due) due c.prune.ensures
 
 pub returns-in-MoveDup-clause-due : goal.returns-in-MoveDup-clause-due
 returns-in-MoveDup-clause-due c = λ known.
     let due : AreDue c.args.state.now.state c.if-not-matches.due.pages = grind (arith, known) in
-    stays_due _ _ (MoveDup _ _) _ _ (λ _. due) due c.move_dup.ensures
+    stays_due _ _ (MoveDup _ _) _ _ (λ _ _. due) due c.move_dup.ensures
 
 pub returns-in-SetPagesToScan-clause-due : goal.returns-in-SetPagesToScan-clause-due
 returns-in-SetPagesToScan-clause-due c = λ known.
     let due : AreDue c.args.state.now.state c.if-not-matches.due.pages = grind (arith, known) in
-    stays_due _ _ (SetPagesToScan _) _ _ (λ _. due) due c.set_pages_to_scan.ensures
+    stays_due _ _ (SetPagesToScan _) _ _ (λ _ _. due) due c.set_pages_to_scan.ensures

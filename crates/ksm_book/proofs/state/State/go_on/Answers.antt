@@ -1,5 +1,5 @@
 use Rattle.ksm_book.proofs.Names.{Stage}
-use Rattle.ksm_book.proofs.Names.{ap, arith, begun, BookState, BookValue, Comes, Deed, has_item, InPageOrder, last_of, last_visited, length, None, pages_ahead, part_before}
+use Rattle.ksm_book.proofs.Names.{ap, arith, begun, BookValue, Comes, has_item, InPageOrder, last_of, last_visited, length, None, pages_ahead, part_before}
 use Rattle.ksm_book.proofs.Names.{part_visited, pass_ended_at_last, Some, sym, true, visit_begun, visits_beside, ◌*◌, ◌<◌, ◌∙◌, ◌≡◌, ◌≤◌}
 use Rattle.ksm_book.specs.Scanned.{ahead_before, passes_ended}
 use Rattle.ksm_book.proofs.Scanned.{begun_ahead, begun_still, page_made, passes_made, some_ahead, stopped_fewer, stopped_made}
