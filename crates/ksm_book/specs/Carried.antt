@@ -18,7 +18,7 @@ use Rattle.ksm_book.specs.Commands.{Mapped, IsIdle, TurnsAway, Admits, Resettles
 use Rattle.ksm_book.specs.Folded.{visits_beside}
 use Rattle.ksm_book.specs.Steps.{AllocatesOn}
 use Rattle.ksm_pages.specs.Paged.{Frames, Lodging, frame_of}
-use Rattle.ksm_book.specs.Whole.{BookView, mapped, nodes_got, HasShown}
+use Rattle.ksm_book.specs.Whole.{BookValue, BookView, mapped, nodes_got, HasShown, view_of}
 
 -- a page with a frame of its own is stored to in place, a merged or Zero one gets a new frame first
 abbrev pub StoresTo : Mapped → Mapped → List ℕ → Row → Type 0
@@ -80,7 +80,11 @@ pub record IsCarried (v w : BookView) (command : Command) (given : Answer) : Typ
   -- the steps that it made, and no others, and the frame of each page after them
   pub steps : TakesSteps v w command given
 
--- the same, and what follows from its steps: the table kept, the frames given, and what the log shows of the answer
+-- the same, of the values of books
+abbrev pub CarriesOut : BookValue → BookValue → Command → Answer → Type 0
+CarriesOut old new = IsCarried (view_of old) (view_of new)
+
+-- what is carried out, and what follows from its steps: the table kept, the frames given, and what the log shows of the answer
 pub record CarriedOut (v w : BookView) (command : Command) (given : Answer) : Type 0 where
   -- the command was carried out
   pub done : IsCarried v w command given

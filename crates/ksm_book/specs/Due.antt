@@ -37,6 +37,10 @@ waits_on b r =
 abbrev pub AreDue : BookState → List GuestPage → Type 0
 AreDue b pages = All (λ r. is_restless r ≡ true → has_item r.page pages ≡ false → waits_on b r ≡ true) b.rows
 
+-- where it is known which pages are due, it is these
+abbrev pub TellsDue : DueView → BookState → Type 0
+TellsDue due b = due.known ≡ true → AreDue b due.pages
+
 -- there is a row, and it comes after the page
 abbrev pub comes_later : GuestPage → Option Row → Bool
 comes_later page None = false

@@ -11,13 +11,12 @@ ghost use Rattle.ksm_base.specs.Refusals.{is_known};
 ghost use Rattle.ksm_base.specs.State.{opening};
 ghost use Rattle.ksm_base.specs.Values.{IsShape};
 ghost use Rattle.frame_core.specs.Ledger.{first_ledger};
-ghost use Rattle.ksm_book.specs.Carried.{CarriedOut, IsCarried, unjournaled};
-ghost use Rattle.ksm_book.specs.Due.{AreDue};
+ghost use Rattle.ksm_book.specs.Carried.{CarriedOut, CarriesOut, unjournaled};
+ghost use Rattle.ksm_book.specs.Due.{TellsDue};
 ghost use Rattle.ksm_pages.specs.Paged.{nowhere};
 ghost use Rattle.ksm_book.specs.Laid.{LoadsIf};
 ghost use Rattle.ksm_base.specs.Sound.{IsSound};
 ghost use Rattle.ksm_book.specs.Keeping.{spent};
-ghost use Rattle.ksm_book.specs.Whole.{view_of};
 ghost use Rattle.ksm_book.specs.Promised.{FindsPlace, LieOn, NumbersAreSmall};
 
 use crate::due::Due;
@@ -48,7 +47,7 @@ impl Model for Book {
     ghost use Rattle.std.specs.Prelude.{◌≡◌, true};
     ghost use Rattle.ksm_base.specs.Journal.{IsLegal};
     ghost use Rattle.ksm_book.specs.Carried.{JournaledBook};
-    ghost use Rattle.ksm_book.specs.Due.{AreDue};
+    ghost use Rattle.ksm_book.specs.Due.{TellsDue};
 
     ghost Value = { JournaledBook };
 
@@ -61,7 +60,7 @@ impl Model for Book {
     } };
 
     ghost invariant = { λ b. IsLegal b.state.keeper.table.shape b.journal.entries b.state.state
-        × (b.due.known ≡ true → AreDue b.state.state b.due.pages) };
+        × TellsDue b.due b.state.state };
 }
 
 impl Book {
@@ -214,9 +213,9 @@ fn carry_out(
     command: &Command,
 ) -> Result<Reply, Fault>
     requires own { state.old.keeper.table ≡ table.now }
-    requires due { due.old.known ≡ true → AreDue state.old.state due.old.pages }
-    ensures carried { IsCarried (view_of state.old) (view_of state.new) command.now result }
-    ensures due { due.new.known ≡ true → AreDue state.new.state due.new.pages }
+    requires due { TellsDue due.old state.old.state }
+    ensures carried { CarriesOut state.old state.new command.now result }
+    ensures due { TellsDue due.new state.new.state }
 {
     if !matches!(
         command,

@@ -9,7 +9,7 @@ ghost use Rattle.std.specs.Prelude.{◌≡◌, true, None, IfErr, IfOk, OnErr, O
 ghost use Rattle.ksm_base.specs.Rows.{change_row, settled};
 ghost use Rattle.ksm_rmap.specs.Items.{has_item};
 ghost use Rattle.ksm_pages.specs.Paged.{IsAlone};
-ghost use Rattle.ksm_book.specs.Due.{AreDue, due_visited, hidden_from};
+ghost use Rattle.ksm_book.specs.Due.{AreDue, due_visited, hidden_from, TellsDue};
 ghost use Rattle.ksm_book.specs.DuePass.{StaysBefore, StopsInPart, TakesOver, part_visited, with_rows};
 ghost use Rattle.ksm_book.specs.Folded.{restless_at};
 ghost use Rattle.ksm_book.specs.Scanned.{Comes, HasVisited};
@@ -30,7 +30,7 @@ impl State {
         requires due { AreDue self.old.state due.old.pages }
         requires start { self.old.state.cursor ≡ None }
         ensures visited { IfOk result (λ quiet. HasVisited self.old self.new (part_visited None) quiet) }
-        ensures due { due.new.known ≡ true → AreDue self.new.state due.new.pages }
+        ensures due { TellsDue due.new self.new.state }
         ensures stopped { IfErr result (λ page. StopsInPart self.old self.new None page) }
     {
         self.lies_lawfully();

@@ -2,8 +2,7 @@
 
 ghost use Rattle.std.specs.Prelude.{◌≡◌};
 ghost use Rattle.ksm_base.specs.Refusals.{changes_while_shared};
-ghost use Rattle.ksm_book.specs.Carried.{IsCarried};
-ghost use Rattle.ksm_book.specs.Whole.{view_of};
+ghost use Rattle.ksm_book.specs.Carried.{CarriesOut};
 
 use crate::settling::drop_stale;
 use crate::state::State;
@@ -13,7 +12,7 @@ use ksm_base::{Command, Fault, Knobs, MOST_REFERENCES, Reply};
 impl State {
     /// Sets how many pages a scan visits.
     pub fn set_pages_to_scan(&mut self, pages: u32) -> Result<Reply, Fault>
-        ensures { IsCarried (view_of self.old) (view_of self.new) (Command.SetPagesToScan pages) result }
+        ensures { CarriesOut self.old self.new (Command.SetPagesToScan pages) result }
     {
         if !(1..=1_000_000).contains(&pages) {
             return Err(Fault::BadValue);
@@ -36,7 +35,7 @@ impl State {
     /// Sets whether pages of different nodes may be merged.
     pub fn set_across(&mut self, table: &FrameTable, across: u32) -> Result<Reply, Fault>
         requires own { self.old.keeper.table ≡ table.now }
-        ensures { IsCarried (view_of self.old) (view_of self.new) (Command.SetAcross across) result }
+        ensures { CarriesOut self.old self.new (Command.SetAcross across) result }
     {
         if across > 1 {
             return Err(Fault::BadValue);
@@ -60,7 +59,7 @@ impl State {
     /// Sets how many items a dup may have.
     pub fn set_limit(&mut self, table: &FrameTable, limit: u32) -> Result<Reply, Fault>
         requires own { self.old.keeper.table ≡ table.now }
-        ensures { IsCarried (view_of self.old) (view_of self.new) (Command.SetLimit limit) result }
+        ensures { CarriesOut self.old self.new (Command.SetLimit limit) result }
     {
         if !(2..=MOST_REFERENCES).contains(&u64::from(limit)) {
             return Err(Fault::BadValue);
@@ -82,7 +81,7 @@ impl State {
 
     /// Sets whether empty pages merge with the zero page.
     pub fn set_zero_pages(&mut self, zero_pages: u32) -> Result<Reply, Fault>
-        ensures { IsCarried (view_of self.old) (view_of self.new) (Command.SetZeroPages zero_pages) result }
+        ensures { CarriesOut self.old self.new (Command.SetZeroPages zero_pages) result }
     {
         if zero_pages > 1 {
             return Err(Fault::BadValue);
@@ -98,7 +97,7 @@ impl State {
     /// Sets whether the scan stands (0) or runs (1), or unmerges all pages (2).
     pub fn set_run(&mut self, table: &FrameTable, run: u32) -> Result<Reply, Fault>
         requires own { self.old.keeper.table ≡ table.now }
-        ensures { IsCarried (view_of self.old) (view_of self.new) (Command.SetRun run) result }
+        ensures { CarriesOut self.old self.new (Command.SetRun run) result }
     {
         if run > 2 {
             return Err(Fault::BadValue);

@@ -1,10 +1,9 @@
 //! The command that moves a dup to another frame: its refusals, and the move.
 
 ghost use Rattle.std.specs.Prelude.{◌≡◌};
-ghost use Rattle.ksm_book.specs.Carried.{IsCarried};
+ghost use Rattle.ksm_book.specs.Carried.{CarriesOut};
 ghost use Rattle.ksm_book.specs.Laid.{HasRemounted, MayMove};
 ghost use Rattle.ksm_pages.specs.Paged.{seen};
-ghost use Rattle.ksm_book.specs.Whole.{view_of};
 
 use crate::frame_keeper::FrameKeeper;
 use crate::frames::find_frame;
@@ -46,7 +45,7 @@ impl State {
     /// Moves the dup with items at a place to another frame of a node.
     pub fn move_dup(&mut self, table: &FrameTable, place: u32, node: u32) -> Result<Reply, Fault>
         requires own { self.old.keeper.table ≡ table.now }
-        ensures { IsCarried (view_of self.old) (view_of self.new) (Command.MoveDup place node) result }
+        ensures { CarriesOut self.old self.new (Command.MoveDup place node) result }
     {
         if node >= self.pages.shape().nodes {
             return Err(Fault::BadNode);

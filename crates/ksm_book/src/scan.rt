@@ -7,14 +7,13 @@
 ghost use Rattle.std.specs.Prelude.{◌≡◌, ◌&&◌, ◌≤◌, [], true, None, Some, IfOk, IfErr, length, option_map};
 ghost use Rattle.ksm_base.specs.Visit.{pass_begun, pass_ended_at_last};
 ghost use Rattle.ksm_pages.specs.Ahead.{EndsAt, mergeable_pages};
-ghost use Rattle.ksm_book.specs.Carried.{IsCarried};
-ghost use Rattle.ksm_book.specs.Due.{AreDue};
+ghost use Rattle.ksm_book.specs.Carried.{CarriesOut};
+ghost use Rattle.ksm_book.specs.Due.{AreDue, TellsDue};
 ghost use Rattle.ksm_book.specs.DuePass.{StopsInPart, part_visited};
 ghost use Rattle.ksm_book.specs.Folded.{pages_ahead, pages_visited};
 ghost use Rattle.ksm_book.specs.Scanned.{Comes, FindsUpTo, GoesOn, HasVisited, StopsBefore, StopsShort};
 ghost use Rattle.ksm_book.specs.Scanned.{ahead_up_to, is_nowhere, is_quiet, last_visited};
 ghost use Rattle.ksm_book.specs.Scanned.{passes_ended};
-ghost use Rattle.ksm_book.specs.Whole.{view_of};
 
 use crate::due::Due;
 use crate::state::State;
@@ -186,9 +185,9 @@ impl State {
         last: Option<GuestPage>,
     ) -> Result<bool, GuestPage>
         requires own { self.old.keeper.table ≡ table.now }
-        requires due { due.old.known ≡ true → AreDue self.old.state due.old.pages }
+        requires due { TellsDue due.old self.old.state }
         ensures visited { IfOk result (λ quiet. HasVisited self.old self.new (part_visited last) quiet) }
-        ensures due { due.new.known ≡ true → AreDue self.new.state due.new.pages }
+        ensures due { TellsDue due.new self.new.state }
         ensures stopped { IfErr result (λ page. StopsInPart self.old self.new last page) }
     {
         let whole = self.is_whole(last);
@@ -211,8 +210,8 @@ impl State {
         requires own { self.old.keeper.table ≡ table.now }
         requires most { 1 ≤ most }
         requires some { 1 ≤ length (mergeable_pages self.old.state.rows) }
-        requires due { due.old.known ≡ true → AreDue self.old.state due.old.pages }
-        ensures due { due.new.known ≡ true → AreDue self.new.state due.new.pages }
+        requires due { TellsDue due.old self.old.state }
+        ensures due { TellsDue due.new self.new.state }
         ensures made { IfOk result (λ made. GoesOn self.old self.new most made) }
         ensures stopped { IfErr result (λ made. StopsShort self.old self.new most made) }
     {
@@ -243,9 +242,9 @@ impl State {
     #[inline(never)]
     pub fn scan(&mut self, table: &FrameTable, due: &mut Due, count: u64) -> Result<Reply, Fault>
         requires own { self.old.keeper.table ≡ table.now }
-        requires due { due.old.known ≡ true → AreDue self.old.state due.old.pages }
-        ensures carried { IsCarried (view_of self.old) (view_of self.new) (Command.Scan count) result }
-        ensures due { due.new.known ≡ true → AreDue self.new.state due.new.pages }
+        requires due { TellsDue due.old self.old.state }
+        ensures carried { CarriesOut self.old self.new (Command.Scan count) result }
+        ensures due { TellsDue due.new self.new.state }
     {
         if self.pages.knobs().run != 1 {
             return Err(Fault::NotRunning);

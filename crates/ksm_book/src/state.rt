@@ -11,13 +11,12 @@ ghost use Rattle.ksm_base.specs.Reading.{bytes_of};
 ghost use Rattle.ksm_base.specs.declared.fault.Fault.TheVariants.{Memory};
 ghost use Rattle.ksm_base.specs.Sound.{IsSound};
 ghost use Rattle.frame_core.specs.Ledger.{first_ledger};
-ghost use Rattle.ksm_book.specs.Carried.{IsCarried};
-ghost use Rattle.ksm_book.specs.Due.{AreDue};
+ghost use Rattle.ksm_book.specs.Carried.{CarriesOut};
 ghost use Rattle.ksm_book.specs.Whole.{view_of};
 ghost use Rattle.ksm_book.specs.Keeping.{spent};
 ghost use Rattle.ksm_book.specs.Laid.{LoadsIf};
 ghost use Rattle.ksm_rmap.specs.Items.{has_item};
-ghost use Rattle.ksm_book.specs.Due.{names};
+ghost use Rattle.ksm_book.specs.Due.{names, TellsDue};
 ghost use Rattle.ksm_pages.specs.Paged.{IsAlone, IsKnown, nowhere, page_beside};
 ghost use Rattle.ksm_book.specs.Promised.{FindsPlace, LieOn, NumbersAreSmall};
 
@@ -132,7 +131,7 @@ impl State {
         bytes: &PageBytes,
     ) -> Result<Reply, Fault>
         requires own { self.old.keeper.table ≡ table.now }
-        ensures { IsCarried (view_of self.old) (view_of self.new) (Command.Register page node bytes.now) result }
+        ensures { CarriesOut self.old self.new (Command.Register page node bytes.now) result }
     {
         let shape = self.pages.shape();
         if node >= shape.nodes {
@@ -163,9 +162,9 @@ impl State {
         bytes: &PageBytes,
     ) -> Result<Reply, Fault>
         requires own { self.old.keeper.table ≡ table.now }
-        requires due { due.old.known ≡ true → AreDue self.old.state due.old.pages }
-        ensures carried { IsCarried (view_of self.old) (view_of self.new) (Command.Store page bytes.now) result }
-        ensures due { due.new.known ≡ true → AreDue self.new.state due.new.pages }
+        requires due { TellsDue due.old self.old.state }
+        ensures carried { CarriesOut self.old self.new (Command.Store page bytes.now) result }
+        ensures due { TellsDue due.new self.new.state }
     {
         let Some(held) = self.pages.held(page) else {
             return Err(Fault::UnknownPage);
@@ -194,10 +193,10 @@ impl State {
     #[inline(always)]
     fn note_store(&self, due: &mut Due, spot: Spot)
         requires own { IsAlone spot.page self.now.state.rows }
-        requires due { due.old.known ≡ true → AreDue self.now.state due.old.pages }
-        ensures { due.new.known ≡ true → (bytes : List ℕ) → AreDue (record self.now.state {
+        requires due { TellsDue due.old self.now.state }
+        ensures { (bytes : List ℕ) → TellsDue due.new (record self.now.state {
           rows = change_row spot.page (stored bytes) self.now.state.rows;
-        }) due.new.pages }
+        }) }
     {
         if !due.is_known() {
             return;
@@ -210,11 +209,11 @@ impl State {
     // Bytes are about to be stored to a page that is merged or Zero. It is due from now on, with what may join its dup.
     fn note_break(&self, due: &mut Due, spot: Spot)
         requires known { IsKnown spot.page self.now.state.rows }
-        requires due { due.old.known ≡ true → AreDue self.now.state due.old.pages }
-        ensures kept { due.new.known ≡ true → AreDue self.now.state due.new.pages }
-        ensures broken { due.new.known ≡ true → (bytes : List ℕ) → AreDue (record self.now.state {
+        requires due { TellsDue due.old self.now.state }
+        ensures kept { TellsDue due.new self.now.state }
+        ensures broken { (bytes : List ℕ) → TellsDue due.new (record self.now.state {
           rows = change_row spot.page (stored bytes) self.now.state.rows;
-        }) due.new.pages }
+        }) }
     {
         self.lies_lawfully();
         self.note_leaving(due, spot);
@@ -241,7 +240,7 @@ impl State {
     /// Drops a page: its row goes, and so does its reference on a frame.
     pub fn drop_page(&mut self, table: &FrameTable, page: GuestPage) -> Result<Reply, Fault>
         requires own { self.old.keeper.table ≡ table.now }
-        ensures { IsCarried (view_of self.old) (view_of self.new) (Command.Drop page) result }
+        ensures { CarriesOut self.old self.new (Command.Drop page) result }
     {
         let Some(held) = self.pages.held(page) else {
             return Err(Fault::UnknownPage);
@@ -261,7 +260,7 @@ impl State {
     /// All stale dups go.
     pub fn prune(&mut self, table: &FrameTable) -> Result<Reply, Fault>
         requires own { self.old.keeper.table ≡ table.now }
-        ensures { IsCarried (view_of self.old) (view_of self.new) Command.Prune result }
+        ensures { CarriesOut self.old self.new Command.Prune result }
     {
         let count = drop_stale(&mut self.pages, &mut self.keeper, table);
         Ok(Reply::Pruned(count))
@@ -275,7 +274,7 @@ impl State {
         node: u32,
     ) -> Result<Reply, Fault>
         requires own { self.old.keeper.table ≡ table.now }
-        ensures { IsCarried (view_of self.old) (view_of self.new) (Command.MovePage page node) result }
+        ensures { CarriesOut self.old self.new (Command.MovePage page node) result }
     {
         if node >= self.pages.shape().nodes {
             return Err(Fault::BadNode);

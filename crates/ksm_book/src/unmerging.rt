@@ -4,8 +4,7 @@
 ghost use Rattle.std.specs.Prelude.{◌≡◌, ◌<◌, All, IfErr, IfOk, true};
 ghost use Rattle.ksm_base.specs.Refusals.{is_of};
 ghost use Rattle.ksm_base.specs.Rows.{change_rows};
-ghost use Rattle.ksm_book.specs.Carried.{IsCarried};
-ghost use Rattle.ksm_book.specs.Whole.{view_of};
+ghost use Rattle.ksm_book.specs.Carried.{CarriesOut};
 ghost use Rattle.ksm_book.specs.Laid.{IsLaid};
 ghost use Rattle.ksm_pages.specs.Paged.{IsHeld, seen};
 ghost use Rattle.ksm_book.specs.Unmerged.{HasLeft, MayNotLeave, Unshares};
@@ -107,7 +106,7 @@ impl State {
     /// up to there leave the scan.
     pub fn unmerge(&mut self, table: &FrameTable, guest: u16) -> Result<Reply, Fault>
         requires own { self.old.keeper.table ≡ table.now }
-        ensures { IsCarried (view_of self.old) (view_of self.new) (Command.Unmerge guest) result }
+        ensures { CarriesOut self.old self.new (Command.Unmerge guest) result }
     {
         if self.pages.next(Some(guest), None).is_none() {
             return Err(Fault::UnknownPage);
@@ -118,7 +117,7 @@ impl State {
 
     /// All pages of a guest become mergeable.
     pub fn mergeable(&mut self, guest: u16) -> Result<Reply, Fault>
-        ensures { IsCarried (view_of self.old) (view_of self.new) (Command.Mergeable guest) result }
+        ensures { CarriesOut self.old self.new (Command.Mergeable guest) result }
     {
         if self.pages.next(Some(guest), None).is_none() {
             return Err(Fault::UnknownPage);
@@ -131,7 +130,7 @@ impl State {
     /// are Private and not unchanged, and the next scan begins a pass; else the scan stands.
     pub fn unshare(&mut self, table: &FrameTable) -> Result<Reply, Fault>
         requires own { self.old.keeper.table ≡ table.now }
-        ensures { IsCarried (view_of self.old) (view_of self.new) (Command.SetRun 2) result }
+        ensures { CarriesOut self.old self.new (Command.SetRun 2) result }
     {
         let knobs = self.pages.knobs();
         let (pages, stop) = unshare_each(&mut self.pages, &mut self.keeper, table, None);

@@ -3,7 +3,7 @@ use Rattle.ksm_book.proofs.Names.{arith, Row, row_at, Some, ◌≡◌}
 use Rattle.ksm_book.proofs.state.State.note_break.Goals as goal
 
 pub returns-clause-broken : goal.returns-clause-broken
-returns-clause-broken c = λ known bytes.
+returns-clause-broken c = λ bytes known.
     let added = c.add.ensures known in
     let left = c.note_leaving.ensures added.0 in
     let at : (row : Row) × (row_at c.args.spot.page c.args.self.now.state.rows ≡ Some row) = grind arith in

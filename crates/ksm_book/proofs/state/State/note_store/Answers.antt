@@ -10,14 +10,14 @@ rise : (c : After-waits) → InPageOrder c.args.self.now.state.rows
 rise c = rw (← c.self.view_is) c.self.invariant.0.rows_rise
 
 pub returns-then-waits : goal.returns-then-waits
-returns-then-waits c = λ known bytes.
+returns-then-waits c = λ bytes known.
     let added = c.add.ensures known in
     stored_due c.args.self.now.state _ bytes _ (rise ((goal.at.returns-then-waits c).After-waits)) c.requires.own
     (more_due c.args.self.now.state _ _ (λ p is. grind (arith, added.1 p)) (c.requires.due added.0))
     (grind (arith, added.1, same_page_refl))
 
 pub returns-else-waits : goal.returns-else-waits
-returns-else-waits c = λ known bytes.
+returns-else-waits c = λ bytes known.
     let told : MatchOption (row_at c.args.spot.page c.args.self.now.state.rows) (c.waits.result ≡ false)
     (λ r. c.waits.result ≡ waiting_state r.state) = rw (← c.self.view_is) c.waits.ensures in
     stored_due c.args.self.now.state _ bytes _ (rise ((goal.at.returns-else-waits c).After-waits)) c.requires.own

@@ -1,4 +1,5 @@
-use Rattle.ksm_book.proofs.Names.{AreDue, arith, BookValue, Comes, false, list_any, list_any_none, None, none_counted, refl, Some, subst, sym, true, ◌+◌, ◌∙◌, ◌≡◌, ◌≤◌}
+use Rattle.ksm_book.proofs.Names.{arith, BookValue, Comes, false, list_any, list_any_none, None, none_counted, refl, Some, subst, sym, true, ◌+◌, ◌∙◌, ◌≡◌, ◌≤◌}
+use Rattle.ksm_book.specs.Due.{TellsDue}
 use Rattle.ksm_base.specs.declared.fault.Fault.TheVariants.{Memory}
 use Rattle.ksm_book.specs.contracts.state.State.{the_view}
 use Rattle.ksm_book.proofs.Folded.{beside_on, visits_mergeable}
@@ -25,7 +26,7 @@ pub loop-done-init : goal.loop-done-init
 loop-done-init c =
     let same : the_view (record c.self.inside { pages = c.list_restless.new.self }) ≡ c.args.self.now = rw c.list_restless.ensures c.self.view_is in
     subst (λ (v : BookValue). (0 ≤ c.args.count) × Comes c.args.self.now v (λ s. s)
-    × (c.args.due.now.known ≡ true → AreDue v.state c.args.due.now.pages)) (sym same) (omega arith, λ from s before. before, c.requires.due)
+    × TellsDue c.args.due.now v.state) (sym same) (omega arith, λ from s before. before, c.requires.due)
 
 pub go_on-requires-clause-own : goal.go_on-requires-clause-own
 go_on-requires-clause-own c = comes_own c.args.self.now c.loop-done.self _ c.loop-done.invariant.1 ∙ c.requires.own

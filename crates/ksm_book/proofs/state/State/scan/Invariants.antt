@@ -1,10 +1,11 @@
-use Rattle.ksm_book.proofs.Names.{AreDue, Comes, true, visits_beside, ◌-◌, ◌≡◌, ◌≤◌}
+use Rattle.ksm_book.proofs.Names.{Comes, visits_beside, ◌-◌, ◌≤◌}
+use Rattle.ksm_book.specs.Due.{TellsDue}
 use Rattle.ksm_book.proofs.state.State.scan.Given as goal
 
 abbrev pub invariant-loop-done : goal.invariant-loop-done
 invariant-loop-done l =
     (l.done ≤ l.count) × Comes l.fn.self l.self (visits_beside l.done)
-    × (l.due.known ≡ true → AreDue l.self.state l.due.pages)
+    × TellsDue l.due l.self.state
 
 abbrev pub decreases-loop-done : goal.decreases-loop-done
 decreases-loop-done l = l.count - l.done

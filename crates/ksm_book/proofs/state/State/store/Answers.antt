@@ -55,4 +55,4 @@ invariant_of-self-then-held c = lawful c.self.invariant.0 (copied c)
 pub returns-then-held-clause-due : goal.returns-then-held-clause-due
 returns-then-held-clause-due c = λ known.
     let pages = c.note_break.new.due.pages in
-    grind (arith, (copied c).0.state, c.self.view_is, c.note_break.ensures.broken known c.args.bytes.now)
+    grind (arith, (copied c).0.state, c.self.view_is, c.note_break.ensures.broken c.args.bytes.now known)
