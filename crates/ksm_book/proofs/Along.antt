@@ -90,12 +90,7 @@ module _ {asked : Row → Bool} {f : Row → Row} (keeps : (r : Row) → (f r).p
     place k d lt asks =
         let r = get_or rows k d in
         let low = found_first (λ (x : Row). x.page) (next_of asked last) rows row rise next_is.1 k d lt in
-        elim (cases_Bool (after_cursor last r.page)) [
-          | inl behind ↦ grind (arith, low, next_is.2)
-          | inr over ↦
-              let high : comes_before page r.page ≡ false = grind (arith, after_later last page r.page, at_cursor) in
-              grind (arith, one_before page r.page, same_page_eq page r.page, at_cursor)
-        ]
+        grind (arith, low, next_is.2, after_later last page r.page, at_cursor, one_before page r.page, same_page_eq page r.page)
 
     at_page : row_at page rows ≡ Some row
     at_page = subst (λ q. row_at q rows ≡ Some row) next_is.2

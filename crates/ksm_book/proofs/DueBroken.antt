@@ -2,8 +2,8 @@
 -- bytes may come to join its dup by that, so no other page becomes due. And commands by which no page becomes due.
 use Rattle.ksm_base.specs.Answers.{IsAnswerOrMemory}
 use Rattle.ksm_book.proofs.Names.{All, All-filter, all_changed, all_with_row, Answer, AreDue, arith, BookState, BookView, Bool, bytes_eq, bytes_eq-Decides, change_row, Command, count_with_row}
-use Rattle.ksm_book.proofs.Names.{count_without_page, Drop, dup_of_item, DupRow, effect, Err, false, filter, find_all, find_none, fresh_row, get_or, GuestPage, has_item, InPageOrder, IsAlone, IsCarried, IsDupOf}
-use Rattle.ksm_book.proofs.Names.{IsSound, item_count, List, MatchOption, may_join, merged_into, merged_state, nat_tests, None, Ok, Option, partner, refl, Register, Reply, Row, row_at, same_page, same_page_refl}
+use Rattle.ksm_book.proofs.Names.{count_without_page, dup_of_item, DupRow, effect, Err, false, filter, find_all, find_none, fresh_row, get_or, GuestPage, has_item, InPageOrder, IsAlone, IsCarried, IsDupOf}
+use Rattle.ksm_book.proofs.Names.{IsSound, item_count, List, MatchOption, may_join, merged_into, merged_state, nat_tests, None, Ok, Option, refl, Reply, Row, row_at, same_page, same_page_refl}
 use Rattle.ksm_book.proofs.Names.{same_page_sym, shared_state, Some, stored, sym, tree_of, true, waiting_state, waits_for, waits_on, with_row, without_page, ℕ, ◌&&◌, ◌==◌, ◌||◌, ◌≡◌}
 use Rattle.ksm_book.proofs.DueKept.{count_kept, more_due, on_still, WaitsElse, own_due}
 use Rattle.ksm_pages.specs.Paged.{page_beside}
@@ -22,11 +22,7 @@ module _ (b : BookState) (sound : IsSound b) (page : GuestPage) (row : Row) (fou
 
   -- a row that waits for the row, which is merged, is of that page
   is_beside : merged_state row.state ≡ true → All (λ r. waits_for b.knobs row r ≡ true → names r.page beside ≡ true) b.rows
-  is_beside merged k d lt waits = by _ refl
-    where
-      by : (o : Option Row) → partner b.knobs b.rows row ≡ o → names (get_or b.rows k d).page beside ≡ true
-      by None none = grind (arith, find_none)
-      by (Some w) is = grind (arith, one_waits b row w sound is k d lt waits, same_page_refl w.page)
+  is_beside merged k d lt waits = grind (arith, find_none, one_waits, same_page_refl)
 
   -- so is a row that waits, of the tree and content of a dup into which the row is merged
   is_of_dup : All (λ r. waiting_state r.state ≡ true → names r.page beside ≡ false

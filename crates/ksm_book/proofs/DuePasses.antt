@@ -93,12 +93,13 @@ pub part_stops : {old mid : BookValue} (next new : BookValue) {last : Option Gue
     (w : IsWalking due_visited None old mid last) → AreDue mid.state due → (page : GuestPage) → FindsFirst last due (Some page)
     → old.state.cursor ≡ None → StaysBefore page mid next → restless_at page mid.state.rows ≡ true
     → view_of new ≡ record (view_of next) { state = hidden_from page next.state } → StopsInPart old new None page
-part_stops {old} next new due w are page first start stays restless hides = record {
-  within = refl;
-  ahead = is_ahead visits_due w page first.1 (rests_due due w are (λ q. comes_before q page) first.2) restless;
-  comes = comes_as new (agrees old (λ _ deed _. before_part old.state deed w.began start page)) (λ from s before.
-      let there = subst (ReachedBefore page from next) ((before_it visits_due w page first.1 (rests_due due w are (λ q. comes_before q page) first.2)).same from s before)
-      (stays from _ (w.comes from s before)) in
-      subst (λ (b : BookState). Reached from new (b, (due_visits s (ahead_before page s.0)).1)) there.0
-      (changed_comes next new (hidden_from page) hides from (next.state, (due_visits s (ahead_before page s.0)).1) (refl, there.1)));
-}
+part_stops {old} next new due w are page first start stays restless hides =
+    let rests = rests_due due w are (λ q. comes_before q page) first.2 in record {
+      within = refl;
+      ahead = is_ahead visits_due w page first.1 rests restless;
+      comes = comes_as new (agrees old (λ _ deed _. before_part old.state deed w.began start page)) (λ from s before.
+          let there = subst (ReachedBefore page from next) ((before_it visits_due w page first.1 rests).same from s before)
+          (stays from _ (w.comes from s before)) in
+          subst (λ (b : BookState). Reached from new (b, (due_visits s (ahead_before page s.0)).1)) there.0
+          (changed_comes next new (hidden_from page) hides from (next.state, (due_visits s (ahead_before page s.0)).1) (refl, there.1)));
+    }

@@ -52,20 +52,21 @@ row_held h = rw h.spot h.found
 
 -- ---------------------------------------------------------------- a page with another frame
 
--- a page was resettled, and then its row changed to tell of home and bytes: the pages differ in that row, in where pages lie and in the
--- listing, the steps are those of the resettling, and rows and dups lie lawfully
-pub settled_then : {p m q : PagesView} {k l : KeeperView} {page : GuestPage} {node : ℕ} {bytes : List ℕ} {row : Row} → IsLaid p k → InPageOrder p.rows
-    → row_at page p.rows ≡ Some row → Resettled p m k l page node bytes → (d change : Row → Row)
-    → q ≡ record m { rows = change_row page d m.rows } → ((x : Row) → (change x).page ≡ x.page)
-    → d (on_its_own row) ≡ change row → ((change row).state ≡ Private) × ((change row).home ≡ node) × ((change row).bytes ≡ bytes)
-    → (q ≡ record p { rows = change_row page change p.rows; frame = q.frame })
-    × Resettles (lying p k) (lying q l) row.page node bytes × IsLaid q l
-settled_then {p} {m} {q} {k} {l} {page} {node} {bytes} {row} h rise found r d change goes keeps to housed =
-    let one = row_of_page _ _ row rise found in
-    let rows = change_twice page on_its_own d change p.rows (λ x. refl)
-    (λ i x lt at. grind (arith, one i x lt at, to)) in
-    let houses : Houses change page node bytes p.rows = record { pages = keeps; row = rw found housed } in
-    grind (arith, found_page)
+module _ {p m q : PagesView} {k l : KeeperView} {page : GuestPage} {node : ℕ} {bytes : List ℕ} {row : Row} (h : IsLaid p k)
+    (rise : InPageOrder p.rows) (found : row_at page p.rows ≡ Some row) (r : Resettled p m k l page node bytes) where
+  -- a page was resettled, and then its row changed to tell of home and bytes: the pages differ in that row, in where pages lie and in the
+  -- listing, the steps are those of the resettling, and rows and dups lie lawfully
+  pub settled_then : (d change : Row → Row)
+      → q ≡ record m { rows = change_row page d m.rows } → ((x : Row) → (change x).page ≡ x.page)
+      → d (on_its_own row) ≡ change row → ((change row).state ≡ Private) × ((change row).home ≡ node) × ((change row).bytes ≡ bytes)
+      → (q ≡ record p { rows = change_row page change p.rows; frame = q.frame })
+      × Resettles (lying p k) (lying q l) row.page node bytes × IsLaid q l
+  settled_then d change goes keeps to housed =
+      let one = row_of_page _ _ row rise found in
+      let rows = change_twice page on_its_own d change p.rows (λ x. refl)
+      (λ i x lt at. grind (arith, one i x lt at, to)) in
+      let houses : Houses change page node bytes p.rows = record { pages = keeps; row = rw found housed } in
+      grind (arith, found_page)
 
 -- a page with a frame
 module _ {p : PagesView} {k : KeeperView} (h : IsLaid p k) (page : GuestPage) (row : Row) (found : row_at page p.rows ≡ Some row) where

@@ -80,11 +80,7 @@ pub record IsCarried (v w : BookView) (command : Command) (given : Answer) : Typ
   -- the steps that it made, and no others, and the frame of each page after them
   pub steps : TakesSteps v w command given
 
--- the same, of the values of books
-abbrev pub CarriesOut : BookValue → BookValue → Command → Answer → Type 0
-CarriesOut old new = IsCarried (view_of old) (view_of new)
-
--- what is carried out, and what follows from its steps: the table kept, the frames given, and what the log shows of the answer
+-- the same, and what follows from its steps: the table kept, the frames given, and what the log shows of the answer
 pub record CarriedOut (v w : BookView) (command : Command) (given : Answer) : Type 0 where
   -- the command was carried out
   pub done : IsCarried v w command given
@@ -94,6 +90,10 @@ pub record CarriedOut (v w : BookView) (command : Command) (given : Answer) : Ty
   pub frames : AllocatesOn v.keeper w.keeper (nodes_got v.state given command)
   -- what the log shows of no frame, in use, and a dup that moved
   pub shown : HasShown v.state v.keeper w.keeper given command
+
+-- a command was carried out, as the values of books tell
+abbrev pub CarriesOut : BookValue → BookValue → Command → Answer → Type 0
+CarriesOut old new = IsCarried (view_of old) (view_of new)
 
 -- what contracts see of a book: its state, where its pages lie, the keeper of the frames, and its journal, with whether
 -- the entries are kept

@@ -99,6 +99,7 @@ impl State {
         ensures due { OnOk result (AreDue self.new.state due.new.pages) }
         ensures refused { OnErr result (StaysBefore spot.page self.old self.new) }
     {
+        self.lies_lawfully();
         let Some(held) = self.pages.held(other) else {
             unreachable!()
         };

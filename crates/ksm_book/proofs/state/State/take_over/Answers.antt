@@ -1,12 +1,9 @@
-use Rattle.ksm_book.proofs.Names.{ap, BookValue, BookView, change_row, IsSound, row_at, settled, sym, view_of, with_rows, ◌∙◌, ◌≡◌}
+use Rattle.ksm_book.proofs.Names.{ap, BookValue, BookView, change_row, row_at, settled, sym, view_of, with_rows, ◌∙◌, ◌≡◌}
 use Rattle.std.proofs.lemmas.Option.{none-some}
 use Rattle.ksm_tree.proofs.Numbers.{on_err}
 use Rattle.ksm_book.proofs.TakingOver.{other_alone, taken_comes, taken_leaves, taken_refused, waits_at}
 use Rattle.ksm_book.proofs.state.State.take_over.Goals as goal
-use Rattle.ksm_book.proofs.state.State.take_over.Goals.{After-held, After-stop_waiting}
-
-sound : (c : After-held) → IsSound c.args.self.now.state
-sound c = rw (← c.self.view_is) c.self.invariant.0
+use Rattle.ksm_book.proofs.state.State.take_over.Goals.{After-stop_waiting}
 
 -- the other page waits no more
 freeing : (c : After-stop_waiting)
@@ -16,27 +13,27 @@ freeing c = rw (← c.in-Some.ensures.spot) c.stop_waiting.ensures
 pub unreachable-requires : goal.unreachable-requires
 unreachable-requires c =
     none-some _ (sym c.in_default.ensures ∙ ap (λ (v : BookValue). row_at c.args.other v.state.rows) c.self.view_is
-    ∙ waits_at (sound (goal.at.unreachable-requires c).After-held) c.requires.takes)
+    ∙ waits_at c.lies_lawfully.ensures.sound c.requires.takes)
 
 pub stop_waiting-requires : goal.stop_waiting-requires
 stop_waiting-requires c =
-    rw c.in-Some.ensures.spot (other_alone (sound (goal.at.stop_waiting-requires c).After-held) c.requires.takes)
+    rw c.in-Some.ensures.spot (other_alone c.lies_lawfully.ensures.sound c.requires.takes)
 
 pub visit-requires : goal.visit-requires
 visit-requires c = record { own = ap (λ (v : BookView). v.keeper.table) c.stop_waiting.ensures ∙ c.requires.own }
 
 pub returns-in_err-visit-clause-refused : goal.returns-in_err-visit-clause-refused
 returns-in_err-visit-clause-refused c = on_err _
-    (taken_refused c.args.self.now c.stop_waiting.new.self c.visit.new.self (sound (goal.at.returns-in_err-visit-clause-refused c).After-held)
+    (taken_refused c.args.self.now c.stop_waiting.new.self c.visit.new.self c.lies_lawfully.ensures.sound
     c.requires.takes (freeing (goal.at.returns-in_err-visit-clause-refused c).After-stop_waiting) c.in_err-visit.ensures.refused)
 
 pub returns-clause-comes : goal.returns-clause-comes
 returns-clause-comes c =
-    taken_comes c.args.self.now c.stop_waiting.new.self c.visit.new.self (sound (goal.at.returns-clause-comes c).After-held)
+    taken_comes c.args.self.now c.stop_waiting.new.self c.visit.new.self c.lies_lawfully.ensures.sound
     c.requires.takes (freeing (goal.at.returns-clause-comes c).After-stop_waiting) c.in_ok-visit.ensures.comes
 
 pub returns-clause-due : goal.returns-clause-due
 returns-clause-due c =
-    taken_leaves c.args.self.now c.stop_waiting.new.self c.visit.new.self (sound (goal.at.returns-clause-due c).After-held)
+    taken_leaves c.args.self.now c.stop_waiting.new.self c.visit.new.self c.lies_lawfully.ensures.sound
     c.requires.takes (freeing (goal.at.returns-clause-due c).After-stop_waiting) _ _ _
     (rw (← c.in-Some.ensures.spot) c.in_ok-insert.ensures.added) c.remove.ensures.gone c.in_ok-visit.ensures.comes c.requires.due
