@@ -1,15 +1,17 @@
 -- A list in order that is cut in three, what comes before a key, the part in which the key is or would be, and what comes
 -- behind it: each call answers of the list what it answers of that part.
-use Rattle.std.proofs.Common.{◌≡◌, ℕ, zero, suc, ◌+◌, ◌<◌, ◌≤◌, Bool, List, [], ◌∷◌, ◌++◌, length, get_or, take, drop, refl, ap, arith, None, Some}
-use Rattle.std.specs.Prelude.{◌&&◌, cond, All, count_by, filter, find, insert, nat_lt, remove, set, slice_get}
+use Rattle.std.proofs.Common.{◌≡◌, ℕ, zero, suc, ◌+◌, ◌<◌, ◌≤◌, Bool, List, [], ◌∷◌, ◌++◌, length, get_or, take, drop, refl, ap, arith, None}
+use Rattle.std.specs.Prelude.{◌&&◌, cond, All, count_by, filter, find, nat_lt, set, slice_get}
 use Rattle.std.specs.Option.{option_or}
 use Rattle.std.proofs.lemmas.Bool.Decides.{nat_tests}
-use Rattle.std.proofs.lemmas.List.{append-nil, append_assoc, drop_more, get_or-drop, length-drop, length-take-le, map-append, set_split, take-append-drop}
+use Rattle.std.proofs.lemmas.List.{append-nil, append_assoc, length-drop, length-take-le, map-append, set_split, take-append-drop}
 use Rattle.std.proofs.lemmas.List.Folds.{find-append}
 use Rattle.std.proofs.lemmas.List.Sums.{count_by-le-length, sum_by-append, sum_by-cons}
 use Rattle.std.proofs.lemmas.List.Elements.{All-tail, filter-append}
 use Rattle.ksm_order.specs.declared.item.Item.{Item}
-use Rattle.ksm_order.specs.Listed.{AreAscending, AreBefore, AreBehind, is_at, is_from, IsHere, IsPlace, many, marked, up_to, with_item, with_mark, without}
+use Rattle.ksm_order.specs.Places.{IsHere, IsPlace}
+use Rattle.ksm_order.proofs.Places.{before_here, behind_here, cut_here, from_there, in_front}
+use Rattle.ksm_order.specs.Listed.{AreAscending, AreBefore, AreBehind, is_at, is_from, many, marked, up_to, with_item, with_mark, without}
 
 -- whether an item comes before a key, and whether it comes behind
 abbrev pub low : ℕ → Item → Bool
@@ -103,12 +105,6 @@ pub from_first : (key : ℕ) (ys : List Item) → All (λ x. key ≤ x.key) ys �
 from_first key [] from = refl
 from_first key (y ∷ ys) from = grind (arith, nat_tests, from 0 y)
 
-not_low : (key : ℕ) (ys : List Item) → All (λ x. key ≤ x.key) ys → find (is_at key) ys ≡ None
-    → (filter (low key) ys ≡ []) × (filter (high key) ys ≡ ys)
-not_low key [] from absent = (refl, refl)
-not_low key (y ∷ ys) from absent =
-    grind (arith, nat_tests, from 0 y, not_low key ys (All-tail (λ x. key ≤ x.key) y ys from))
-
 behind : (key : ℕ) (ys : List Item) → AreBehind key ys
     → (find (is_at key) ys ≡ None) × (find (is_from key) ys ≡ slice_get ys 0) × (up_to key ys ≡ 0) × (filter (low key) ys ≡ []) × (filter (high key) ys ≡ ys)
 behind key [] after = (refl, refl, refl, refl, refl)
@@ -138,56 +134,19 @@ pub with_between : (x : Item) (xs run ys : List Item) → AreBefore x.key xs →
 with_between x xs run ys ahead after =
     grind (arith, filter-append, before x.key xs ahead, behind x.key ys after, append_assoc, append-nil)
 
--- a list in order is cut where so many items come before the key, and the others do not
-module _ {key : ℕ} {xs : List Item} {at : ℕ} (rise : AreAscending xs) (place : IsPlace key xs at) where
-  -- where the next is not of the key, the others come behind it
-  pub behind_next : ((d : Item) → at < length xs → (get_or xs at d).key ≡ key → ⊥) → AreBehind key (drop at xs)
-  behind_next differs k e lt =
-      grind (arith, get_or-drop at xs, place.behind 0 e, rise at (at + k) e, differs e, length-drop at xs)
+-- where so many items come before the key, the first that does not is the next
+pub from_cut : {key : ℕ} {xs : List Item} {at : ℕ} → IsPlace (λ x. x.key) key xs at → find (is_from key) xs ≡ slice_get xs at
+from_cut {key} {xs} {at} place =
+    grind (arith, slice_get-drop at xs, ap (find (is_from key)) (take-append-drop at xs), find-append, before key (take at xs) (in_front place), from_first key (drop at xs) (from_there place))
 
-  -- and the key is not there
-  pub find_next : ((d : Item) → at < length xs → (get_or xs at d).key ≡ key → ⊥) → find (is_at key) xs ≡ None
-  find_next differs =
-      grind (arith, ap (find (is_at key)) (take-append-drop at xs), find-append, before, (behind key (drop at xs) (behind_next differs)).0)
+-- and so many marked ones come before the key as are marked in front
+pub up_to_cut : {key : ℕ} {xs : List Item} {at : ℕ} → IsPlace (λ x. x.key) key xs at → up_to key xs ≡ many (take at xs)
+up_to_cut {key} {xs} {at} place =
+    omega (arith, ap (up_to key) (take-append-drop at xs), up_to-append key (take at xs) (drop at xs), before key (take at xs) (in_front place), up_to_behind key (drop at xs) (from_there place))
 
-  -- the first that does not come before the key is the next
-  pub from_cut : find (is_from key) xs ≡ slice_get xs at
-  from_cut =
-      grind (arith, slice_get-drop at xs, ap (find (is_from key)) (take-append-drop at xs), find-append, before key (take at xs) place.ahead, from_first key (drop at xs) place.behind)
-
-  -- so many marked ones come before the key as are marked in front
-  pub up_to_cut : up_to key xs ≡ many (take at xs)
-  up_to_cut =
-      omega (arith, ap (up_to key) (take-append-drop at xs), up_to-append key (take at xs) (drop at xs), before key (take at xs) place.ahead, up_to_behind key (drop at xs) place.behind)
-
--- an item whose key is not there is put in where a list in order is cut
-pub insert_here : (x : Item) (xs : List Item) (at : ℕ) → IsPlace x.key xs at → find (is_at x.key) xs ≡ None
-    → insert xs at x ≡ with_item x xs
-insert_here x xs at place absent =
-    let whole = take-append-drop at xs in
-    let rest : find (is_at x.key) (drop at xs) ≡ None = grind (arith, ap (find (is_at x.key)) whole, find-append, (before x.key (take at xs) place.ahead).0) in
-    grind (arith, ap (with_item x) whole, filter-append, before x.key (take at xs) place.ahead, not_low x.key (drop at xs) place.behind rest, append-nil)
-
--- an item of the key stands at a place of a list in order
-module _ {key : ℕ} {xs : List Item} {at : ℕ} (rise : AreAscending xs) (here : IsHere key xs at) (d : Item) where
-  abbrev it : Item
-  it = get_or xs at d
-
-  cut_here : take at xs ++ it ∷ drop (at + 1) xs ≡ xs
-  cut_here = grind (arith, drop_more xs at d, take-append-drop at xs)
-
-  behind_here : AreBehind key (drop (at + 1) xs)
-  behind_here k e lt = grind (arith, get_or-drop, length-drop, rise at (at + 1 + k) e, here.is e)
-
-  -- it is found, taken out, and marked there
-  pub find_here : find (is_at key) xs ≡ Some it
-  find_here =
-      grind (arith, ap (find (is_at key)) cut_here, find_between key (take at xs) (it ∷ []) (drop (at + 1) xs) here.ahead behind_here, here.is d, nat_tests)
-
-  pub remove_here : remove xs at ≡ without key xs
-  remove_here =
-      grind (arith, ap (without key) cut_here, without_between key (take at xs) (it ∷ []) (drop (at + 1) xs) here.ahead behind_here, here.is d, nat_tests)
-
-  pub mark_here : (mark : Bool) → set xs at (record it { marked = mark }) ≡ with_mark key mark xs
-  mark_here mark =
-      grind (arith, set_split xs at (record it { marked = mark }) here.within, ap (with_mark key mark) cut_here, mark_between key (take at xs) (it ∷ []) (drop (at + 1) xs) here.ahead behind_here mark, here.is d, nat_tests)
+-- the item of a key is marked where it stands
+pub mark_here : {key : ℕ} {xs : List Item} {at : ℕ} → AreAscending xs → IsHere (λ x. x.key) key xs at → (d : Item) (mark : Bool)
+    → set xs at (record (get_or xs at d) { marked = mark }) ≡ with_mark key mark xs
+mark_here {key} {xs} {at} rise here d mark =
+    let it = get_or xs at d in
+    grind (arith, set_split xs at (record it { marked = mark }) here.within, ap (with_mark key mark) (cut_here rise here d), mark_between key (take at xs) (it ∷ []) (drop (at + 1) xs) (before_here rise here d) (behind_here rise here d) mark, here.is d, nat_tests)

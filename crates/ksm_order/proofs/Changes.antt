@@ -2,18 +2,18 @@
 use Rattle.std.proofs.Common.{◌≡◌, ℕ, ◌+◌, ◌-◌, ◌<◌, ◌≤◌, Bool, true, false, List, [], ◌∷◌, ◌++◌, length, get_or, take, drop, refl, sym, ap, arith, add-one, ◌∙◌, length-set}
 use Rattle.std.specs.Prelude.{◌≢◌, ◌==◌, All, cond, filter, flat_map, if◌then◌else◌, insert, not, remove, set}
 use Rattle.std.specs.Int.{from_bool}
-use Rattle.std.proofs.lemmas.Bool.{ltb-true}
 use Rattle.std.proofs.lemmas.Bool.Decides.{nat_tests}
 use Rattle.std.proofs.lemmas.List.{append-nil, append_assoc, drop-set-lt, drop_at, get_or-append_right, get_or-map, get_or_append_left, length-append, length-drop, length-map, length-take-le}
 use Rattle.std.proofs.lemmas.List.{nil_from_length, set_split, take-append-drop, take-set, take_at}
 use Rattle.std.proofs.lemmas.List.Concat.{flat_map-append}
-use Rattle.std.proofs.lemmas.List.Elements.{All-append, All-cons, All-drop, All-nil, All-take, filter_passes}
+use Rattle.std.proofs.lemmas.List.Elements.{All-append, All-cons, All-drop, All-nil, All-take}
 use Rattle.std.proofs.lemmas.List.Edits.{get_or-insert_at, length-insert}
 use Rattle.std.proofs.lemmas.Grind.{take-set_at}
-use Rattle.std.proofs.lemmas.List.Kept.{AllPairs-cons, AllPairs-filter}
+use Rattle.std.proofs.lemmas.List.Kept.{AllPairs-filter}
 use Rattle.std.proofs.lemmas.List.Sums.{sum_by-remove}
 use Rattle.ksm_order.specs.declared.item.Item.{Item}
 use Rattle.ksm_order.specs.Listed.{AreAscending, AreBefore, AreBehind, AreParts, begins_behind, is_at, IsCounted, IsCut, IsPartOf, is_nothing, many, with_item, with_mark, without}
+use Rattle.ksm_order.proofs.Places.{with_rises}
 use Rattle.ksm_order.proofs.Between.{high, low, many_kept, many-append, mark_between, with_between, without_between}
 use Rattle.ksm_order.proofs.Parts.{ahead_of, behind_of, cut, front, halves_rise, rest}
 
@@ -43,15 +43,6 @@ rises_append xs ys first second cross i j d less lt =
 -- a list in order stays in order where some are left out
 pub filter_rises : (p : Item → Bool) (xs : List Item) → AreAscending xs → AreAscending (filter p xs)
 filter_rises = AllPairs-filter (λ x y. x.key < y.key)
-
--- a list in order stays in order with an item at its place
-pub with_rises : (x : Item) (xs : List Item) → AreAscending xs → AreAscending (with_item x xs)
-with_rises x xs rise =
-    let lows = λ (k : ℕ) (d : Item) (lt : k < length (filter (low x.key) xs)). ltb-true _ _ (filter_passes (low x.key) xs k d lt) in
-    let highs = λ (k : ℕ) (d : Item) (lt : k < length (filter (high x.key) xs)). ltb-true _ _ (filter_passes (high x.key) xs k d lt) in
-    rises_append (filter (low x.key) xs) (x ∷ filter (high x.key) xs) (filter_rises _ xs rise)
-    (AllPairs-cons (λ y z. y.key < z.key) x (filter (high x.key) xs) highs (filter_rises _ xs rise))
-    (λ i j d lt le. grind (arith, lows i d lt, highs (j - 1) d))
 
 -- a list in order that is cut in two, with how many of both are marked
 counted_halves : {xs : List Item} {n : ℕ} (ys zs : List Item) → IsCounted xs n → ys ++ zs ≡ xs
@@ -139,7 +130,7 @@ pub local_none : (key : ℕ) → IsLocal key (λ xs. xs)
 local_none key = record { between = λ xs run ys ahead after. refl; rises = λ xs rise. rise }
 
 pub local_with : (x : Item) → IsLocal x.key (with_item x)
-local_with x = record { between = with_between x; rises = with_rises x }
+local_with x = record { between = with_between x; rises = with_rises (λ y. y.key) x }
 
 pub local_mark : (key : ℕ) (mark : Bool) → IsLocal key (with_mark key mark)
 local_mark key mark =

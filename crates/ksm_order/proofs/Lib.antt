@@ -2,3 +2,5 @@ pub mod Between
 pub mod Parts
 pub mod Changes
 pub mod Moved
+pub mod Ordered
+pub mod Places

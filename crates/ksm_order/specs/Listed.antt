@@ -1,6 +1,6 @@
 -- Items in the order of their keys.
-use Rattle.std.specs.Prelude.{◌≡◌, ◌≢◌, ℕ, ◌+◌, ◌<◌, ◌≤◌, Bool, true, false, not, ◌&&◌, ◌==◌, List, [], ◌∷◌, ◌++◌, All, AllPairs, count_by, filter, flat_map, drop, if◌then◌else◌, length, map, nat_lt, take}
-use Rattle.std.specs.Prelude.{slice_get, slice_index_or, Option, option_map}
+use Rattle.std.specs.Prelude.{◌≡◌, ◌≢◌, ℕ, ◌+◌, ◌<◌, Bool, true, false, not, ◌&&◌, ◌==◌, List, [], ◌∷◌, ◌++◌, All, AllPairs, count_by, filter, flat_map, drop, if◌then◌else◌, length, map, nat_lt, take}
+use Rattle.std.specs.Prelude.{slice_get, Option, option_map}
 use Rattle.ksm_order.specs.declared.item.Item.{Item}
 
 -- the keys ascend, so none stands twice
@@ -82,15 +82,3 @@ pub record IsPartOf {P : Type 0} (items : P → List Item) (key : ℕ) (parts : 
 abbrev pub is_nothing : List Item → Bool
 is_nothing [] = true
 is_nothing (x ∷ xs) = false
-
--- an item of the key stands at a place
-pub record IsHere (key : ℕ) (xs : List Item) (at : ℕ) : Type 0 where
-  pub within : at < length xs
-  pub ahead : AreBefore key (take at xs)
-  pub is : (d : Item) → (slice_index_or xs at d).key ≡ key
-
--- the items in front of a place come before a key, and the others do not
-pub record IsPlace (key : ℕ) (xs : List Item) (at : ℕ) : Type 0 where
-  pub within : at ≤ length xs
-  pub ahead : AreBefore key (take at xs)
-  pub behind : All (λ x. key ≤ x.key) (drop at xs)

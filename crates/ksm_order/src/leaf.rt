@@ -1,10 +1,11 @@
 //! The lowest height: items side by side.
-ghost use Rattle.std.specs.Prelude.{◌≡◌, ◌≤◌, ◌<◌, None, IfNone, IfSome, IsTrue, find, length, take};
-ghost use Rattle.ksm_order.specs.Listed.{AreAscending, AreBefore, IsHere, IsPlace, begins_behind, is_at, is_from, key_at, many};
-ghost use Rattle.ksm_order.specs.Listed.{marked, up_to};
+ghost use Rattle.std.specs.Prelude.{◌≡◌, ◌≤◌, ◌<◌, None, IfNone, IfSome, find, length};
+ghost use Rattle.ksm_order.specs.Listed.{AreAscending, begins_behind, is_at, is_from, key_at, many, marked, up_to};
+ghost use Rattle.ksm_order.specs.Places.{IsHere, IsPlace};
 
 use crate::item::Item;
 use crate::part::Part;
+use crate::place::{is_place, place_of, stands_at};
 use crate::vector::insert_at;
 use std::alloc::{AllocError, Global};
 use std::marker::Model;
@@ -30,33 +31,11 @@ impl Model for Leaf {
     ghost invariant = { λ l. IsCounted l.items.items l.count };
 }
 
-/// Whether the items in front of a place come before a key.
-#[inline(always)]
-fn reaches_back(items: &[Item], at: usize, key: u64) -> bool
-    requires ascending { AreAscending items.now }
-    requires within { at ≤ length items.now }
-    ensures { IsTrue result → AreBefore key (take at items.now) }
-{
-    at == 0 || items[at - 1].key < key
-}
-
-/// Whether the item of a key stands at a place, or would.
-#[inline(always)]
-fn is_place(items: &[Item], at: usize, key: u64) -> bool
-    requires { AreAscending items.now }
-    ensures { IsTrue result → IsPlace key items.now at }
-{
-    if at > items.len() || !reaches_back(items, at, key) {
-        return false;
-    }
-    at == items.len() || items[at].key >= key
-}
-
 /// Where the item of a key stands, or would, if from the first on no key is left out.
 #[inline(always)]
 fn in_a_row(items: &[Item], key: u64) -> Option<usize>
     requires { AreAscending items.now }
-    ensures { IfSome result (IsPlace key items.now) }
+    ensures { IfSome result (IsPlace (λ x. x.key) key items.now) }
 {
     let first = items.first()?;
     let at = key.saturating_sub(first.key) as usize;
@@ -69,9 +48,9 @@ fn in_a_row(items: &[Item], key: u64) -> Option<usize>
 
 /// How many items come before a key. The guess is tried first.
 #[inline(always)]
-fn place_of(items: &[Item], guess: usize, key: u64) -> usize
+fn place_by(items: &[Item], guess: usize, key: u64) -> usize
     requires { AreAscending items.now }
-    ensures { IsPlace key items.now result }
+    ensures { IsPlace (λ x. x.key) key items.now result }
 {
     if is_place(items, guess, key) {
         return guess;
@@ -79,39 +58,23 @@ fn place_of(items: &[Item], guess: usize, key: u64) -> usize
     // Keys mostly follow one another.
     match in_a_row(items, key) {
         Some(at) => at,
-        None => search(items, key),
+        None => place_of(items, key),
     }
-}
-
-/// The same, by halves.
-fn search(items: &[Item], key: u64) -> usize
-    requires { AreAscending items.now }
-    ensures { IsPlace key items.now result }
-{
-    let mut low = 0;
-    let mut high = items.len();
-    while low < high {
-        let mid = low + (high - low) / 2;
-        if items[mid].key < key {
-            low = mid + 1;
-        } else {
-            high = mid;
-        }
-    }
-    low
 }
 
 /// Where the item of a key stands.
+#[inline(always)]
 fn position(items: &[Item], guess: usize, key: u64) -> Option<usize>
     requires { AreAscending items.now }
-    ensures here { IfSome result (IsHere key items.now) }
+    ensures here { IfSome result (IsHere (λ x. x.key) key items.now) }
     ensures missing { IfNone result (find (is_at key) items.now ≡ None) }
 {
-    let at = place_of(items, guess, key);
-    if at == items.len() {
-        return None;
+    let at = place_by(items, guess, key);
+    if stands_at(items, at, key) {
+        Some(at)
+    } else {
+        None
     }
-    if items[at].key == key { Some(at) } else { None }
 }
 
 /// The item of a key.
@@ -130,7 +93,7 @@ fn first_from(items: &[Item], guess: usize, key: u64) -> Option<Item>
     requires { AreAscending items.now }
     ensures { result ≡ find (is_from key) items.now }
 {
-    let at = place_of(items, guess, key);
+    let at = place_by(items, guess, key);
     if at < items.len() {
         Some(items[at])
     } else {
@@ -186,7 +149,7 @@ impl Part for Leaf {
     }
 
     fn insert(&mut self, item: Item) -> Result<(), AllocError> {
-        let at = place_of(self.items.as_slice(), self.next, item.key);
+        let at = place_by(self.items.as_slice(), self.next, item.key);
         insert_at(&mut self.items, at, item)?;
         self.next = at + 1;
         self.count += usize::from(item.marked);
@@ -252,7 +215,7 @@ impl Part for Leaf {
 
     fn up_to(&self, key: u64) -> usize {
         let items = self.items.as_slice();
-        let at = place_of(items, self.next, key);
+        let at = place_by(items, self.next, key);
         // Mostly all are marked.
         if self.count == items.len() {
             return at;

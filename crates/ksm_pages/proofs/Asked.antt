@@ -5,7 +5,7 @@ use Rattle.ksm_pages.proofs.Names.{Row, row_at, rows_of, same_page_eq, seen, Som
 use Rattle.ksm_pages.proofs.Options.{mapped_some, none_mapped}
 use Rattle.ksm_pages.proofs.Found.{find_narrower, first_found}
 use Rattle.std.proofs.lemmas.Bool.{false_from_ne_true}
-use Rattle.ksm_rmap.proofs.Ordered.{found_parts}
+use Rattle.ksm_order.proofs.Ordered.{found_parts}
 use Rattle.std.specs.Prelude.{IfSome, MatchOption, option_and_then}
 use Rattle.ksm_tree.specs.Dups.{rows_of as dup_rows}
 use Rattle.ksm_pages.specs.declared.pages.Held.{Held as Told}

@@ -9,7 +9,7 @@ use Rattle.ksm_pages.proofs.Changing.{row_found}
 use Rattle.ksm_pages.proofs.Found.{find_kept}
 use Rattle.ksm_pages.proofs.Lodgings.{frame_by, seat}
 use Rattle.ksm_pages.proofs.Options.{some_mapped}
-use Rattle.ksm_rmap.proofs.Ordered.{none_found}
+use Rattle.ksm_order.proofs.Ordered.{none_found}
 
 vacant_stale : {place : ℕ} (rows : List Row) (dups : List Dup) → AreTied rows dups → IsVacant place rows (dup_rows dups)
     → All (λ d. stands_at place d ≡ true → is_stale d ≡ true) dups

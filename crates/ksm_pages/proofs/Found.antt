@@ -1,9 +1,9 @@
 -- Lists in the order of their pages: what a search finds once one came, went or changed, and what a write at a page's place leaves.
-use Rattle.ksm_pages.proofs.Names.{All, All-cons, AllPairs, ap, arith, before_irrefl, Bool, comes_before, cond, count_by-le-length, false, filter, filter_passes, find}
-use Rattle.ksm_pages.proofs.Names.{find-append, find_none, find_nothing, find_over, find_passes, get_or, GuestPage, if◌then◌else◌, length, length-filter, length-insert, List, map}
-use Rattle.ksm_pages.proofs.Names.{None, not, Option, option_map, pages_ordered, pairs_head, pairs_tail, refl, rules, same_page, same_page_eq, same_page_refl, same_page_sym}
-use Rattle.ksm_pages.proofs.Names.{Some, suc, sym, true, zero, ℕ, [], ◌++◌, ◌+◌, ◌∙◌, ◌∷◌, ◌≡◌, ◌≤◌}
-use Rattle.ksm_rmap.proofs.Ordered.{absent_parts, insert_at}
+use Rattle.ksm_pages.proofs.Names.{All, All-cons, AllPairs, ap, arith, before_irrefl, Bool, comes_before, cond, false, filter, filter_passes, find}
+use Rattle.ksm_pages.proofs.Names.{find-append, find_none, find_nothing, find_over, find_passes, get_or, GuestPage, if◌then◌else◌, length, length-append, List, map}
+use Rattle.ksm_pages.proofs.Names.{None, not, Option, option_map, pages_ordered, pairs_head, pairs_tail, rules, same_page, same_page_eq, same_page_refl, same_page_sym}
+use Rattle.ksm_pages.proofs.Names.{Some, suc, sym, true, zero, [], ◌++◌, ◌+◌, ◌∙◌, ◌∷◌, ◌≡◌}
+use Rattle.ksm_order.proofs.Ordered.{absent_parts}
 use Rattle.ksm_tree.proofs.Alike.{change_none, find_mapped, pairs_mapped}
 
 -- what a search finds among all it finds among those that are kept, where the one found is kept
@@ -55,9 +55,6 @@ module _ {X : Type 0} (key : X → GuestPage) where
     abbrev is_it : X → Bool
     is_it y = same_page (key y) page
 
-    abbrev place : List X → ℕ
-    place xs = length (filter low xs)
-
     -- a change of a page that is not there leaves the list
     pub absent_unchanged : (f : X → X) {xs : List X} → find is_it xs ≡ None → xs ≡ map (λ y. if is_it y then f y else y) xs
     absent_unchanged f absent = sym (change_none _ f _ (find_none _ _ absent))
@@ -70,8 +67,7 @@ module _ {X : Type 0} (key : X → GuestPage) where
     -- with an element of a page that was not there, a list is one longer
     pub length_with : (x : X) (xs : List X) → AllPairs Before xs → find is_it xs ≡ None → length (filter low xs ++ x ∷ filter high xs) ≡ length xs + 1
     length_with x xs rise absent =
-        let few : place xs ≤ length xs = omega (arith, length-filter low xs, count_by-le-length low xs) in
-        ap length (sym (insert_at pages_ordered key page xs rise refl refl refl x absent)) ∙ length-insert _ _ _ few
+        omega (arith, ap length (absent_parts pages_ordered key page xs rise absent), length-append (filter low xs) (filter high xs), length-append (filter low xs) (x ∷ filter high xs))
 
     -- in a list with one more element of the page, a search for the page finds that element
     pub find_put : (x : X) (xs : List X) → key x ≡ page → find is_it (filter low xs ++ x ∷ filter high xs) ≡ Some x

@@ -35,7 +35,7 @@ pub use Rattle.ksm_pages.specs.declared.row.InTree.TheVariants.{Alone, Beside, N
 pub use Rattle.ksm_pages.specs.declared.row.Kind.{Kind}
 pub use Rattle.ksm_pages.specs.declared.row.Spot.{Spot}
 pub use Rattle.ksm_pages.specs.declared.tally.Tally.{Tally}
-pub use Rattle.ksm_rmap.proofs.Ordered.{point_is_count, with_found}
+pub use Rattle.ksm_order.proofs.Ordered.{with_found}
 pub use Rattle.ksm_rmap.proofs.Pages.{pages_ordered}
 pub use Rattle.ksm_rmap.specs.Items.{has_item, with_item}
 pub use Rattle.ksm_rmap.specs.Keys.{key_of, page_of}

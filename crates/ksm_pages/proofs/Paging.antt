@@ -8,7 +8,7 @@ use Rattle.ksm_base.specs.Rows.{is_stale as is_stale_row}
 use Rattle.ksm_tree.specs.Dups.{rows_of as dup_rows}
 use Rattle.ksm_tree.proofs.Changes.{row_found as dup_row_found}
 use Rattle.ksm_pages.specs.Paged.{frame_of as lies_at}
-use Rattle.ksm_rmap.proofs.Ordered.{any_found}
+use Rattle.ksm_order.proofs.Ordered.{any_found}
 use Rattle.ksm_pages.proofs.Joined.{item_lies}
 use Rattle.ksm_pages.proofs.Options.{mapped_twice, some_mapped}
 

@@ -1,12 +1,15 @@
 -- Listed pages in order: the pages of them, those that are swept out, and those that come behind a cursor.
 use Rattle.std.specs.Prelude.{◌||◌, ◌%◌, ◌^◌}
-use Rattle.ksm_pages.proofs.Names.{before_irrefl, cases_Bool, inl, inr, list_any-append, map-append, suc, zero}
-use Rattle.ksm_pages.proofs.Names.{after_cursor, All, All-map, ap, AreInOrder, arith, Bool, comes_before, Entry, false, filter, filter_none, find, find_none, find_passes, get, get_or}
-use Rattle.ksm_pages.proofs.Names.{append-nil, GuestPage, has_item, IfSome, is_useless, IsInVain, length, List, Named, None, not, not-true, Option, page_of, pages_of}
-use Rattle.ksm_pages.proofs.Names.{pairs_head, pairs_tail, refl, rules, same_page, same_page_eq, Slab, slice_get, Some, Spot, subst, sym, true}
-use Rattle.ksm_pages.proofs.Names.{true≢false, [], ◌++◌, ◌<◌, ◌∙◌, ◌∷◌, ◌≡◌, ◌≤◌, ◌⊎◌}
+use Rattle.ksm_pages.proofs.Names.{cases_Bool, inl, inr, list_any-append, map-append, suc}
+use Rattle.ksm_pages.proofs.Names.{after_cursor, All, All-map, ap, AreInOrder, arith, Bool, comes_before, Entry, false, filter, get, get_or}
+use Rattle.ksm_pages.proofs.Names.{append-nil, GuestPage, has_item, is_useless, IsInVain, length, List, Named, None, not, not-true, Option, page_of, pages_of}
+use Rattle.ksm_pages.proofs.Names.{refl, rules, same_page, same_page_eq, Slab, Some, Spot, subst, sym, true}
+use Rattle.ksm_pages.proofs.Names.{ℕ, true≢false, [], ◌++◌, ◌<◌, ◌∙◌, ◌∷◌, ◌≡◌, ◌≤◌, ◌⊎◌}
 use Rattle.std.specs.Option.{is_none}
-use Rattle.std.specs.Prelude.{IfNone}
+use Rattle.std.proofs.lemmas.Bool.Decides.{nat_tests}
+use Rattle.std.proofs.lemmas.List.{get_or_default}
+use Rattle.std.specs.Prelude.{nat_lt}
+use Rattle.ksm_order.specs.Places.{IsPlace}
 use Rattle.ksm_pages.specs.declared.restless.Listed.{Listed}
 use Rattle.ksm_pages.specs.Held.{AreSmall, low_spot}
 
@@ -73,56 +76,27 @@ module _ (entries : Slab Entry) (order : List Named) where
 abbrev pub Up : Listed → Listed → Type 0
 Up l m = l.page ≤ m.page
 
+-- a page whose key is no less does not come before another
 not_before : (l m : Listed) → l.page ≤ m.page → comes_before (page_by m) (page_by l) ≡ false
 not_before l m up = grind arith
 
--- pages in order, and a cursor that some of them do not come behind
-module _ (cursor : Option GuestPage) where
-  abbrev pub passed : Listed → Bool
-  passed l = not (after_cursor cursor (page_by l))
+-- the place of the least key behind a cursor
+module _ (cursor : Option GuestPage) {from : ℕ} (tells : (key : ℕ) → after_cursor cursor (page_of key) ≡ not (nat_lt key from)) {listed : List Listed} {at : ℕ} (place : IsPlace (λ l. l.page) from listed at) where
+  -- where that is the end, no page comes behind the cursor
+  pub none_behind : length listed ≤ at → All (λ p. after_cursor cursor p ≡ false) (pages_of listed)
+  none_behind end = All-map (λ p. after_cursor cursor p ≡ false) page_by listed
+      (λ k d lt. grind (arith, nat_tests, end, lt, tells (get_or listed k d).page, place.ahead k d))
 
-  -- what stands behind a page that comes behind the cursor does so too
-  on_behind : (l m : Listed) → l.page ≤ m.page → after_cursor cursor (page_by l) ≡ true → after_cursor cursor (page_by m) ≡ true
-  on_behind l m up behind = elim cursor as (λ o. after_cursor o (page_by l) ≡ true → after_cursor o (page_by m) ≡ true) [
-    | None ↦ λ b. refl
-    | Some page ↦ λ b. grind (arith, up, b)
-  ] behind
-
-  -- the first page behind the cursor stands behind so many
-  pub first_behind : (listed : List Listed) → AreInOrder listed
-      → slice_get listed (length (filter passed listed)) ≡ find (λ l. after_cursor cursor (page_by l)) listed
-  first_behind [] rise = refl
-  first_behind (l ∷ listed) rise = grind (arith, first_behind listed (pairs_tail Up l listed rise), filter_none, none_passed)
-    where
-      none_passed : after_cursor cursor (page_by l) ≡ true → All (λ m. passed m ≡ false) listed
-      none_passed here k d lt = ap not (on_behind l (get_or listed k d) (pairs_head Up l listed rise k d lt) here)
-
-  -- of those behind the cursor none comes before the first
-  first_least : (listed : List Listed) → AreInOrder listed → (l : Listed) → find (λ m. after_cursor cursor (page_by m)) listed ≡ Some l
-      → All (λ m. after_cursor cursor (page_by m) ≡ true → comes_before (page_by m) (page_by l) ≡ false) listed
-  first_least [] rise l found k d lt = absurd (omega arith)
-  first_least (m ∷ ms) rise l found zero d lt = grind (arith, before_irrefl)
-  first_least (m ∷ ms) rise l found (suc k) d lt = λ behind. elim (cases_Bool (after_cursor cursor (page_by m))) [
-    | inl here ↦ not_before l (get_or ms k d) (grind (arith, here, found, pairs_head Up m ms rise k d))
-    | inr passed ↦ first_least ms (pairs_tail Up m ms rise) l (grind (arith, passed, found)) k d (omega arith) behind
-  ]
-
-  -- where that one is told, no page of those behind the cursor comes before its page; where none is, there is none
-  pub told_behind : (listed : List Listed) → AreInOrder listed → (o : Option Listed) → o ≡ slice_get listed (length (filter passed listed))
-      → IfNone o (All (λ p. after_cursor cursor p ≡ false) (pages_of listed))
-      × IfSome o (λ l. (after_cursor cursor (page_by l) ≡ true)
-      × All (λ p. after_cursor cursor p ≡ true → comes_before p (page_by l) ≡ false) (pages_of listed))
-  told_behind listed rise None is = (
-    All-map (λ p. after_cursor cursor p ≡ false) page_by listed
-        (find_none (λ l. after_cursor cursor (page_by l)) listed (sym (is ∙ first_behind listed rise))),
-    tt,
+  -- the page there comes behind the cursor, and no other that does comes before it
+  pub next_behind : AreInOrder listed → (next : Listed) → at < length listed → get_or listed at next ≡ next
+      → (after_cursor cursor (page_by next) ≡ true) × All (λ p. after_cursor cursor p ≡ true → comes_before p (page_by next) ≡ false) (pages_of listed)
+  next_behind rise next within is = (
+    grind (arith, nat_tests, tells next.page, place.behind at next),
+    All-map (λ p. after_cursor cursor p ≡ true → comes_before p (page_by next) ≡ false) page_by listed
+        (λ k d lt behind. not_before next (get_or listed k d) (above k d lt behind)),
   )
-  told_behind listed rise (Some l) is =
-      let found = sym (is ∙ first_behind listed rise) in (
-        tt,
-        (
-          find_passes _ listed l found,
-          All-map (λ p. after_cursor cursor p ≡ true → comes_before p (page_by l) ≡ false) page_by listed
-              (first_least listed rise l found),
-        ),
-      )
+    where
+      above : (k : ℕ) (d : Listed) → k < length listed → after_cursor cursor (page_by (get_or listed k d)) ≡ true → next.page ≤ (get_or listed k d).page
+      above k d lt behind =
+          let from_on : from ≤ (get_or listed k d).page = grind (arith, nat_tests, tells (get_or listed k d).page, behind) in
+          grind (arith, from_on, place.ahead k d, rise at k d, get_or_default listed at next d)

@@ -15,7 +15,7 @@ use Rattle.ksm_pages.proofs.Changing.{marked_same, row_told, rows_changed, rows_
 use Rattle.ksm_pages.proofs.Filing.{all_filled, filed_marked, filed_put, filed_taken, held_found, held_nowhere, named_under, one_key, put, rows_rise, taken, unmarked, written}
 use Rattle.ksm_pages.proofs.Led.{led_written}
 use Rattle.ksm_pages.proofs.Found.{absent_unchanged, write_rises}
-use Rattle.ksm_rmap.proofs.Ordered.{absent_kept, with_rises, without_rises}
+use Rattle.ksm_order.proofs.Ordered.{absent_kept, with_rises, without_rises}
 use Rattle.ksm_pages.proofs.Tallying.{can_move, tally_changed, tally_gone, tally_put}
 
 -- what is seen of entries in an order, in a pass, where each node has a tree or not

@@ -1,12 +1,12 @@
 -- Rows as they are kept, in the order of their pages, each with the frame of its own if it has one. (own)
-use Rattle.std.specs.Prelude.{◌≡◌, ℕ, ◌<◌, ◌≤◌, ◌^◌, ◌%◌, Bool, true, false, not, ◌&&◌, ◌||◌, ◌==◌, bytes_eq, nat_lt, if◌then◌else◌}
-use Rattle.std.specs.Prelude.{All, AllPairs, List, [], ◌∷◌, ◌++◌, drop, filter, find, length, map, take, option_map, Option, None, Some}
-use Rattle.std.specs.List.{AllWithin}
+use Rattle.std.specs.Prelude.{◌≡◌, ℕ, ◌<◌, ◌≤◌, ◌^◌, ◌%◌, Bool, true, false, not, ◌&&◌, ◌||◌, ◌==◌, bytes_eq, if◌then◌else◌}
+use Rattle.std.specs.Prelude.{All, List, [], ◌∷◌, ◌++◌, drop, filter, find, length, map, take, option_map, Option, None, Some}
 use Rattle.ksm_base.specs.declared.page.GuestPage.{GuestPage}
 use Rattle.ksm_base.specs.declared.row.PageState.{PageState}
 use Rattle.ksm_base.specs.declared.row.PageState.TheVariants.{Private, Waiting, Merged, Zero}
 use Rattle.ksm_base.specs.declared.row.Row.{Row}
 use Rattle.ksm_base.specs.Rows.{comes_before, same_page, settled}
+use Rattle.ksm_order.specs.Places.{AreInOrder as AreKeysInOrder}
 use Rattle.ksm_rmap.specs.Items.{has_item}
 use Rattle.ksm_pages.specs.declared.row.InTree.{InTree}
 use Rattle.ksm_pages.specs.declared.row.InTree.TheVariants.{Alone, Beside, Not}
@@ -35,7 +35,7 @@ low_spot l = record { page = page_of (l.page % 2 ^ 48); key = l.row }
 
 -- the keys of the pages do not fall
 abbrev pub AreInOrder : List Listed → Type 0
-AreInOrder listed = AllPairs (λ l m. l.page ≤ m.page) listed
+AreInOrder listed = AreKeysInOrder (λ l. l.page) listed
 
 -- the key of each page has at most 48 bits
 abbrev pub AreSmall : List Listed → Type 0
@@ -44,13 +44,6 @@ AreSmall listed = All (λ l. l.page < 2 ^ 48) listed
 -- the pages that are listed
 abbrev pub pages_of : List Listed → List GuestPage
 pages_of listed = map (λ l. page_of l.page) listed
-
--- the pages in front of an index come before a key, and the others do not
-pub record IsPlace (from : ℕ) (listed : List Listed) (at : ℕ) : Type 0 where
-  pub count : at ≡ length (filter (λ l. nat_lt l.page from) listed)
-  pub within : at ≤ length listed
-  pub ahead : AllWithin (λ l. l.page < from) listed 0 at
-  pub behind : AllWithin (λ l. from ≤ l.page) listed at (length listed)
 
 -- what was added is in order in front of an index
 abbrev pub HasGap : List Listed → List Listed → ℕ → Type 0

@@ -42,7 +42,8 @@ impl<P: Part> Model for Order<P> {
 }
 
 /// The least key behind a cursor.
-fn from_of(cursor: Option<GuestPage>) -> u64
+#[inline(always)]
+pub fn from_of(cursor: Option<GuestPage>) -> u64
     ensures { (key : ℕ) → after_cursor cursor (page_of key) ≡ not (nat_lt key result) }
 {
     match cursor {

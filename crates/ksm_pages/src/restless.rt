@@ -7,21 +7,21 @@
 //! rows where memory is refused again: so no command is refused for it, and no contract speaks of the list. So it is
 //! where more than half of the list is there in vain.
 
-ghost use Rattle.std.specs.Prelude.{◌≡◌, ◌⊎◌, ◌≤◌, ◌||◌, [], true, false, filter, length, not, All, OnOk};
+ghost use Rattle.std.specs.Prelude.{◌≡◌, ◌⊎◌, ◌≤◌, ◌||◌, [], true, false, length, All, OnOk};
 ghost use Rattle.std.specs.Prelude.{IfNone, IfSome, IsTrue};
 ghost use Rattle.ksm_base.specs.declared.page.GuestPage.{GuestPage};
 ghost use Rattle.ksm_base.specs.Rows.{comes_before, same_page};
 ghost use Rattle.ksm_base.specs.Visit.{after_cursor};
 ghost use Rattle.ksm_rmap.specs.Items.{has_item};
-ghost use Rattle.ksm_rmap.specs.Keys.{page_of};
 ghost use Rattle.ksm_pages.specs.Filed.{IsInVain, is_useless as is_of_no_use};
-ghost use Rattle.ksm_pages.specs.Held.{AreInOrder, AreSmall, HasGap, IsAddedTo, IsPlace, IsPutAmong, low_spot};
+ghost use Rattle.ksm_order.specs.Places.{IsPlace};
+ghost use Rattle.ksm_pages.specs.Held.{AreInOrder, AreSmall, HasGap, IsAddedTo, IsPutAmong, low_spot};
 ghost use Rattle.slab.specs.Slab.{get};
 
-use crate::order::Order;
+use crate::order::{Order, from_of};
 use crate::row::{Entry, Spot};
 use ksm_base::GuestPage;
-use ksm_order::insert_at;
+use ksm_order::{Keyed, insert_at, is_place, place_of};
 use ksm_rmap::{key_of, page_of};
 use slab::Slab;
 use std::alloc::{AllocError, Global};
@@ -42,6 +42,14 @@ const WEIGHT_OF_A_SEARCH: usize = 4;
 pub struct Listed {
     page: u64,
     row: usize,
+}
+
+impl Keyed for Listed {
+    ghost key_of = { λ listed. listed.page };
+
+    fn key(self) -> u64 {
+        self.page
+    }
 }
 
 /// Pages, each with a guess of the key of its row, and whether all that a visit may change are among them.
@@ -81,80 +89,31 @@ impl Model for Restless {
         × IsReady r.added.items r.known r.ready };
 }
 
-/// Whether the first page from a key on stands at an index, or would.
+/// The index of the first page from a key on. A guess is tried first, and then the one before, which is right where the
+/// page that was told last was not visited.
 #[inline(always)]
-fn is_place(listed: &[Listed], at: usize, from: u64) -> bool
+fn place_by(listed: &[Listed], guess: usize, from: u64) -> usize
     requires { AreInOrder listed.now }
-    ensures { IsTrue result → IsPlace from listed.now at }
+    ensures { IsPlace (λ l. l.page) from listed.now result }
 {
-    if at > listed.len() {
-        return false;
-    }
-    if at > 0 && listed[at - 1].page >= from {
-        return false;
-    }
-    at == listed.len() || listed[at].page >= from
-}
-
-/// The index of the first page from a key on.
-fn place_of(listed: &[Listed], from: u64) -> usize
-    requires { AreInOrder listed.now }
-    ensures { IsPlace from listed.now result }
-{
-    listed.partition_point(|one| one.page < from)
-}
-
-/// The same, with a guess.
-fn search(listed: &[Listed], guess: usize, from: u64) -> usize
-    requires { AreInOrder listed.now }
-    ensures { IsPlace from listed.now result }
-{
-    if is_place(listed, guess, from) {
-        return guess;
-    }
-    place_of(listed, from)
-}
-
-/// The index of the first page behind a cursor: how many do not come behind it. The guess is right where the page told
-/// last was visited, and the one before where it was not.
-#[inline(always)]
-fn place_behind(listed: &[Listed], guess: usize, cursor: Option<GuestPage>) -> usize
-    requires { AreInOrder listed.now }
-    ensures count { result ≡ length (filter (λ l. not (after_cursor cursor (page_of l.page))) listed.now) }
-    ensures within { result ≤ length listed.now }
-{
-    let Some(page) = cursor else {
-        return 0;
-    };
-    let from = key_of(page) + 1;
     if is_place(listed, guess, from) {
         return guess;
     }
     search(listed, guess.wrapping_sub(1), from)
 }
 
-/// Whether no page comes behind this one.
-#[inline(always)]
-fn is_last(listed: &[Listed], page: u64) -> bool
+// The same, where the first guess was wrong.
+fn search(listed: &[Listed], guess: usize, from: u64) -> usize
     requires { AreInOrder listed.now }
-    ensures { IsTrue result → All (λ l. l.page ≤ page) listed.now }
+    ensures { IsPlace (λ l. l.page) from listed.now result }
 {
-    match listed.last() {
-        Some(last) => last.page <= page,
-        None => true,
+    if from == 0 {
+        return 0;
     }
-}
-
-/// Whether the pages are in order.
-fn are_in_order(added: &[Listed]) -> bool
-    ensures { IsTrue result → AreInOrder added.now }
-{
-    for i in 1..added.len() {
-        if added[i].page < added[i - 1].page {
-            return false;
-        }
+    if is_place(listed, guess, from) {
+        return guess;
     }
-    true
+    place_of(listed, from)
 }
 
 /// The index in front of which all that were added are in order, where there is one, and they are in order themselves.
@@ -165,10 +124,11 @@ fn gap_for(listed: &[Listed], added: &[Listed]) -> Option<usize>
     let first = added.first()?;
     let last = added.last()?;
     let at = place_of(listed, first.page);
-    if at < listed.len() && listed[at].page < last.page {
-        return None;
+    if is_place(listed, at, last.page) && added.is_sorted_by(|one, next| one.page <= next.page) {
+        Some(at)
+    } else {
+        None
     }
-    if are_in_order(added) { Some(at) } else { None }
 }
 
 /// Puts what was added between others, in front of an index.
@@ -280,7 +240,7 @@ impl Restless {
         ensures next { IfSome result (λ spot. (after_cursor cursor spot.page ≡ true)
             × All (λ p. after_cursor cursor p ≡ true → comes_before p spot.page ≡ false) self.old.pages) }
     {
-        let at = place_behind(self.listed.as_slice(), self.told, cursor);
+        let at = place_by(self.listed.as_slice(), self.told, from_of(cursor));
         self.told = at + 1;
         if at >= self.listed.len() {
             return None;
@@ -319,7 +279,7 @@ impl Restless {
             page: key_of(spot.page),
             row: spot.key,
         };
-        if self.ready && is_last(self.listed.as_slice(), listed.page) {
+        if self.ready && is_place(self.listed.as_slice(), self.listed.len(), listed.page + 1) {
             self.listed.push(listed)?;
         } else {
             self.ready = false;

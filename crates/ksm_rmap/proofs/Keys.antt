@@ -9,15 +9,10 @@ use Rattle.ksm_base.specs.Rows.{comes_before, same_page}
 use Rattle.ksm_rmap.specs.Items.{AreAscending, has_item, with_item, without_item}
 use Rattle.ksm_rmap.specs.Keys.{AreKeys, key_of, page_of, with_key, without_key}
 use Rattle.ksm_rmap.proofs.Alike.{filter_mapped, pairs_mapped}
-use Rattle.ksm_rmap.proofs.Ordered.{IsOrder}
-
--- numbers have an order
-pub numbers_ordered : IsOrder nat_lt (λ k l. k == l)
-numbers_ordered = grind arith
 
 -- where keys ascend, their pages do
 pub pages_rise : (keys : List ℕ) → AreKeys keys → AreAscending (map page_of keys)
-pages_rise keys are = pairs_mapped (λ k l. nat_lt k l ≡ true) (λ p q. comes_before p q ≡ true) (λ k. k < 2 ^ 48) page_of
+pages_rise keys are = pairs_mapped (λ k l. k < l) (λ p q. comes_before p q ≡ true) (λ k. k < 2 ^ 48) page_of
     (λ k l low high less. grind (arith, nat_tests)) keys are.small are.ascending
 
 module _ (page : GuestPage) (few : page.page < 2 ^ 32) where

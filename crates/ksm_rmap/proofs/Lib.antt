@@ -1,4 +1,3 @@
 pub mod Alike
 pub mod Keys
 pub mod Pages
-pub mod Ordered

@@ -4,7 +4,7 @@ use Rattle.std.proofs.Math.Seq.{take-append_seam}
 use Rattle.std.proofs.lemmas.Bool.Decides.{nat_tests}
 use Rattle.std.specs.List.{refill}
 use Rattle.ksm_base.specs.Rows.{comes_before, same_page}
-use Rattle.ksm_rmap.proofs.Ordered.{IsOrder}
+use Rattle.ksm_order.proofs.Ordered.{IsOrder}
 
 -- pages have an order by guest and page
 pub pages_ordered : IsOrder comes_before same_page

@@ -1,5 +1,5 @@
 -- The numbers of pages: a page and its key tell each other, and keys are in the order of their pages. (own)
-use Rattle.std.specs.Prelude.{◌≡◌, ℕ, ◌+◌, ◌*◌, ◌/◌, ◌%◌, ◌^◌, ◌<◌, ◌≤◌, ◌==◌, true, not, List, ◌∷◌, ◌++◌, All, AllPairs, filter, length, nat_lt}
+use Rattle.std.specs.Prelude.{ℕ, ◌+◌, ◌*◌, ◌/◌, ◌%◌, ◌^◌, ◌<◌, ◌≤◌, ◌==◌, not, List, ◌∷◌, ◌++◌, All, AllPairs, filter, length, nat_lt}
 use Rattle.ksm_base.specs.declared.limits.TheConstants.{MOST_REFERENCES}
 use Rattle.ksm_base.specs.declared.page.GuestPage.{GuestPage}
 
@@ -13,7 +13,7 @@ page_of key = record { guest = key / 2 ^ 32; page = key % 2 ^ 32 }
 
 -- the keys ascend, so no key stands twice
 abbrev pub AreKeysAscending : List ℕ → Type 0
-AreKeysAscending keys = AllPairs (λ k l. nat_lt k l ≡ true) keys
+AreKeysAscending keys = AllPairs (λ k l. k < l) keys
 
 -- the keys with this one among them, at its place in the order
 abbrev pub with_key : ℕ → List ℕ → List ℕ

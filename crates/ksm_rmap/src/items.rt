@@ -10,7 +10,7 @@ ghost use Rattle.ksm_rmap.specs.Keys.{AreKeysAscending, page_of};
 
 use crate::key::{key_of, page_of};
 use ksm_base::{Fault, GuestPage};
-use ksm_order::move_last;
+use ksm_order::{move_last, place_near_end, place_of, stands_at};
 use smallvec::SmallVec;
 use std::alloc::{AllocError, Global};
 use std::marker::Model;
@@ -56,7 +56,7 @@ impl Items {
         ensures memory { IfErr result (λ fault. fault ≡ Fault.Memory) }
     {
         let key = key_of(page);
-        let at = place_of(self.keys.as_slice(), key);
+        let at = place_near_end(self.keys.as_slice(), key);
         self.keys.push(key)?;
         move_last(self.keys.as_mut_slice(), at);
         Ok(())
@@ -111,26 +111,6 @@ impl Items {
     {
         page_of(self.keys.as_slice()[i])
     }
-}
-
-/// How many of the keys come before this one: the index at which it stands, or would.
-fn place_of(keys: &[u64], key: u64) -> usize
-    requires { AreKeysAscending keys.now }
-    ensures count { result ≡ length (filter (λ k. nat_lt k key) keys.now) }
-    ensures within { result ≤ length keys.now }
-{
-    keys.partition_point(|k| *k < key)
-}
-
-/// Whether the key stands at the index.
-fn stands_at(keys: &[u64], at: usize, key: u64) -> bool
-    requires order { AreKeysAscending keys.now }
-    requires place { at ≡ length (filter (λ k. nat_lt k key) keys.now) }
-    ensures found { result ≡ list_any (λ k. k == key) keys.now }
-    ensures within { IsTrue result → at < length keys.now }
-    ensures here { IsTrue result → (d : ℕ) → (slice_index_or keys.now at d == key) ≡ true }
-{
-    at < keys.len() && keys[at] == key
 }
 
 /// The pages of keys, each in the place of its key.

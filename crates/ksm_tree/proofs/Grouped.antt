@@ -4,7 +4,7 @@ use Rattle.ksm_tree.proofs.Names.{filter, find, get_or, group_places, group_size
 use Rattle.ksm_tree.proofs.Names.{length-filter, length-map, List, list_all, list_all-append, list_all-from_AllPass, MOST_FRAMES, nat_le, nat_lt, nat_tests, not, numbers_ordered, pairs_head, pairs_tail, refl}
 use Rattle.ksm_tree.proofs.Names.{same_group, Some, subst, suc, sym, Tells, Totals, true, zero, ℕ, [], ◌&&◌, ◌++◌, ◌+◌, ◌<◌, ◌==◌, ◌||◌, ◌∙◌, ◌∷◌, ◌≡◌, ◌≤◌}
 use Rattle.ksm_tree.proofs.Alike.{count_alike}
-use Rattle.ksm_rmap.proofs.Ordered.{found_parts}
+use Rattle.ksm_order.proofs.Ordered.{found_parts}
 use Rattle.ksm_base.proofs.Orders.{dups_parted as rows_parted, Lower}
 
 -- rows count as others do with one row more

@@ -15,9 +15,7 @@ pub use Rattle.ksm_base.specs.declared.row.DupRow.{DupRow}
 pub use Rattle.ksm_base.specs.declared.row.PageState.{PageState}
 pub use Rattle.ksm_base.specs.declared.row.PageState.TheVariants.{Merged}
 pub use Rattle.ksm_base.specs.declared.row.Row.{Row}
-pub use Rattle.ksm_rmap.proofs.Keys.{numbers_ordered}
-pub use Rattle.ksm_rmap.proofs.Ordered.{absent_kept, absent_past, all_counted, any_found, counted_here, found_by, insert_at, IsOrder, none_found, parted, point_is_count, remove_at, with_found}
-pub use Rattle.ksm_rmap.proofs.Ordered.{with_rises, without_rises}
+pub use Rattle.ksm_order.proofs.Ordered.{absent_kept, any_found, IsOrder, none_found, numbers_ordered, with_found}
 pub use Rattle.ksm_rmap.proofs.Pages.{pages_ordered}
 pub use Rattle.ksm_rmap.specs.Items.{has_item, with_item, without_item}
 pub use Rattle.ksm_tree.specs.Bridge.{AreCounted, AreTied, let_out, place_in}

@@ -1,6 +1,6 @@
 -- What is found at a page, and the pages of the rows merged into a dup, after a change of one row.
 use Rattle.ksm_tree.proofs.Alike.{change_none, chosen, kept_append}
-use Rattle.ksm_rmap.proofs.Ordered.{found_parts, none_same, none_same_low}
+use Rattle.ksm_order.proofs.Ordered.{found_parts, none_same, none_same_low}
 use Rattle.ksm_tree.proofs.Names.{All, AreCounted, AreTied, arith, Bool, change_row, comes_before, Dup, DupRow, false, filter, filter_passes, find_passes, GuestPage, if◌then◌else◌, InPageOrder, is_some, items_of}
 use Rattle.ksm_tree.proofs.Names.{length-filter, length-map, List, map, map-append, merged_into, None, not, Option, option_map, pages_ordered, refl, Row, row_at, same_page, Some, suc, true, with_item, without_item}
 use Rattle.ksm_tree.proofs.Names.{without_page, [], ◌++◌, ◌∷◌, ◌≡◌}

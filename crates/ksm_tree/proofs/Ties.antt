@@ -7,7 +7,7 @@ use Rattle.ksm_tree.specs.Dups.{items_of as items_numbered}
 use Rattle.ksm_tree.proofs.Alike.{kept_append}
 use Rattle.ksm_tree.proofs.Changes.{all_rows}
 use Rattle.ksm_tree.proofs.Tied.{at_written, items_dropped, items_joined, items_kept, items_left, page_of, tied_counted}
-use Rattle.ksm_rmap.proofs.Ordered.{absent_parts}
+use Rattle.ksm_order.proofs.Ordered.{absent_parts}
 
 abbrev IsTied : List Row → Dup → Type 0
 IsTied rows d = d.items ≡ items_of rows d.row

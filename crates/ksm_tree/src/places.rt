@@ -1,11 +1,11 @@
 //! Sorted lists of places: of a group, and of the open dups. Most groups have few dups, so four places lie in the list
 //! itself.
-ghost use Rattle.std.specs.Prelude.{◌≡◌, ℕ, ◌+◌, ◌<◌, ◌≤◌, List, [], true, ◌==◌, not, length, filter, IfErr, IfOk, IsTrue, OnOk, OnErr, AllPairs, nat_lt, slice_index_or};
-ghost use Rattle.std.specs.List.{list_any};
+ghost use Rattle.std.specs.Prelude.{◌≡◌, ◌+◌, ◌<◌, ◌≤◌, [], length, IfErr, IfOk, OnOk, AllPairs};
 ghost use Rattle.smallvec.specs.SmallVec.{HasRoomFor};
 ghost use Rattle.ksm_tree.specs.Places.{with_place, without};
 
 use ksm_base::Fault;
+use ksm_order::{place_near_end, stands_at};
 use smallvec::SmallVec;
 use std::alloc::Global;
 
@@ -13,7 +13,7 @@ use std::alloc::Global;
 #[derive(Drop)]
 pub struct Places {
     pub list: SmallVec<u32, 4>,
-    ghost ascending: { AllPairs (λ p q. nat_lt p q ≡ true) list.items },
+    ghost ascending: { AllPairs (λ p q. p < q) list.items },
 }
 
 impl Places {
@@ -64,8 +64,9 @@ impl Places {
         ensures capacity { self.new.list.capacity ≡ self.old.list.capacity }
     {
         let places = self.list.as_slice();
-        let at = place_in(places, place);
-        if !stands_at(places, at, place) {
+        let key = u64::from(place);
+        let at = place_near_end(places, key);
+        if !stands_at(places, at, key) {
             let _there_is_room = self.list.insert(at, place);
         }
     }
@@ -77,39 +78,10 @@ impl Places {
         ensures capacity { self.new.list.capacity ≡ self.old.list.capacity }
     {
         let places = self.list.as_slice();
-        let at = place_in(places, place);
-        if stands_at(places, at, place) {
+        let key = u64::from(place);
+        let at = place_near_end(places, key);
+        if stands_at(places, at, key) {
             self.list.remove(at);
         }
     }
-}
-
-/// How many of the places come before this one: the index at which it stands, or would.
-fn place_in(places: &[u32], place: u32) -> usize
-    requires { AllPairs (λ p q. nat_lt p q ≡ true) places.now }
-    ensures count { result ≡ length (filter (λ p. nat_lt p place) places.now) }
-    ensures within { result ≤ length places.now }
-{
-    let Some(last) = places.last() else {
-        return 0;
-    };
-    // Mostly the place comes behind all, or is the last one, so that is tried before the search.
-    if *last < place {
-        return places.len();
-    }
-    if *last == place {
-        return places.len() - 1;
-    }
-    places.partition_point(|p| *p < place)
-}
-
-/// Whether a place stands at an index.
-fn stands_at(places: &[u32], at: usize, place: u32) -> bool
-    requires order { AllPairs (λ p q. nat_lt p q ≡ true) places.now }
-    requires index { at ≡ length (filter (λ p. nat_lt p place) places.now) }
-    ensures found { result ≡ list_any (λ p. p == place) places.now }
-    ensures within { IsTrue result → at < length places.now }
-    ensures here { IsTrue result → (d : ℕ) → (slice_index_or places.now at d == place) ≡ true }
-{
-    at < places.len() && places[at] == place
 }

@@ -1,5 +1,5 @@
 use Rattle.std.proofs.Common.{arith}
-use Rattle.ksm_order.proofs.Between.{find_here}
+use Rattle.ksm_order.proofs.Places.{find_here}
 use Rattle.ksm_order.proofs.leaf.find_in.Goals as goal
 
 pub returns-in-Some : goal.returns-in-Some

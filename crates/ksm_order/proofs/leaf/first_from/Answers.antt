@@ -5,8 +5,8 @@ use Rattle.ksm_order.proofs.leaf.first_from.Goals as goal
 
 pub returns-then-at-items : goal.returns-then-at-items
 returns-then-at-items c =
-    grind (arith, from_cut c.requires c.place_of-at.ensures, slice_get-get_or)
+    grind (arith, from_cut c.place_by-at.ensures, slice_get-get_or)
 
 pub returns-else-at-items : goal.returns-else-at-items
 returns-else-at-items c =
-    grind (arith, from_cut c.requires c.place_of-at.ensures, slice_get_past)
+    grind (arith, from_cut c.place_by-at.ensures, slice_get_past)

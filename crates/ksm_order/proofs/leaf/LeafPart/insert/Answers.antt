@@ -1,19 +1,21 @@
-use Rattle.std.proofs.Common.{arith, ◌≡◌}
-use Rattle.ksm_order.specs.Listed.{with_item}
-use Rattle.ksm_order.proofs.Between.{insert_here, many_with}
-use Rattle.ksm_order.proofs.Changes.{byte_of, with_rises}
+use Rattle.std.proofs.Common.{arith, ◌≡◌, ◌∙◌}
+use Rattle.ksm_order.specs.Listed.{is_at, with_item}
+use Rattle.ksm_base.proofs.Edits.{find_none}
+use Rattle.ksm_order.proofs.Between.{many_with}
+use Rattle.ksm_order.proofs.Places.{insert_here, with_rises}
+use Rattle.ksm_order.proofs.Changes.{byte_of}
 use Rattle.ksm_order.proofs.leaf.LeafPart.insert.Goals as goal
 
 -- the item is put in behind those before its key
 added : (c : goal.After-self-2-1) → c.insert_at.new.items.items ≡ with_item c.args.item c.self.inside.items.items
 added c =
-    let at = rw c.as_slice.ensures.value at c.place_of-at.ensures in
-    grind (arith, c.in_ok-insert_at.ensures.put, insert_here c.args.item c.self.inside.items.items c.place_of-at.result at)
+    let at = rw c.as_slice.ensures.value at c.place_by-at.ensures in
+    c.in_ok-insert_at.ensures.put ∙ insert_here at c.args.item (find_none (is_at c.args.item.key) _ (grind (arith, c.requires.absent, c.self.view_is)))
 
 pub invariant_of-self-2 : goal.invariant_of-self-2
 invariant_of-self-2 c =
     record {
-      ascending = rw (added c) (with_rises c.args.item _ c.self.invariant.ascending);
+      ascending = rw (added c) (with_rises (λ y. y.key) c.args.item _ c.self.invariant.ascending);
       counted = grind (arith, added c, many_with c.args.item c.self.inside.items.items, byte_of);
     }
 

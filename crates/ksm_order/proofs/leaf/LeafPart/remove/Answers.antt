@@ -1,11 +1,13 @@
 use Rattle.std.proofs.Common.{◌∙◌, ◌≡◌, arith}
-use Rattle.ksm_order.specs.Listed.{IsHere, without}
+use Rattle.ksm_order.specs.Listed.{without}
+use Rattle.ksm_order.specs.Places.{IsHere}
 use Rattle.ksm_order.proofs.Changes.{filter_rises, removed_counted}
-use Rattle.ksm_order.proofs.Between.{remove_here, without_none}
+use Rattle.ksm_order.proofs.Between.{without_none}
+use Rattle.ksm_order.proofs.Places.{remove_here}
 use Rattle.ksm_order.proofs.leaf.LeafPart.remove.Goals as goal
 use Rattle.ksm_order.proofs.leaf.LeafPart.remove.Goals.{After-remove-gone}
 
-here : (c : After-remove-gone) → IsHere c.args.key c.self.inside.items.items c.in-Some.at
+here : (c : After-remove-gone) → IsHere (λ x. x.key) c.args.key c.self.inside.items.items c.in-Some.at
 here c = rw c.as_slice.ensures.value at c.in-Some.ensures.here
 
 -- the item is taken away

@@ -1,7 +1,7 @@
 use Rattle.ksm_pages.proofs.Names.{All-append, All-cons, All-filter, ap, arith, find, is_of, length, map, Named, named_by, None, rules, true, with_named, ◌+◌, ◌<◌, ◌^◌, ◌≡◌}
 use Rattle.ksm_order.specs.declared.item.Item.{Item}
 use Rattle.ksm_order.specs.Listed.{with_item}
-use Rattle.ksm_order.proofs.Changes.{with_rises}
+use Rattle.ksm_order.proofs.Places.{with_rises}
 use Rattle.ksm_pages.proofs.Ranked.{found_by, longer_by, put_its}
 use Rattle.ksm_pages.proofs.order.Order.insert.Goals as goal
 use Rattle.ksm_pages.proofs.order.Order.insert.Goals.{After-key_of}
@@ -30,7 +30,7 @@ invariant_of-self-2 g c =
     let one_more : c.in-Some.len ≡ c.self.inside.len + 1 = grind arith in
     let Small : Item → Type 0 = λ y. y.key < 2 ^ 48 in
     record {
-      ascending = rw come (with_rises x _ rise);
+      ascending = rw come (with_rises (λ y. y.key) x _ rise);
       long = omega (arith, one_more, c.self.invariant.long, ap length come, longer_by _ x c.self.inside.pages rise (absent g k) (put g k));
       small = rw come (All-append Small _ _ (All-filter _ Small _ c.self.invariant.small)
           (All-cons Small x _ c.key_of.ensures.small (All-filter _ Small _ c.self.invariant.small)));

@@ -1,4 +1,4 @@
-use Rattle.std.proofs.Common.{◌≡◌, ◌∙◌, ◌<◌, ◌^◌, ap, arith, false, length, map, refl, sym, ℕ}
+use Rattle.std.proofs.Common.{◌≡◌, ◌∙◌, ◌<◌, ◌^◌, ap, arith, false, length, map, sym, ℕ}
 use Rattle.std.specs.Prelude.{◌==◌, insert}
 use Rattle.std.specs.List.{list_any, refill}
 use Rattle.std.proofs.lemmas.List.{length-map}
@@ -6,43 +6,43 @@ use Rattle.std.proofs.lemmas.List.Edits.{length-insert}
 use Rattle.std.proofs.lemmas.List.Elements.{All-append, All-cons, All-filter}
 use Rattle.ksm_rmap.specs.Items.{has_item, with_item}
 use Rattle.ksm_rmap.specs.Keys.{page_of, with_key}
-use Rattle.ksm_rmap.proofs.Keys.{has_by_key, numbers_ordered, with_by_key}
-use Rattle.ksm_rmap.proofs.Ordered.{insert_at, none_found, with_rises}
+use Rattle.ksm_rmap.proofs.Keys.{has_by_key, with_by_key}
+use Rattle.ksm_base.proofs.Edits.{find_none}
+use Rattle.ksm_order.specs.Places.{IsPlace}
+use Rattle.ksm_order.proofs.Ordered.{none_found}
+use Rattle.ksm_order.proofs.Places.{insert_here, with_rises}
 use Rattle.ksm_rmap.proofs.Pages.{refilled}
 use Rattle.ksm_rmap.proofs.items.Items.add.Goals as goal
 
 -- the key is put in at its place
-put : (c : goal.After-self-1) → c.move_last.new.items ≡ insert c.self.inside.keys.items c.place_of-at.result c.key_of-key.result
+put : (c : goal.After-self-1) → c.move_last.new.items ≡ insert c.self.inside.keys.items c.place_near_end-at.result c.key_of-key.result
 put c = c.move_last.ensures c.self.inside.keys.items c.key_of-key.result (c.as_mut_slice.ensures.value ∙ c.in_ok-push.ensures.ok)
 
 long : (c : goal.After-self-1) → length c.move_last.new.items ≡ length c.push.new.self.items
 long c =
     ap length (put c)
-    ∙ length-insert c.self.inside.keys.items c.place_of-at.result c.key_of-key.result (rw (sym c.as_slice.ensures) c.place_of-at.ensures.within)
+    ∙ length-insert c.self.inside.keys.items c.place_near_end-at.result c.key_of-key.result (rw (sym c.as_slice.ensures) c.place_near_end-at.ensures.within)
     ∙ sym c.in_ok-push.ensures.len
 
--- it was not there, as its page was not
-absent : (c : goal.After-self-1) → list_any (λ k. k == c.key_of-key.result) c.self.inside.keys.items ≡ false
-absent c =
-    rw c.key_of-key.ensures.key
-    (sym (has_by_key c.args.page c.key_of-key.ensures.few _) ∙ ap (has_item c.args.page) c.self.view_is ∙ c.requires.absent)
-
--- so it stands behind those before it
+-- it was not there, as its page was not, so it stands behind those before it
 added : (c : goal.After-self-1)
     → refill (length c.push.new.self.items) c.push.new.self.items c.move_last.new.items ≡ with_key c.key_of-key.result c.self.inside.keys.items
 added c =
+    let keys = c.self.inside.keys.items in
+    let key = c.key_of-key.result in
+    let absent : list_any (λ k. k == key) keys ≡ false = rw c.key_of-key.ensures.key
+    (sym (has_by_key c.args.page c.key_of-key.ensures.few _) ∙ ap (has_item c.args.page) c.self.view_is ∙ c.requires.absent) in
+    let place : IsPlace (λ k. k) key keys c.place_near_end-at.result = rw c.as_slice.ensures at c.place_near_end-at.ensures in
     refilled c.push.new.self.items c.move_last.new.items (long c)
     ∙ put c
-    ∙ insert_at numbers_ordered (λ k. k) c.key_of-key.result _ c.self.invariant.ascending c.as_slice.ensures refl
-    c.place_of-at.ensures.count c.key_of-key.result
-    (none_found _ c.self.inside.keys.items (absent c))
+    ∙ insert_here place key (find_none (λ k. k == key) keys (none_found (λ k. k == key) keys absent))
 
 pub invariant_of-self-2 : goal.invariant_of-self-2
 invariant_of-self-2 c =
     let Small : ℕ → Type 0 = λ k. k < 2 ^ 48 in
     let key = c.key_of-key.result in
     record {
-      ascending = rw (added c) (with_rises numbers_ordered (λ k. k) key _ _ refl c.self.invariant.ascending);
+      ascending = rw (added c) (with_rises (λ k. k) key _ c.self.invariant.ascending);
       small = rw (added c) (All-append Small _ _ (All-filter _ Small _ c.self.invariant.small)
           (All-cons Small key _ c.key_of-key.ensures.small (All-filter _ Small _ c.self.invariant.small)));
       few = omega (

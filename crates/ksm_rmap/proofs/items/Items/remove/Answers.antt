@@ -6,14 +6,17 @@ use Rattle.std.proofs.lemmas.List.Elements.{All-filter}
 use Rattle.ksm_order.proofs.Moved.{moved_down}
 use Rattle.ksm_rmap.specs.Items.{has_item, without_item}
 use Rattle.ksm_rmap.specs.Keys.{key_of, page_of, without_key}
-use Rattle.ksm_rmap.proofs.Keys.{has_by_key, numbers_ordered, without_by_key}
-use Rattle.ksm_rmap.proofs.Ordered.{remove_at, absent_kept, none_found, without_rises}
+use Rattle.ksm_rmap.proofs.Keys.{has_by_key, without_by_key}
+use Rattle.std.proofs.lemmas.List.Kept.{AllPairs-filter}
+use Rattle.ksm_order.specs.Places.{IsHere}
+use Rattle.ksm_order.proofs.Ordered.{absent_kept, none_found}
+use Rattle.ksm_order.proofs.Places.{remove_here}
 use Rattle.ksm_rmap.proofs.Pages.{pages_ordered, refilled}
 use Rattle.ksm_rmap.proofs.items.Items.remove.Goals as goal
 use Rattle.ksm_rmap.proofs.items.Items.remove.Goals.{After-stands_at-found}
 
-within : (c : goal.After-truncate) → c.place_of-at.result < length c.self.inside.keys.items
-within c = rw (sym c.as_slice-2.ensures) (c.if-found.ensures.within refl)
+here : (c : goal.After-truncate) → IsHere (λ k. k) c.key_of-key.result c.self.inside.keys.items c.place_of-at.result
+here c = rw c.as_slice-2.ensures at (c.if-found.ensures.here refl)
 
 -- the key at its place goes
 gone : (c : goal.After-truncate) → c.truncate.new.self.items ≡ remove c.self.inside.keys.items c.place_of-at.result
@@ -28,15 +31,13 @@ gone c =
     c.truncate.ensures.items
     ∙ (λ i. take (length (value i) - 1) (back i))
     ∙ ap (take (length keys - 1)) moved
-    ∙ moved_down keys at (within c)
+    ∙ moved_down keys at (here c).within
 
 -- so the key is taken out
 removed : (c : goal.After-truncate) → c.truncate.new.self.items ≡ without_key c.key_of-key.result c.self.inside.keys.items
 removed c =
     gone c
-    ∙ remove_at numbers_ordered (λ k. k) c.key_of-key.result _ c.self.invariant.ascending c.as_slice.ensures c.as_slice-2.ensures
-    c.place_of-at.ensures.count 0
-    (c.if-found.ensures.within refl) (c.if-found.ensures.here refl 0)
+    ∙ remove_here c.self.invariant.ascending (here c) 0
 
 -- without its key the page is gone from the pages
 page_gone : (c : After-stands_at-found) → map page_of (without_key c.key_of-key.result c.self.inside.keys.items) ≡ without_item c.args.page c.args.self.now
@@ -55,9 +56,9 @@ found c =
 
 pub invariant_of-self : goal.invariant_of-self
 invariant_of-self c = record {
-  ascending = rw (removed c) (without_rises numbers_ordered (λ k. k) c.key_of-key.result _ c.self.invariant.ascending);
+  ascending = rw (removed c) (AllPairs-filter (λ (k l : ℕ). k < l) _ _ c.self.invariant.ascending);
   small = rw (removed c) (All-filter _ (λ (k : ℕ). k < 2 ^ 48) _ c.self.invariant.small);
-  few = omega (arith, ap length (gone c), length-remove c.self.inside.keys.items c.place_of-at.result (within c), c.self.invariant.few);
+  few = omega (arith, ap length (gone c), length-remove c.self.inside.keys.items c.place_of-at.result (here c).within, c.self.invariant.few);
 }
 
 pub returns-then-found-clause-found : goal.returns-then-found-clause-found

@@ -1,0 +1,113 @@
+-- The place of a key in a list whose keys do not fall: what stands in front of it and behind, what an insert and a removal there
+-- leave.
+use Rattle.std.proofs.Common.{◌≡◌, ℕ, ◌+◌, ◌<◌, ◌≤◌, Bool, false, List, ◌∷◌, ◌++◌, []}
+use Rattle.std.proofs.Common.{length, get_or, take, drop, sym, ap, ◌∙◌, arith, Some, inl, inr}
+use Rattle.std.specs.Prelude.{◌==◌, All, AllPairs, filter, find, insert, nat_lt, not, remove}
+use Rattle.std.specs.List.{list_any}
+use Rattle.std.proofs.lemmas.Bool.{cases_Bool, ltb-true}
+use Rattle.std.proofs.lemmas.Bool.Decides.{nat_tests}
+use Rattle.std.proofs.lemmas.List.{append-nil, drop_more, get_or-drop, get_or-take, get_or_default, length-drop, length-take-le, take-append-drop}
+use Rattle.std.proofs.lemmas.List.Elements.{filter-append, filter_passes}
+use Rattle.std.proofs.lemmas.List.Folds.{find-append, list_any_at, list_any_none}
+use Rattle.ksm_base.proofs.Edits.{find_nothing}
+use Rattle.ksm_base.proofs.Orders.{filter_none, pairs_with}
+use Rattle.ksm_base.proofs.RowCounts.{filter_all}
+use Rattle.ksm_order.specs.Places.{AreInOrder, IsHere, IsPlace}
+use Rattle.ksm_order.proofs.Ordered.{numbers_ordered, without_between}
+
+-- whether an element comes before a key, comes behind it, or is of it
+abbrev pub low : {X : Type 0} → (X → ℕ) → ℕ → X → Bool
+low key_of key y = nat_lt (key_of y) key
+
+abbrev pub high : {X : Type 0} → (X → ℕ) → ℕ → X → Bool
+high key_of key y = nat_lt key (key_of y)
+
+abbrev pub is_it : {X : Type 0} → (X → ℕ) → ℕ → X → Bool
+is_it key_of key y = key_of y == key
+
+module _ {X : Type 0} {key_of : X → ℕ} {key : ℕ} {xs : List X} {at : ℕ} where
+  module _ (place : IsPlace key_of key xs at) where
+    -- all in front of the place come before the key, and no other does
+    pub in_front : All (λ x. key_of x < key) (take at xs)
+    in_front k d lt = grind (arith, place.within, place.ahead k d, get_or-take at xs k d, length-take-le at xs)
+
+    pub from_there : All (λ x. key ≤ key_of x) (drop at xs)
+    from_there k d lt = grind (arith, place.behind (at + k) d, get_or-drop at xs k d, length-drop at xs)
+
+    -- where the element there is not of the key, none is
+    pub none_there : AreInOrder key_of xs → ((d : X) → at < length xs → is_it key_of key (get_or xs at d) ≡ false) → All (λ x. is_it key_of key x ≡ false) xs
+    none_there rise differs k d lt =
+        grind (arith, nat_tests, place.ahead k d, place.behind k d, place.behind at d, rise at k d, differs d)
+
+    -- the element there tells whether there is one of the key
+    pub told_there : AreInOrder key_of xs → (d : X) → at < length xs → is_it key_of key (get_or xs at d) ≡ list_any (is_it key_of key) xs
+    told_there rise d within = elim (cases_Bool (is_it key_of key (get_or xs at d))) [
+      | inl here ↦ here ∙ sym (list_any_at (is_it key_of key) xs at d within here)
+      | inr other ↦ other ∙ sym (list_any_none (is_it key_of key) xs (none_there rise (λ e lt. grind (arith, other, get_or_default xs at d e lt))))
+    ]
+
+    -- an element of a key that is not there is put in between those that come before the key and those that come behind it
+    pub insert_here : (x : X) → All (λ y. is_it key_of key y ≡ false) xs → insert xs at x ≡ filter (low key_of key) xs ++ x ∷ filter (high key_of key) xs
+    insert_here x absent =
+        let whole = take-append-drop at xs in
+        grind (
+          arith,
+          append-nil,
+          filter-append,
+          ap (filter (low key_of key)) whole,
+          ap (filter (high key_of key)) whole,
+          filter_all (low key_of key) (take at xs) (λ k d lt. grind (arith, nat_tests, in_front k d)),
+          filter_none (low key_of key) (drop at xs) (λ k d lt. grind (arith, nat_tests, from_there k d)),
+          filter_none (high key_of key) (take at xs) (λ k d lt. grind (arith, nat_tests, in_front k d)),
+          filter_all (high key_of key) (drop at xs)
+              (λ k d lt. grind (arith, nat_tests, from_there k d, absent (at + k) d, get_or-drop at xs k d, length-drop at xs)),
+        )
+
+  -- keys ascend, and an element of the key stands at the index
+  module _ (rise : AllPairs (λ x y. key_of x < key_of y) xs) (here : IsHere key_of key xs at) (d : X) where
+    abbrev it : X
+    it = get_or xs at d
+
+    pub cut_here : take at xs ++ it ∷ drop (at + 1) xs ≡ xs
+    cut_here = grind (arith, here.within, drop_more xs at d, take-append-drop at xs)
+
+    pub before_here : All (λ x. key_of x < key) (take at xs)
+    before_here k e lt = grind (arith, here.within, here.is e, rise k at e, get_or-take at xs k e, length-take-le at xs)
+
+    pub behind_here : All (λ x. key < key_of x) (drop (at + 1) xs)
+    behind_here k e lt =
+        grind (arith, here.is e, rise at (at + 1 + k) e, get_or-drop (at + 1) xs k e, length-drop (at + 1) xs)
+
+    -- it is found, and taken out, there
+    pub find_here : find (is_it key_of key) xs ≡ Some it
+    find_here = grind (
+      arith,
+      nat_tests,
+      here.is d,
+      ap (find (is_it key_of key)) cut_here,
+      find-append,
+      find_nothing (is_it key_of key) (take at xs) (λ k e lt. grind (arith, nat_tests, before_here k e)),
+    )
+
+    pub remove_here : remove xs at ≡ filter (λ y. not (is_it key_of key y)) xs
+    remove_here = grind (
+      arith,
+      nat_tests,
+      here.is d,
+      ap (filter (λ y. not (is_it key_of key y))) cut_here,
+      without_between numbers_ordered key_of key (take at xs) (it ∷ []) (drop (at + 1) xs)
+          (λ k e lt. grind (arith, nat_tests, before_here k e)) (λ k e lt. grind (arith, nat_tests, behind_here k e)),
+    )
+
+-- a list whose keys ascend keeps them so with an element at its place
+pub with_rises : {X : Type 0} (key_of : X → ℕ) (x : X) (xs : List X) → AllPairs (λ y z. key_of y < key_of z) xs
+    → AllPairs (λ y z. key_of y < key_of z) (filter (low key_of (key_of x)) xs ++ x ∷ filter (high key_of (key_of x)) xs)
+with_rises {X} key_of x xs rise =
+    let lows : All (λ y. key_of y < key_of x) (filter (low key_of (key_of x)) xs) = λ k d lt. ltb-true _ _ (filter_passes (low key_of (key_of x)) xs k d lt) in
+    let highs : All (λ y. key_of x < key_of y) (filter (high key_of (key_of x)) xs) = λ k d lt. ltb-true _ _ (filter_passes (high key_of (key_of x)) xs k d lt) in
+    pairs_with (λ y z. key_of y < key_of z) (low key_of (key_of x)) (high key_of (key_of x)) x xs rise lows highs
+    (λ k d lt j e le. grind (arith, lows k d lt, highs j e le))
+
+-- where keys ascend, they do not fall
+pub in_order : {X : Type 0} (key_of : X → ℕ) (xs : List X) → AllPairs (λ x y. key_of x < key_of y) xs → AreInOrder key_of xs
+in_order key_of xs rise i j d less lt = grind (arith, rise i j d)

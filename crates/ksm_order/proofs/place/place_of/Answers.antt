@@ -1,0 +1,17 @@
+use Rattle.std.proofs.Common.{arith, rules}
+use Rattle.std.specs.Prelude.{nat_lt}
+use Rattle.std.specs.List.Sorted.{IsPartitionedBy}
+use Rattle.std.proofs.lemmas.Bool.Decides.{nat_tests}
+use Rattle.std.proofs.lemmas.List.Sorted.{IsPartitionPoint-from_clause}
+use Rattle.ksm_order.proofs.place.place_of.Goals as goal
+
+pub returns : goal.returns
+returns g c =
+    let split : IsPartitionedBy (λ x. nat_lt (g.T.Keyed.key_of x) c.args.key) c.args.items.now = λ i j d le lt later. grind (arith, nat_tests, c.requires i j d) in
+    let point = IsPartitionPoint-from_clause (λ x. nat_lt (g.T.Keyed.key_of x) c.args.key) _ _
+    c.partition_point.ensures.partitioned split (λ a r q k. search rules) in
+    record {
+      within = c.partition_point.ensures.bound;
+      ahead = λ k d start lt. grind (arith, point.0 k d start lt, nat_tests);
+      behind = λ k d start lt. grind (arith, point.1 k d start lt, nat_tests);
+    }
