@@ -2,6 +2,9 @@
 use Rattle.ksm_book.proofs.Names.{ap, arith, change_row, FindsNone, GuestPage, HasNewFrame, Houses, IfSome, InPageOrder, IsKnown, IsLaid, KeeperView, leaving, lies_on, List, MakesSteps, MayLeave}
 use Rattle.ksm_book.proofs.Names.{on_its_own, Option, PagesView, Placed, Provides, Resettled, Row, Some, subst, TurnedAway, ℕ, ◌≡◌}
 use Rattle.ksm_base.specs.declared.row.PageState.TheVariants.{Private}
+use Rattle.std.proofs.Common.{get_or, refl}
+use Rattle.ksm_pages.specs.Paged.{relaid}
+use Rattle.ksm_book.proofs.ByPage.{change_twice}
 use Rattle.ksm_book.proofs.Shown.{provides_does}
 use Rattle.ksm_book.proofs.Keeping.{left_placed, left_spends, may_leave, searched_placed, searched_spends}
 use Rattle.ksm_book.proofs.Laying.{kept, moved_there}
@@ -17,6 +20,16 @@ module _ {p : PagesView} {k w : KeeperView} (h : IsLaid p k) (rise : InPageOrder
   -- once the page lies on the frame taken, the one that it had is in the hand
   in_hand : {change : Row → Row} → Houses change page node bytes p.rows → Placed p.shape across w.ledger (change_row page change p.rows) (lies_on page (Some g) p.frame) p.dups (p.frame page)
   in_hand by_this = moved_there h.same taken h.placed _ _ rise by_this
+
+  -- the pages as they would be if the page got its frame alone
+  abbrev pub settled : PagesView
+  settled = record p { rows = change_row page on_its_own p.rows; frame = lies_on page (Some g) p.frame }
+
+  -- pages of which the row changed with the frame are those, of which the row changed then
+  pub settled_as : (change : Row → Row) → ((r : Row) → change (on_its_own r) ≡ change r) → {q : PagesView} → q ≡ relaid page change (Some g) p
+      → q ≡ record settled { rows = change_row page change settled.rows }
+  settled_as change alike goes =
+      rw (change_twice page on_its_own change change p.rows (λ x. refl) (λ i x lt at. alike (get_or p.rows i x))) goes
 
   module _ (left : Option ℕ) (was : left ≡ p.frame page) where
     -- once a page has a new frame in hand, the frame that it had, if it had one, may be left

@@ -171,15 +171,12 @@ impl State {
         };
         if held.shared {
             self.note_break(due, held.spot);
-            resettle(
-                &mut self.pages,
-                &mut self.keeper,
-                table,
-                held.spot,
-                held.home,
-                bytes,
-            )?;
-            self.pages.store(held.spot, bytes);
+            let shape = self.pages.shape();
+            let Some(frame) = take_frame(&mut self.keeper, table, shape, held.home, bytes) else {
+                return Err(Fault::NoFrame(held.home));
+            };
+            let left = self.pages.store_on(held.spot, frame, bytes);
+            release_if(&mut self.keeper, table, left);
             return Ok(Reply::Done);
         }
         self.note_store(due, held.spot);

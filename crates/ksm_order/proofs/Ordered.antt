@@ -1,8 +1,8 @@
 -- Lists in a strict order of their keys: the parts in front of a key and behind it, and the list with an element of the key and
 -- without.
-use Rattle.std.proofs.Common.{◌≡◌, ℕ, zero, suc, ◌≤◌, Bool, true, false, List, [], ◌∷◌, ◌++◌, length, refl, arith, Option, None, Some, is_some}
+use Rattle.std.proofs.Common.{◌≡◌, suc, Bool, true, false, List, [], ◌∷◌, ◌++◌, refl, arith, Option, None, Some, is_some}
 use Rattle.std.specs.Prelude.{◌==◌, nat_lt, find, not, All, AllPairs, filter}
-use Rattle.std.specs.List.{AllWithin, list_any}
+use Rattle.std.specs.List.{list_any}
 use Rattle.std.proofs.lemmas.List.Elements.{filter-append, filter_passes}
 use Rattle.std.proofs.lemmas.List.Kept.{AllPairs-filter}
 use Rattle.ksm_base.proofs.Edits.{find_none, find_nothing, find_passes}

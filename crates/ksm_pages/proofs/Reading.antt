@@ -1,6 +1,6 @@
 -- What is read of the rows along their order.
 use Rattle.ksm_pages.proofs.Names.{All, All-filter, ap, AreAscending, AreFiled, arith, Bool, count_by, Entry, find, find_all, get, GuestPage, held_in, held_under, List, map, mergeable_pages, Named}
-use Rattle.ksm_pages.proofs.Names.{None, Option, option_map, refl, Row, rows_of, Slab, Some, visited, ℕ, ◌∙◌, ◌≡◌}
+use Rattle.ksm_pages.proofs.Names.{option_map, refl, Row, rows_of, Slab, Some, visited, ℕ, ◌∙◌, ◌≡◌}
 use Rattle.ksm_tree.proofs.Alike.{count_mapped, filter_mapped, find_mapped, map_mapped}
 use Rattle.ksm_pages.proofs.Filing.{all_stand, flag_under, page_under}
 

@@ -5,6 +5,7 @@ use Rattle.ksm_base.specs.declared.page.GuestPage.{GuestPage}
 use Rattle.ksm_base.specs.declared.row.PageState.{PageState}
 use Rattle.ksm_base.specs.declared.row.PageState.TheVariants.{Private, Waiting, Merged, Zero}
 use Rattle.ksm_base.specs.declared.row.Row.{Row}
+use Rattle.ksm_base.specs.Apply.{stored}
 use Rattle.ksm_base.specs.Rows.{comes_before, same_page, settled}
 use Rattle.ksm_order.specs.Places.{AreInOrder as AreKeysInOrder}
 use Rattle.ksm_rmap.specs.Items.{has_item}
@@ -223,6 +224,10 @@ written bytes h = record h {
   row = record (settled h.row) { bytes = bytes; unchanged = h.row.unchanged && bytes_eq h.row.bytes bytes };
   in_tree = Not;
 }
+
+-- a row with these bytes and a frame of its own
+abbrev pub copied : ℕ → List ℕ → Held → Held
+copied frame bytes h = record { row = stored bytes h.row; frame = Some frame; in_tree = Not }
 
 -- a row to which the unstable tree does not lead
 abbrev pub out_of_tree : Held → Held

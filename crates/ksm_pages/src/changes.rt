@@ -40,11 +40,20 @@ impl Pages {
         ensures settled { seen self.new ≡ relaid spot.page on_its_own (Some frame) (seen self.old) }
     {
         let left = leave(&mut self.dups, &self.frames, &self.rows, spot);
-        self.rows.change(spot, |entry| {
-            entry.kind = Kind::Own;
-            entry.at = frame;
-            entry.number = 0;
-        });
+        self.rows.change(spot, |entry| entry.take_frame(frame));
+        left
+    }
+
+    /// The page gets a frame of its own in the stead of what it had, and these bytes. Gives the frame where it lay, if it
+    /// had one.
+    #[inline(always)]
+    pub fn store_on(&mut self, spot: Spot, frame: u32, bytes: &PageBytes) -> Option<u32>
+        requires { IsKnown spot.page self.old.rows }
+        ensures left { result ≡ (seen self.old).frame spot.page }
+        ensures stored { seen self.new ≡ relaid spot.page (stored bytes.now) (Some frame) (seen self.old) }
+    {
+        let left = leave(&mut self.dups, &self.frames, &self.rows, spot);
+        self.rows.store_on(spot, frame, bytes);
         left
     }
 
@@ -123,9 +132,7 @@ impl Pages {
     {
         let left = leave(&mut self.dups, &self.frames, &self.rows, spot);
         self.rows.change(spot, |entry| {
-            entry.kind = Kind::Own;
-            entry.at = frame;
-            entry.forget_pass();
+            entry.take_frame(frame);
             entry.mergeable = false;
             entry.unchanged = false;
         });

@@ -127,6 +127,16 @@ impl Entry {
         }
     }
 
+    /// The entry has a frame of its own, and waits for nothing.
+    #[inline(always)]
+    pub fn take_frame(&mut self, frame: u32)
+        ensures { self.new ≡ record self.old { kind = Kind.Own; at = frame; number = 0 } }
+    {
+        self.kind = Kind::Own;
+        self.at = frame;
+        self.number = 0;
+    }
+
     /// The entry has these bytes. Where they are others than before, it is not unchanged.
     #[inline(always)]
     pub fn take_bytes(&mut self, bytes: &PageBytes)

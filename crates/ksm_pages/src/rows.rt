@@ -18,7 +18,7 @@ ghost use Rattle.ksm_base.specs.Visit.{after_cursor};
 ghost use Rattle.ksm_pages.specs.Ahead.{EndsAt, FindsNext, last_of, mergeable_pages, pages_behind, pages_between};
 ghost use Rattle.ksm_pages.specs.Filed.{AreFiled, AreListed, IsMade, IsTally, IsUnder, KeepsPage, key_in};
 ghost use Rattle.ksm_pages.specs.Held.{AreInTree, IsFree, altered, held_at, held_of, is_in, on_row, out_of_tree};
-ghost use Rattle.ksm_pages.specs.Held.{in_tree_by, page_in_tree, rows_of, shares, waiting_in, with_held, without_held, written};
+ghost use Rattle.ksm_pages.specs.Held.{in_tree_by, page_in_tree, rows_of, copied, shares, waiting_in, with_held, without_held, written};
 ghost use Rattle.ksm_pages.specs.Ordered.{AreAscending};
 ghost use Rattle.ksm_pages.specs.Unstable.{AreLed, IsFreeAt, LeadsAt};
 ghost use Rattle.slab.specs.Slab.{get};
@@ -426,24 +426,21 @@ impl Rows {
     pub fn store(&mut self, spot: Spot, bytes: &PageBytes)
         ensures { self.new ≡ altered spot.page (written bytes.now) self.old }
     {
-        let Some(key) = key_of(&self.entries, &self.order, spot) else {
-            return;
-        };
-        if self.entries[key].in_tree.is_in() {
-            let page = spot.page;
-            self.store_in_tree(Spot { page, key }, bytes);
-        } else {
-            self.entries[key].take_bytes(bytes);
-        }
+        self.change_out_of_tree(spot, |entry| {
+            entry.in_tree = InTree::Not;
+            entry.take_bytes(bytes);
+        });
     }
 
-    // The same where the unstable tree leads to the row.
-    #[inline(never)]
-    fn store_in_tree(&mut self, spot: Spot, bytes: &PageBytes)
-        ensures { self.new ≡ altered spot.page (written bytes.now) self.old }
+    /// The row has a frame of its own in the stead of what it had, and these bytes. Where its bytes were others, it is not
+    /// unchanged.
+    #[inline(always)]
+    pub fn store_on(&mut self, spot: Spot, frame: u32, bytes: &PageBytes)
+        ensures { self.new ≡ altered spot.page (copied frame bytes.now) self.old }
     {
         self.change_out_of_tree(spot, |entry| {
             entry.in_tree = InTree::Not;
+            entry.take_frame(frame);
             entry.take_bytes(bytes);
         });
     }
@@ -465,8 +462,32 @@ impl Rows {
         self.change_out_of_tree(spot, |entry| entry.in_tree = InTree::Not);
     }
 
-    // The entry of a page becomes what is made of it, to which the unstable tree does not lead: it forgets the key.
+    // The entry of a page becomes what is made of it, to which the unstable tree does not lead.
+    #[inline(always)]
     fn change_out_of_tree<F: FnOnce(&mut Entry)>(&mut self, spot: Spot, make: F)
+        requires callable { F.IsAlwaysCallable make }
+        requires kept { KeepsPage self.old.pass (λ old new. FnOnceReturnsAtMut F.FnOnce make old tt new) }
+        ensures { IsMade (λ old new. FnOnceReturnsAtMut F.FnOnce make old tt new) spot.page self.old self.new }
+    {
+        if self.is_in_tree(spot) {
+            self.change_in_tree(spot, make);
+        } else {
+            self.change(spot, make);
+        }
+    }
+
+    // Whether the unstable tree leads to the row.
+    #[inline(always)]
+    fn is_in_tree(&self, spot: Spot) -> bool {
+        match key_of(&self.entries, &self.order, spot) {
+            Some(key) => self.entries[key].in_tree.is_in(),
+            None => false,
+        }
+    }
+
+    // The same where the unstable tree led to it, which forgets the key.
+    #[inline(never)]
+    fn change_in_tree<F: FnOnce(&mut Entry)>(&mut self, spot: Spot, make: F)
         requires callable { F.IsAlwaysCallable make }
         requires kept { KeepsPage self.old.pass (λ old new. FnOnceReturnsAtMut F.FnOnce make old tt new) }
         ensures { IsMade (λ old new. FnOnceReturnsAtMut F.FnOnce make old tt new) spot.page self.old self.new }

@@ -6,7 +6,7 @@ use Rattle.ksm_tree.proofs.Names.{with_value, ℕ, [], ◌&&◌, ◌+◌, ◌==�
 use Rattle.slab.specs.Slab.{Updates as Fills}
 use Rattle.ksm_tree.proofs.Numbering.{same_content, told_equal}
 use Rattle.ksm_tree.proofs.Rows.{eq_bytes}
-use Rattle.ksm_tree.specs.Groups.{KeepReserve}
+use Rattle.ksm_tree.specs.Groups.{GroupsKeepReserve}
 use Rattle.ksm_tree.specs.declared.places.Places.{Places}
 use Rattle.std.specs.Prelude.{◌⊎◌}
 
@@ -89,7 +89,7 @@ one_more old new tree bytes key none was long updates = (
 )
 
 -- where the others lost their numbers, or nothing happened, and no content got one, the reserve is kept
-pub reserve_left : (old : Groups) {g : Groups} {tree : ℕ} {bytes : List ℕ} → (IsSwept g ⊎ SameNumbers old g) → KeepReserve tree bytes old g
+pub reserve_left : (old : Groups) {g : Groups} {tree : ℕ} {bytes : List ℕ} → (IsSwept g ⊎ SameNumbers old g) → GroupsKeepReserve tree bytes old g
 reserve_left old is = grind arith
 
 -- what a number and a content say of the groups

@@ -63,6 +63,6 @@ IsCountedAnew tree bytes old new =
     IsRegrouped (length (chain_in tree bytes old)) (length (chain_in tree bytes new)) old.totals new.totals
 
 -- a tree and bytes were asked for their number, and the reserve is kept
-abbrev pub KeepReserve : ℕ → List ℕ → Groups → Groups → Type 0
-KeepReserve tree bytes old new =
+abbrev pub GroupsKeepReserve : ℕ → List ℕ → Groups → Groups → Type 0
+GroupsKeepReserve tree bytes old new =
     KeepsReserve (is_used_in new) tree bytes old.numbers.entries new.numbers.entries old.most new.most

@@ -60,7 +60,7 @@ pub struct Groups {
 }
 
 impl Groups {
-    ghost use Rattle.ksm_tree.specs.Groups.{HasRoomAt, IsCounted, IsCountedAnew, IsMoved, IsSwept, SameChains, SameNumbers, KeepReserve, chain_in, number_in};
+    ghost use Rattle.ksm_tree.specs.Groups.{HasRoomAt, IsCounted, IsCountedAnew, IsMoved, IsSwept, SameChains, SameNumbers, GroupsKeepReserve, chain_in, number_in};
 
     /// No groups, in a table with so many places.
     pub fn new(alloc: Global, places: u32) -> Groups
@@ -167,7 +167,7 @@ impl Groups {
     ) -> Result<u32, Fault>
         ensures numbered { IfOk result (λ number. number_in tree bytes.now self.new ≡ Some number) }
         ensures chains { SameChains self.old self.new }
-        ensures reserve { KeepReserve tree bytes.now self.old self.new }
+        ensures reserve { GroupsKeepReserve tree bytes.now self.old self.new }
         ensures memory { FailsForMemory result }
     {
         if let Some(number) = self.guessed(guess, tree, bytes) {
@@ -183,7 +183,7 @@ impl Groups {
     fn search_or_enter(&mut self, alloc: Global, tree: u32, bytes: &PageBytes) -> Result<u32, Fault>
         ensures numbered { IfOk result (λ number. number_in tree bytes.now self.new ≡ Some number) }
         ensures chains { SameChains self.old self.new }
-        ensures reserve { KeepReserve tree bytes.now self.old self.new }
+        ensures reserve { GroupsKeepReserve tree bytes.now self.old self.new }
         ensures memory { FailsForMemory result }
     {
         self.make_room();

@@ -1,7 +1,8 @@
 //! Sorted lists of places: of a group, and of the open dups. Most groups have few dups, so four places lie in the list
 //! itself.
-ghost use Rattle.std.specs.Prelude.{◌≡◌, ◌+◌, ◌<◌, ◌≤◌, [], length, IfErr, IfOk, OnOk, AllPairs};
+ghost use Rattle.std.specs.Prelude.{◌≡◌, ◌+◌, ◌<◌, ◌≤◌, [], length, IfOk, OnOk, AllPairs};
 ghost use Rattle.smallvec.specs.SmallVec.{HasRoomFor};
+ghost use Rattle.ksm_tree.specs.Faults.{FailsForMemory};
 ghost use Rattle.ksm_tree.specs.Places.{with_place, without};
 
 use ksm_base::Fault;
@@ -31,7 +32,7 @@ impl Places {
     pub fn with_room(alloc: Global, room: usize) -> Result<Places, Fault>
         ensures none { IfOk result (λ places. places.list.items ≡ []) }
         ensures room { IfOk result (λ places. room ≤ places.list.capacity) }
-        ensures memory { IfErr result (λ fault. fault ≡ Fault.Memory) }
+        ensures memory { FailsForMemory result }
     {
         Ok(Places {
             list: SmallVec::with_capacity(alloc, room)?,
@@ -50,7 +51,7 @@ impl Places {
     pub fn reserve(&mut self) -> Result<(), Fault>
         ensures kept { self.new.list.items ≡ self.old.list.items }
         ensures room { OnOk result (HasRoomFor self.new.list 1) }
-        ensures memory { IfErr result (λ fault. fault ≡ Fault.Memory) }
+        ensures memory { FailsForMemory result }
     {
         self.list.reserve(1)?;
         Ok(())

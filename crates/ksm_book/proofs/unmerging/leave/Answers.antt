@@ -1,6 +1,5 @@
-use Rattle.ksm_book.proofs.Names.{change_row, IsKnown, let_go, lies_on, on_its_own, PagesView, refl, rules, seen, Some, sym, ◌∙◌, ◌≡◌}
-use Rattle.ksm_book.proofs.ByPage.{change_twice}
-use Rattle.ksm_book.proofs.Resettled.{may_left, resettled, turned}
+use Rattle.ksm_book.proofs.Names.{IsKnown, let_go, refl, rules, sym, ◌∙◌}
+use Rattle.ksm_book.proofs.Resettled.{may_left, resettled, settled_as, turned}
 use Rattle.ksm_book.proofs.Singles.{found_resettled, row_held}
 use Rattle.ksm_book.proofs.Unmerged.{left_alone, left_any, left_guest, left_still}
 use Rattle.ksm_book.proofs.unmerging.leave.Goals as goal
@@ -17,21 +16,6 @@ returns-else-is_some-clause-left c = left_still _ c.requires.held c.requires.lai
 known : (c : After-let_go_on-left) → IsKnown c.args.held.spot.page c.args.pages.now.rows
 known c = rw (row_held c.requires.held) refl
 
--- the pages as they would be if the page got its frame alone
-abbrev settled : After-let_go_on-left → PagesView
-settled c =
-    let p = seen c.args.pages.now in
-    record p {
-      rows = change_row c.args.held.spot.page on_its_own p.rows;
-      frame = lies_on c.args.held.spot.page (Some c.in-Some.frame) p.frame;
-    }
-
--- its row was let go then
-gone : (c : After-let_go_on-left) → seen c.let_go_on-left.new.self
-    ≡ record (settled c) { rows = change_row c.args.held.spot.page let_go (settled c).rows }
-gone c = rw (change_twice c.args.held.spot.page on_its_own let_go let_go c.args.pages.now.rows (λ x. refl) (λ i x lt at. refl))
-    c.let_go_on-left.ensures.gone
-
 pub release_if-requires-clause-may : goal.release_if-requires-clause-may
 release_if-requires-clause-may c =
     let s = (goal.at.release_if-requires-clause-may c).After-let_go_on-left in
@@ -44,10 +28,11 @@ returns-in_default-clause-turned c =
 pub returns-then-is_some-2-clause-left : goal.returns-then-is_some-2-clause-left
 returns-then-is_some-2-clause-left c =
     let s = (goal.at.returns-then-is_some-2-clause-left c).After-let_go_on-left in
-    let got = resettled c.requires.laid c.lie_in_order.ensures.rise _ (known s) c.in-Some.ensures.provides c.in-Some.ensures.took
-    _ c.let_go_on-left.ensures.left (settled s) _ refl c.release_if.ensures in
+    let rise = c.lie_in_order.ensures.rise in
+    let got = resettled c.requires.laid rise _ (known s) c.in-Some.ensures.provides c.in-Some.ensures.took
+    _ c.let_go_on-left.ensures.left _ _ refl c.release_if.ensures in
     left_guest _ c.requires.held c.requires.laid c.lie_in_order.ensures.rise c.if-not-held.false
-    c.bytes-bytes.ensures got (sym c.is_some-2.ensures ∙ c.if-is_some-2.true) (gone s)
+    c.bytes-bytes.ensures got (sym c.is_some-2.ensures ∙ c.if-is_some-2.true) (settled_as c.requires.laid rise _ (known s) c.in-Some.ensures.provides c.in-Some.ensures.took let_go (λ r. refl) c.let_go_on-left.ensures.gone)
 
 pub forget_unchanged-requires : goal.forget_unchanged-requires
 forget_unchanged-requires c = rw (found_resettled c.in_ok-resettle.ensures.resettled (row_held c.requires.held)) refl

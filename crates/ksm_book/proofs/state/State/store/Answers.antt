@@ -1,6 +1,8 @@
-use Rattle.ksm_book.proofs.Names.{arith, Done, find_all, length, Ok, PAGE_WORDS, refl, rules, seen, Store, sym, ◌<◌, ◌∙◌, ◌≡◌}
+use Rattle.ksm_book.proofs.Names.{arith, Done, find_all, length, Ok, PAGE_WORDS, IsKnown, refl, rules, seen, Store, sym, ◌<◌, ◌∙◌, ◌≡◌}
+use Rattle.ksm_base.specs.Apply.{stored}
 use Rattle.ksm_book.proofs.Laying.{served_at}
-use Rattle.ksm_book.proofs.Singles.{carried_so, Carries, found_resettled, own_ready, row_held, lawful, store_copied, store_written}
+use Rattle.ksm_book.proofs.Singles.{carried_so, Carries, own_ready, row_held, lawful, store_copied, store_written}
+use Rattle.ksm_book.proofs.Resettled.{may_left, resettled, settled_as, turned}
 use Rattle.ksm_book.proofs.state.State.store.Goals as goal
 
 pub known_frame-frame-requires : goal.known_frame-frame-requires
@@ -16,12 +18,12 @@ write-requires c =
           _ (sym c.in-Some.ensures.frame ∙ c.known_frame-frame.ensures),
     )
 
-written : (c : goal.After-store-2) → Carries (seen c.self.inside.pages) c.self.inside.keeper (seen c.store-2.new.self)
+written : (c : goal.After-store) → Carries (seen c.self.inside.pages) c.self.inside.keeper (seen c.store.new.self)
     c.write.new.keeper c.self.inside.cursor c.self.inside.passes (Store c.in-Some.held.spot.page c.args.bytes.now) (Ok Done)
 written c =
     let wide : length c.args.bytes.now ≡ PAGE_WORDS = search rules in
     store_written {row = c.in-Some.ensures.row} c.self.invariant.1 c.self.invariant.0.rows_rise (row_held c.in-Some.ensures) _
-    c.store-2.ensures (sym c.in-Some.ensures.shared ∙ c.if-held.false)
+    c.store.ensures (sym c.in-Some.ensures.shared ∙ c.if-held.false)
     (grind (arith, c.in-Some.ensures.spot, c.in-Some.ensures.frame, c.known_frame-frame.ensures))
     c.write.ensures.wrote c.write.ensures.ledger wide
 
@@ -31,18 +33,31 @@ returns-clause-carried c = carried_so c.self.view_is (rw c.in-Some.ensures.spot)
 pub invariant_of-self-2 : goal.invariant_of-self-2
 invariant_of-self-2 c = lawful c.self.invariant.0 (written c)
 
-pub resettle-requires-clause-node : goal.resettle-requires-clause-node
-resettle-requires-clause-node c = rw c.in-Some.ensures.home
-    (find_all _ (λ r. r.home < c.self.inside.pages.shape.nodes) _ _ c.in-Some.ensures.found c.self.invariant.0.homes)
+pub take_frame-requires-clause-node : goal.take_frame-requires-clause-node
+take_frame-requires-clause-node c =
+    let homes = find_all _ (λ r. r.home < c.self.inside.pages.shape.nodes) _ _ c.in-Some.ensures.found c.self.invariant.0.homes in
+    grind (arith, c.shape-shape.ensures, c.in-Some.ensures.home, homes)
 
-pub store-requires : goal.store-requires
-store-requires c = rw (found_resettled c.in_ok-resettle.ensures.resettled (row_held c.in-Some.ensures)) refl
+-- where no frame is found, no page changed
+pub invariant_of-self : goal.invariant_of-self
+invariant_of-self c = (c.self.invariant.0, (turned c.self.invariant.1 c.in_default-take_frame.ensures.provides).laid)
 
-copied : (c : goal.After-store) → Carries (seen c.self.inside.pages) c.self.inside.keeper (seen c.store.new.self)
-    c.resettle.new.keeper c.self.inside.cursor c.self.inside.passes (Store c.in-Some.held.spot.page c.args.bytes.now) (Ok Done)
+pub release_if-requires-clause-may : goal.release_if-requires-clause-may
+release_if-requires-clause-may c =
+    let known : IsKnown c.in-Some.held.spot.page c.self.inside.pages.rows = rw (row_held c.in-Some.ensures) refl in
+    may_left c.self.invariant.1 c.self.invariant.0.rows_rise _ known c.in-Some-take_frame.ensures.provides c.in-Some-take_frame.ensures.took _ c.store_on-left.ensures.left
+
+copied : (c : goal.After-release_if) → Carries (seen c.self.inside.pages) c.self.inside.keeper (seen c.store_on-left.new.self)
+    c.release_if.new.keeper c.self.inside.cursor c.self.inside.passes (Store c.in-Some.held.spot.page c.args.bytes.now) (Ok Done)
 copied c =
-    store_copied {row = c.in-Some.ensures.row} c.self.invariant.1 c.self.invariant.0.rows_rise (row_held c.in-Some.ensures)
-    (rw c.in-Some.ensures.home at c.in_ok-resettle.ensures.resettled) c.store.ensures (sym c.in-Some.ensures.shared ∙ c.if-held.true)
+    let laid = c.self.invariant.1 in
+    let rise = c.self.invariant.0.rows_rise in
+    let known : IsKnown c.in-Some.held.spot.page c.self.inside.pages.rows = rw (row_held c.in-Some.ensures) refl in
+    let provides = c.in-Some-take_frame.ensures.provides in
+    let took = c.in-Some-take_frame.ensures.took in
+    let got = resettled laid rise _ known provides took _ c.store_on-left.ensures.left _ _ refl c.release_if.ensures in
+    store_copied {row = c.in-Some.ensures.row} laid rise (row_held c.in-Some.ensures) (rw c.in-Some.ensures.home at got)
+    (settled_as laid rise _ known provides took (stored c.args.bytes.now) (λ r. refl) c.store_on-left.ensures.stored) (sym c.in-Some.ensures.shared ∙ c.if-held.true)
 
 pub returns-then-held-clause-carried : goal.returns-then-held-clause-carried
 returns-then-held-clause-carried c = carried_so c.self.view_is (rw c.in-Some.ensures.spot) (copied c).0
