@@ -426,10 +426,17 @@ impl Rows {
     pub fn store(&mut self, spot: Spot, bytes: &PageBytes)
         ensures { self.new ≡ altered spot.page (written bytes.now) self.old }
     {
-        self.change_out_of_tree(spot, |entry| {
-            entry.in_tree = InTree::Not;
-            entry.take_bytes(bytes);
-        });
+        let Some(key) = key_of(&self.entries, &self.order, spot) else {
+            return;
+        };
+        if self.entries[key].in_tree.is_in() {
+            self.change_in_tree(spot, |entry| {
+                entry.in_tree = InTree::Not;
+                entry.take_bytes(bytes);
+            });
+        } else {
+            self.entries[key].take_bytes(bytes);
+        }
     }
 
     /// The row has a frame of its own in the stead of what it had, and these bytes. Where its bytes were others, it is not

@@ -87,6 +87,7 @@ impl Counts {
     }
 
     /// Sets how many items there are at a place.
+    #[inline(always)]
     pub fn set(&mut self, place: u32, count: u32)
         requires { place < length self.old }
         ensures { self.new ≡ slice_set self.old place count }

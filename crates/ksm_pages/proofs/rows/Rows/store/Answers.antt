@@ -1,0 +1,35 @@
+use Rattle.ksm_pages.proofs.Names.{arith, false, inr, refl, rules, sym, true≢false, ◌∙◌, ◌≡◌}
+use Rattle.ksm_pages.specs.Held.{is_in, written}
+use Rattle.ksm_pages.proofs.Writing.{kept_mark, led_so, nothing, still, viewed}
+use Rattle.ksm_pages.proofs.rows.Rows.store.Goals as goal
+use Rattle.ksm_pages.proofs.rows.Rows.store.Goals.{After-take_bytes}
+
+pub returns-in_default : goal.returns-in_default
+returns-in_default c = search (rules, nothing)
+
+-- the unstable tree does not lead to the entry
+out : (c : After-take_bytes) → is_in c.index_mut.result.now.in_tree ≡ false
+out c = grind (arith, c.index.ensures, c.index_mut.ensures.value, c.is_in.ensures, c.if-is_in.false)
+
+pub invariant_of-self : goal.invariant_of-self
+invariant_of-self c =
+    let s = c.self.inside in
+    let there = c.in-Some.ensures.there in
+    let stood = c.index_mut.ensures.value in
+    let f = (goal.at.invariant_of-self c).After-take_bytes in (
+      rw c.take_bytes.ensures
+          (still s c.self.invariant.0 there stood c.self.view_is _ (kept_mark s c.self.invariant.0 there stood _ refl)
+          (refl, λ fits. fits) refl refl (search rules) (inr (refl, λ may. may))),
+      led_so s c.self.invariant.0 there stood c.self.invariant.1 c.take_bytes.new.self
+          (λ led. absurd (true≢false (sym led ∙ rw c.take_bytes.ensures (out f)))),
+    )
+
+pub returns-else-is_in : goal.returns-else-is_in
+returns-else-is_in c =
+    let s = c.self.inside in
+    let there = c.in-Some.ensures.there in
+    let stood = c.index_mut.ensures.value in
+    let f = (goal.at.returns-else-is_in c).After-take_bytes in
+    rw c.take_bytes.ensures
+    (viewed s c.self.invariant.0 there stood c.self.view_is _ (kept_mark s c.self.invariant.0 there stood _ refl)
+    (refl, λ fits. fits) (written c.args.bytes.now) (λ _. grind (arith, out f)))
