@@ -27,11 +27,11 @@ use crate::ahead::Ahead;
 use crate::order::Order;
 use crate::restless::Restless;
 use crate::row::{Entry, InTree, Kind, Spot};
-use crate::slot::{last_slot, slot_of};
+use crate::slot::Keys;
 use crate::tally::Tally;
 use crate::unstable::{GONE, UnstableTree, is_in_tree, tree_by};
 use ksm_base::{Fault, GuestPage, PageBytes, PageState};
-use ksm_tree::{Guesses, NO_NUMBER, reserve_one};
+use ksm_tree::{NO_NUMBER, reserve_one};
 use slab::Slab;
 use std::alloc::Global;
 use std::marker::Model;
@@ -42,9 +42,7 @@ pub struct Rows {
     alloc: Global,
     entries: Slab<Entry>,
     order: Order,
-    /// Guesses: in the slot of a page the key of the row that came last of the pages with that slot.
-    keys: Guesses,
-    last_slot: u32,
+    keys: Keys,
     restless: Restless,
     tally: Tally,
     /// One more whenever no row waits any longer.
@@ -162,13 +160,11 @@ impl Rows {
         ensures held { result.held ≡ [] }
         ensures by_node { result.by_node ≡ false }
     {
-        let last_slot = last_slot(frames);
         Rows {
             alloc,
             entries: Slab::new(alloc),
             order: Order::new(alloc),
-            keys: Guesses::new(alloc, last_slot as usize + 1),
-            last_slot,
+            keys: Keys::new(alloc, frames),
             restless: Restless::new(alloc),
             tally: Tally::NONE,
             pass: 1,
@@ -240,7 +236,7 @@ impl Rows {
     /// A guess of the key of a page's row.
     #[inline(always)]
     pub fn guess(&self, page: GuestPage) -> usize {
-        self.keys.at(slot_of(page, self.last_slot)) as usize
+        self.keys.guess(page)
     }
 
     /// The number of the pass: a row waits exactly where its number is this one, and it has a frame of its own.
@@ -351,7 +347,7 @@ impl Rows {
             mergeable: true,
             unchanged: false,
         });
-        self.keys.set(slot_of(page, self.last_slot), key);
+        self.keys.remember(self.alloc, &self.entries, page, key);
         let spot = Spot {
             page,
             key: key as usize,

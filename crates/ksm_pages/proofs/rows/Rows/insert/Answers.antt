@@ -47,7 +47,18 @@ pub invariant_of-self-in_default : goal.invariant_of-self-in_default
 invariant_of-self-in_default c = (search rules, rw c.reserve_one.ensures.rest c.self.invariant.1)
 
 pub invariant_of-self-in_err-insert : goal.invariant_of-self-in_err-insert
-invariant_of-self-in_err-insert c = (search rules, rw c.reserve_one.ensures.rest c.self.invariant.1)
+invariant_of-self-in_err-insert c =
+    let was = c.self.invariant.0 in (
+      rw (c.in_err-insert.ensures.kept, c.reserve_one.ensures.rest) (record {
+        ascending = was.ascending;
+        filed = was.filed;
+        listed = was.listed;
+        counted = was.counted;
+        begun = was.begun;
+        counting = was.counting;
+      }),
+      rw c.reserve_one.ensures.rest c.self.invariant.1,
+    )
 
 pub returns-clause-added : goal.returns-clause-added
 returns-clause-added c =
