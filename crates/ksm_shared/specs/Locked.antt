@@ -60,6 +60,12 @@ pub record SeesOn (parts : PartsId) (old new : Caller) (more : List Owned) : Typ
   pub alone : parts.callers ≡ 1 → between ≡ []
   pub whole : parts.callers ≡ 1 → part_of new ≡ entries new.seen
 
+-- The share has seen on, and no entry is its own: its part of the journal stays. With one share all is as it was.
+pub record IsShown (parts : PartsId) (old new : Caller) : Type 0 where
+  pub seen : SeesOn parts old new []
+  pub part : part_of new ≡ part_of old
+  pub alone : parts.callers ≡ 1 → new ≡ old
+
 -- with one share the command is a step of the book from the state that the share had seen to the state that it then has
 -- seen
 abbrev pub StepsAlone : PartsId → Caller → Caller → Command → Answer → Type 0

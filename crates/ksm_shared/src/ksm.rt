@@ -11,7 +11,7 @@ ghost use Rattle.frame_table.specs.Equal.{LooksUpEqual};
 ghost use Rattle.frame_table.specs.Lookup.{LooksUp};
 ghost use Rattle.frame_table.specs.Seats.{new_pass};
 ghost use Rattle.ksm_shared.specs.declared.seen.Owned.{Owned};
-ghost use Rattle.ksm_shared.specs.Locked.{EndsAfter, EndsLawfully, SeesOn, StepsAlone, fresh, made, made_by};
+ghost use Rattle.ksm_shared.specs.Locked.{EndsAfter, EndsLawfully, IsShown, SeesOn, StepsAlone, fresh, made, made_by};
 ghost use Rattle.ksm_shared.specs.Locked.{part_of, state_seen};
 ghost use Rattle.ksm_shared.specs.Published.{Looked, Tells, new_reader};
 ghost use Rattle.ksm_shared.specs.Seen.{CallersFit, OwnersBelow, entries};
@@ -144,9 +144,7 @@ impl<N: Naming> Ksm<N> {
     /// The bytes of a page, loaded from the words of its frame; none where it has no row. They are those stored last by
     /// the journal that the share then has seen.
     pub fn read<R: Wait>(&self, rt: &R, share: &mut Share<N>, page: GuestPage) -> Option<PageBytes>
-        ensures seen { SeesOn N.parts share.old share.new [] }
-        ensures part { part_of share.new ≡ part_of share.old }
-        ensures alone { N.parts.callers ≡ 1 → share.new ≡ share.old }
+        ensures shown { IsShown N.parts share.old share.new }
         ensures bytes { result ≡ bytes_of page (state_seen N.parts share.new) }
         ensures stored { IfSome result (λ bytes. last_stored page (entries share.new.seen) ≡ Some bytes) }
     {
@@ -160,9 +158,7 @@ impl<N: Naming> Ksm<N> {
     /// Reads a page as `read` does, for whoever has the book alone: no lock is taken.
     #[inline(always)]
     pub fn read_alone(&mut self, share: &mut Share<N>, page: GuestPage) -> Option<PageBytes>
-        ensures seen { SeesOn N.parts share.old share.new [] }
-        ensures part { part_of share.new ≡ part_of share.old }
-        ensures alone { N.parts.callers ≡ 1 → share.new ≡ share.old }
+        ensures shown { IsShown N.parts share.old share.new }
         ensures bytes { result ≡ bytes_of page (state_seen N.parts share.new) }
         ensures stored { IfSome result (λ bytes. last_stored page (entries share.new.seen) ≡ Some bytes) }
     {
@@ -173,9 +169,7 @@ impl<N: Naming> Ksm<N> {
 
     /// The place of the dup into which a page is merged; none where it is not merged.
     pub fn ticket<R: Wait>(&self, rt: &R, share: &mut Share<N>, page: GuestPage) -> Option<u32>
-        ensures seen { SeesOn N.parts share.old share.new [] }
-        ensures part { part_of share.new ≡ part_of share.old }
-        ensures alone { N.parts.callers ≡ 1 → share.new ≡ share.old }
+        ensures shown { IsShown N.parts share.old share.new }
         ensures ticket { result ≡ ticket_of page (state_seen N.parts share.new) }
     {
         let mut merge = self.merge.lock(rt);
@@ -188,9 +182,7 @@ impl<N: Naming> Ksm<N> {
     /// The place of a page as `ticket` tells it, for whoever has the book alone: no lock is taken.
     #[inline(always)]
     pub fn ticket_alone(&mut self, share: &mut Share<N>, page: GuestPage) -> Option<u32>
-        ensures seen { SeesOn N.parts share.old share.new [] }
-        ensures part { part_of share.new ≡ part_of share.old }
-        ensures alone { N.parts.callers ≡ 1 → share.new ≡ share.old }
+        ensures shown { IsShown N.parts share.old share.new }
         ensures ticket { result ≡ ticket_of page (state_seen N.parts share.new) }
     {
         let merge = self.merge.get_mut();
@@ -205,9 +197,7 @@ impl<N: Naming> Ksm<N> {
         share: &mut Share<N>,
         page: GuestPage,
     ) -> Option<Option<u32>>
-        ensures seen { SeesOn N.parts share.old share.new [] }
-        ensures part { part_of share.new ≡ part_of share.old }
-        ensures alone { N.parts.callers ≡ 1 → share.new ≡ share.old }
+        ensures shown { IsShown N.parts share.old share.new }
         ensures known { IfSome result (λ place. (is_known (state_seen N.parts share.new) page ≡ true)
             × (place ≡ ticket_of page (state_seen N.parts share.new))) }
         ensures unknown { IfNone result (is_known (state_seen N.parts share.new) page ≡ false) }
@@ -223,9 +213,7 @@ impl<N: Naming> Ksm<N> {
 
     /// Whether the page is registered.
     pub fn registered<R: Wait>(&self, rt: &R, share: &mut Share<N>, page: GuestPage) -> bool
-        ensures seen { SeesOn N.parts share.old share.new [] }
-        ensures part { part_of share.new ≡ part_of share.old }
-        ensures alone { N.parts.callers ≡ 1 → share.new ≡ share.old }
+        ensures shown { IsShown N.parts share.old share.new }
         ensures registered { result ≡ is_known (state_seen N.parts share.new) page }
     {
         let mut merge = self.merge.lock(rt);
@@ -238,9 +226,7 @@ impl<N: Naming> Ksm<N> {
     /// Whether the page is registered, for whoever has the book alone: no lock is taken.
     #[inline(always)]
     pub fn registered_alone(&mut self, share: &mut Share<N>, page: GuestPage) -> bool
-        ensures seen { SeesOn N.parts share.old share.new [] }
-        ensures part { part_of share.new ≡ part_of share.old }
-        ensures alone { N.parts.callers ≡ 1 → share.new ≡ share.old }
+        ensures shown { IsShown N.parts share.old share.new }
         ensures registered { result ≡ is_known (state_seen N.parts share.new) page }
     {
         let merge = self.merge.get_mut();
@@ -250,9 +236,7 @@ impl<N: Naming> Ksm<N> {
 
     /// The counters.
     pub fn counters<R: Wait>(&self, rt: &R, share: &mut Share<N>) -> Counters
-        ensures seen { SeesOn N.parts share.old share.new [] }
-        ensures part { part_of share.new ≡ part_of share.old }
-        ensures alone { N.parts.callers ≡ 1 → share.new ≡ share.old }
+        ensures shown { IsShown N.parts share.old share.new }
         ensures counters { result ≡ counters_of (state_seen N.parts share.new) }
     {
         let mut merge = self.merge.lock(rt);
@@ -265,9 +249,7 @@ impl<N: Naming> Ksm<N> {
     /// The counters, for whoever has the book alone: no lock is taken.
     #[inline(always)]
     pub fn counters_alone(&mut self, share: &mut Share<N>) -> Counters
-        ensures seen { SeesOn N.parts share.old share.new [] }
-        ensures part { part_of share.new ≡ part_of share.old }
-        ensures alone { N.parts.callers ≡ 1 → share.new ≡ share.old }
+        ensures shown { IsShown N.parts share.old share.new }
         ensures counters { result ≡ counters_of (state_seen N.parts share.new) }
     {
         let merge = self.merge.get_mut();
@@ -277,9 +259,7 @@ impl<N: Naming> Ksm<N> {
 
     /// The knobs.
     pub fn knobs<R: Wait>(&self, rt: &R, share: &mut Share<N>) -> Knobs
-        ensures seen { SeesOn N.parts share.old share.new [] }
-        ensures part { part_of share.new ≡ part_of share.old }
-        ensures alone { N.parts.callers ≡ 1 → share.new ≡ share.old }
+        ensures shown { IsShown N.parts share.old share.new }
         ensures knobs { result ≡ (state_seen N.parts share.new).knobs }
     {
         let mut merge = self.merge.lock(rt);
@@ -292,9 +272,7 @@ impl<N: Naming> Ksm<N> {
     /// The knobs, for whoever has the book alone: no lock is taken.
     #[inline(always)]
     pub fn knobs_alone(&mut self, share: &mut Share<N>) -> Knobs
-        ensures seen { SeesOn N.parts share.old share.new [] }
-        ensures part { part_of share.new ≡ part_of share.old }
-        ensures alone { N.parts.callers ≡ 1 → share.new ≡ share.old }
+        ensures shown { IsShown N.parts share.old share.new }
         ensures knobs { result ≡ (state_seen N.parts share.new).knobs }
     {
         let merge = self.merge.get_mut();
@@ -311,9 +289,7 @@ impl<N: Naming> Ksm<N> {
         share: &mut Share<N>,
         place: u32,
     ) -> Result<Option<Vec<GuestPage>>, Fault>
-        ensures seen { SeesOn N.parts share.old share.new [] }
-        ensures part { part_of share.new ≡ part_of share.old }
-        ensures alone { N.parts.callers ≡ 1 → share.new ≡ share.old }
+        ensures shown { IsShown N.parts share.old share.new }
         ensures mappers { IfOk result
             (λ pages. option_map (λ v. v.items) pages ≡ mappers_of place (state_seen N.parts share.new)) }
         ensures memory { IfErr result (λ fault. fault ≡ Fault.Memory) }
@@ -398,8 +374,7 @@ impl<N: Naming> Ksm<N> {
         requires all { vec_len passes ≡ N.parts.frames.shape.passes }
         requires passes { All (λ p. p.table ≡ N.parts.frames) passes.items }
         ensures shape { result.shape ≡ N.parts.frames.shape }
-        ensures seen { SeesOn N.parts share.old share.new [] }
-        ensures alone { N.parts.callers ≡ 1 → share.new ≡ share.old }
+        ensures shown { IsShown N.parts share.old share.new }
         ensures ends { EndsAfter N.parts (entries share.new.seen) result }
     {
         let Ksm { frames, merge } = self;

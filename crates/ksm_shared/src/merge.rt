@@ -7,7 +7,7 @@ ghost use Rattle.ksm_book.specs.Carried.{CarriedOut, unjournaled};
 ghost use Rattle.ksm_book.specs.Laid.{LoadsIf};
 ghost use Rattle.ksm_book.specs.Promised.{LieOn};
 ghost use Rattle.ksm_shared.specs.Handed.{missing_of};
-ghost use Rattle.ksm_shared.specs.Locked.{Gathered, LacksOne, SeesOn, StepsAlone, made, made_by, part_of, said_of};
+ghost use Rattle.ksm_shared.specs.Locked.{Gathered, IsShown, LacksOne, SeesOn, StepsAlone, made, made_by, part_of, said_of};
 ghost use Rattle.ksm_shared.specs.Locked.{state_seen};
 ghost use Rattle.ksm_shared.specs.Seen.{CallersFit, IsBookSeat, Knows, OwnersBelow, all_at, caller, entries, times};
 ghost use Rattle.ksm_shared.specs.Seen.{view_of};
@@ -116,9 +116,7 @@ impl<N: Naming> Merge<N> {
     pub fn show(&mut self, share: &mut Share<N>)
         ensures kept { self.new ≡ self.old }
         ensures share { share.new ≡ caller share.old.number self.old.log }
-        ensures seen { SeesOn N.parts share.old share.new [] }
-        ensures part { part_of share.new ≡ part_of share.old }
-        ensures alone { N.parts.callers ≡ 1 → share.new ≡ share.old }
+        ensures shown { IsShown N.parts share.old share.new }
         ensures state { self.old.book.state ≡ state_seen N.parts share.new }
     {
         self.book.lies_lawfully();
