@@ -1,10 +1,12 @@
 -- Entries under keys and the order of their pages: what is found, and what one entry that came, went or changed leaves.
-use Rattle.ksm_pages.proofs.Names.{All, All-append, All-cons, All-filter, ap, ap₂, AreAscending, AreFiled, arith, Bool, change_held, comes_before, Entry, false, filter}
-use Rattle.ksm_pages.proofs.Names.{filter_passes, find, find_all, find_passes, get, get_or, GuestPage, Held, held_at, held_in, held_of, held_under, if◌then◌else◌, InPageOrder, is_of}
+use Rattle.ksm_pages.proofs.Names.{All, All-append, All-cons, All-filter, All-map, ap, ap₂, AreAscending, AreFiled, arith, Bool, change_held, comes_before, Entry, false, filter}
+use Rattle.ksm_pages.proofs.Names.{filter_passes, find, find_all, find_passes, get, get_or, GuestPage, Held, held_at, held_in, held_of, held_under, if◌then◌else◌, InPageOrder, is_of, IsRows, RowsView}
 use Rattle.ksm_pages.proofs.Names.{IsUnder, key_in, List, map, map-append, marked, Named, named_of, None, not, option_map, refl, rows_of, rules, same_page, same_page_eq, same_page_refl, same_page_sym}
 use Rattle.ksm_pages.proofs.Names.{same_Some, Slab, Some, sym, true, with_held, with_named, without_held, without_named, ℕ, ◌==◌, ◌∙◌, ◌≡◌, ◌≢◌}
 use Rattle.ksm_pages.proofs.Options.{mapped_some, none_mapped}
+use Rattle.std.proofs.Math.ListN.{get_or-map}
 use Rattle.std.proofs.lemmas.List.{map-id}
+use Rattle.ksm_pages.specs.declared.rows.Rows.TheInside.{Inside}
 use Rattle.slab.specs.Slab.{Updates as Fills}
 use Rattle.ksm_tree.proofs.Numbering.{full}
 use Rattle.ksm_tree.proofs.Alike.{filter_mapped, find_mapped, map_alike, map_mapped, pairs_mapped}
@@ -52,6 +54,11 @@ pub all_filled : {slab later : Slab Entry} {key : ℕ} {e : Entry} → Fills sla
     → ((k : ℕ) (f : Entry) → get slab k ≡ Some f → k ≢ key → P k f) → (k : ℕ) (f : Entry) → get later k ≡ Some f → P k f
 all_filled {slab} {later} {key} {e} fills {P} new others k f stands = grind (arith, differ_by)
 
+-- where each entry is changed, the entry under a key is what that made of it
+pub each_mapped : (slab later : Slab Entry) (g : Entry → Entry) → later.slots ≡ map (option_map g) slab.slots → (k : ℕ)
+    → get later k ≡ option_map g (get slab k)
+each_mapped slab later g slots k = ap (λ xs. get_or xs k None) slots ∙ get_or-map (option_map g) slab.slots k None
+
 module _ (slab : Slab Entry) (order : List Named) (filed : AreFiled slab order) where
   -- an entry that stands under a key is found in the order, by its page, under that key
   pub named_under : (key : ℕ) (e : Entry) → get slab key ≡ Some e → find (is_of e.page) order ≡ Some (named_of key e)
@@ -83,13 +90,6 @@ module _ (slab : Slab Entry) (order : List Named) (rise : AreAscending order) (f
     -- a page that has no key in the order has no row
     pub held_nowhere : (page : GuestPage) → key_in order page ≡ None → held_at page (held_in pass slab order) ≡ None
     held_nowhere page told = search (rules, held_found, none_mapped)
-
-    -- the rows are in the order of their pages
-    pub rows_rise : InPageOrder (rows_of (held_in pass slab order))
-    rows_rise =
-        pairs_mapped _ (λ r s. comes_before r.page s.page ≡ true) (λ h. h ≡ h) (λ h. h.row) (λ h g p q less. less) _ (λ k d lt. refl)
-        (pairs_mapped (λ m n. comes_before m.page n.page ≡ true) (λ h g. comes_before h.row.page g.row.page ≡ true) (λ n. (held_by pass slab n).row.page ≡ n.page) (held_by pass slab)
-        (λ m n p q less. ap₂ comes_before p q ∙ less) order (λ k d lt. page_under _ slab (all_stand k d lt)) rise)
 
   -- ---------------------------------------------------------------- one entry changed
 
@@ -189,3 +189,41 @@ module _ (slab : Slab Entry) (order : List Named) (rise : AreAscending order) (f
 
         differ : (k : ℕ) (f : Entry) → get slab k ≡ Some f → same_page e.page f.page ≡ false
         differ k f was = grind (arith, absent, named_under, same_page_eq)
+
+-- ---------------------------------------------------------------- the rows inside
+
+-- what is seen of entries in an order, in a pass, where each node has a tree or not
+abbrev pub view : Bool → ℕ → Slab Entry → List Named → RowsView
+view by_node pass entries order = record { held = held_in pass entries order; pass = pass; by_node = by_node }
+
+-- what is seen of the rows inside
+abbrev pub view_of : Inside → RowsView
+view_of s = view s.by_node s.pass s.entries s.order
+
+-- what is held of the rows inside
+abbrev pub all_held : Inside → List Held
+all_held s = held_in s.pass s.entries s.order
+
+-- the rows inside are lawful
+abbrev pub AreRows : Inside → Type 0
+AreRows s = IsRows s.entries s.order s.restless s.tally s.pass
+
+module _ (s : Inside) (are : AreRows s) where
+  -- the rows are in the order of their pages
+  pub rows_rise : InPageOrder (rows_of (all_held s))
+  rows_rise =
+      pairs_mapped _ (λ r s. comes_before r.page s.page ≡ true) (λ h. h ≡ h) (λ h. h.row) (λ h g p q less. less) _ (λ k d lt. refl)
+      (pairs_mapped (λ m n. comes_before m.page n.page ≡ true) (λ h g. comes_before h.row.page g.row.page ≡ true)
+      (λ n. (held_by s.pass s.entries n).row.page ≡ n.page) (held_by s.pass s.entries) (λ m n p q less. ap₂ comes_before p q ∙ less) s.order
+      (λ k d lt. page_under _ s.entries (all_stand s.entries _ are.ascending are.filed k d lt)) are.ascending)
+
+  -- an entry is found as the row of its page
+  pub row_found : (key : ℕ) (e : Entry) → get s.entries key ≡ Some e → held_at e.page (all_held s) ≡ Some (held_of s.pass e)
+  row_found key e stands =
+      grind (arith, held_found s.entries _ are.ascending are.filed s.pass e.page, named_under s.entries _ are.filed key e stands)
+
+  -- what holds of the row of each entry holds of all rows
+  pub rows_all : (P : Held → Type 0) → ((key : ℕ) (e : Entry) → get s.entries key ≡ Some e → P (held_of s.pass e)) → All P (all_held s)
+  rows_all P each = All-map P _ s.order (λ k d lt.
+      let u = under_named s.entries _ (all_stand s.entries _ are.ascending are.filed k d lt) in
+      rw u.stands (each _ u.entry u.stands))

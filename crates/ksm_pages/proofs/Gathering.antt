@@ -1,13 +1,14 @@
 -- A walk along the order that lists the pages that a visit may change.
 use Rattle.ksm_pages.proofs.Names.{after_cursor, All, All-map, ap, AreAscending, AreFiled, AreListed, arith, before_irrefl, Bool, cases_Bool, comes_before, Entry, false, filter, find, find_all}
-use Rattle.ksm_pages.proofs.Names.{find_none, find_passes, get, GuestPage, has_item, Held, held_in, held_of, IfSome, inl, InPageOrder, inr, is_of, is_restless, is_some, IsAddedTo, IsUnder, length}
+use Rattle.ksm_pages.proofs.Names.{find_none, find_passes, get, GuestPage, has_item, held_of, IfSome, inl, InPageOrder, inr, is_of, is_restless, is_some, IsAddedTo, IsUnder, length}
 use Rattle.ksm_pages.proofs.Names.{List, Listing, Named, named_of, None, not, one_before, Option, option_map, Row, rows_of, same_page, same_page_eq, same_page_refl, same_Some, shared_state}
 use Rattle.ksm_pages.proofs.Names.{Slab, Some, Spot, subst, suc, sym, true, true≢false, ℕ, [], ◌<◌, ◌∙◌, ◌∷◌, ◌≡◌, ◌≤◌, ◌⊎◌}
 use Rattle.std.specs.Prelude.{IfNone}
 use Rattle.ksm_pages.specs.Ahead.{FindsNext}
 use Rattle.ksm_pages.specs.Paged.{is_restless as may_change}
 use Rattle.ksm_pages.proofs.Found.{first_found}
-use Rattle.ksm_pages.proofs.Filing.{all_stand, named_under, one_key, under_named}
+use Rattle.ksm_pages.proofs.Filing.{all_held, all_stand, AreRows, named_under, one_key, rows_all, under_named}
+use Rattle.ksm_pages.specs.declared.rows.Rows.TheInside.{Inside}
 
 -- a visit may change a row exactly where it may change its entry
 pub restless_as : (pass : ℕ) (e : Entry) → may_change (held_of pass e).row ≡ is_restless e
@@ -80,40 +81,27 @@ module _ (slab : Slab Entry) (order : List Named) (rise : AreAscending order) (f
       listed known key e stands may
       (find_all _ (λ m. after_cursor last m.page ≡ false) _ _ (named_under slab _ filed _ e stands) (find_none _ order none))
 
-  -- what holds of the row of each entry holds of all rows
-  pub rows_all : (pass : ℕ) (P : Held → Type 0) → ((key : ℕ) (e : Entry) → get slab key ≡ Some e → P (held_of pass e))
-      → All P (held_in pass slab order)
-  rows_all pass P each = All-map P _ order (λ k d lt.
-      let u = under_named slab _ (all_stand slab _ rise filed k d lt) in
-      rw u.stands (each _ u.entry u.stands))
-
-  -- what holds of the row of each entry that a visit may change holds of all such rows
-  rows_such : (pass : ℕ) (P : Row → Type 0) → ((key : ℕ) (e : Entry) → get slab key ≡ Some e → is_restless e ≡ true → P (held_of pass e).row)
-      → All (λ r. may_change r ≡ true → P r) (rows_of (held_in pass slab order))
-  rows_such pass P each =
-      All-map (λ r. may_change r ≡ true → P r) _ _ (rows_all pass (λ h. may_change h.row ≡ true → P h.row)
-      (λ k e stands may. each k e stands (grind (arith, restless_as pass e))))
+module _ (s : Inside) (are : AreRows s) where
+  -- what holds of each listed page holds of each row that a visit may change
+  rows_such : s.restless.known ≡ true → (P : GuestPage → Type 0) → All P s.restless.pages
+      → All (λ r. may_change r ≡ true → P r.page) (rows_of (all_held s))
+  rows_such known P all =
+      All-map (λ r. may_change r ≡ true → P r.page) _ _ (rows_all s are (λ h. may_change h.row ≡ true → P h.row.page)
+      (λ k e stands may. all_listed P _ all e.page (are.listed known k e stands (grind (arith, restless_as s.pass e)))))
 
   -- where the pages of all entries that a visit may change are listed, the next one listed is found as the next row
-  pub listed_next : (pass : ℕ) (pages : List GuestPage) (cursor : Option GuestPage) → AreListed slab pages → (o : Option Spot)
-      → IfNone o (All (λ p. after_cursor cursor p ≡ false) pages)
-      → IfSome o (λ s. (after_cursor cursor s.page ≡ true)
-      × All (λ p. after_cursor cursor p ≡ true → comes_before p s.page ≡ false) pages)
-      → FindsNext cursor (rows_of (held_in pass slab order)) (option_map (λ s. s.page) o)
-  listed_next pass pages cursor listed None none some =
-      rows_such pass (λ r. after_cursor cursor r.page ≡ false) (λ k e stands may.
-      all_listed (λ p. after_cursor cursor p ≡ false) pages none e.page (listed k e stands may))
-  listed_next pass pages cursor listed (Some s) none some = (
-    some.0,
-    rows_such pass (λ r. after_cursor cursor r.page ≡ true → comes_before r.page s.page ≡ false)
-        (λ k e stands may.
-        all_listed (λ p. after_cursor cursor p ≡ true → comes_before p s.page ≡ false) pages some.1 e.page
-        (listed k e stands may)),
-  )
+  pub listed_next : s.restless.known ≡ true → (cursor : Option GuestPage) (o : Option Spot)
+      → IfNone o (All (λ p. after_cursor cursor p ≡ false) s.restless.pages)
+      → IfSome o (λ t. (after_cursor cursor t.page ≡ true)
+      × All (λ p. after_cursor cursor p ≡ true → comes_before p t.page ≡ false) s.restless.pages)
+      → FindsNext cursor (rows_of (all_held s)) (option_map (λ t. t.page) o)
+  listed_next known cursor None none some = rows_such known (λ p. after_cursor cursor p ≡ false) none
+  listed_next known cursor (Some t) none some =
+      (some.0, rows_such known (λ p. after_cursor cursor p ≡ true → comes_before p t.page ≡ false) some.1)
 
   -- a row has a frame of its own exactly where it is not shared
-  pub rows_framed : (pass : ℕ) → All (λ h. is_some h.frame ≡ not (shared_state h.row.state)) (held_in pass slab order)
-  rows_framed pass = rows_all pass (λ h. is_some h.frame ≡ not (shared_state h.row.state)) (λ k e stands. grind arith)
+  pub rows_framed : All (λ h. is_some h.frame ≡ not (shared_state h.row.state)) (all_held s)
+  rows_framed = rows_all s are (λ h. is_some h.frame ≡ not (shared_state h.row.state)) (λ k e stands. grind arith)
 
 -- the first row behind a cursor, of rows in order, is found as the next one
 pub found_next : (cursor : Option GuestPage) (rows : List Row) → InPageOrder rows → (o : Option Row) → find (λ r. after_cursor cursor r.page) rows ≡ o

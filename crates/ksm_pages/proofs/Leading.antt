@@ -15,7 +15,7 @@ use Rattle.ksm_tree.proofs.Numbering.{told_equal}
 use Rattle.ksm_tree.proofs.Rows.{eq_bytes}
 use Rattle.ksm_tree.specs.Numbered.{content_of, content_order, number_of}
 use Rattle.ksm_tree.specs.declared.content.Content.{Content}
-use Rattle.ksm_pages.specs.Unstable.{digest, found_or, holder, if_stands, in_place, is_led, keys_at, Keeps, LeadsTo, other_holder, place, stands_under, turned}
+use Rattle.ksm_pages.specs.Unstable.{digest, found_or, holder, if_passes, in_place, is_led, keys_at, Keeps, LeadsTo, other_holder, place, stands_under, turned}
 use Rattle.ksm_pages.specs.declared.row.Entry.{Entry}
 use Rattle.ksm_pages.specs.declared.unstable.TheConstants.{NO_KEY, SPREAD}
 use Rattle.ksm_pages.specs.declared.unstable.UnstableTree.{UnstableTree}
@@ -106,17 +106,16 @@ kept_in : (p : ℕ → Bool) (keys later : List ℕ) (other : Option ℕ) (k : �
 kept_in p keys later other k some none taken found = grind arith
 
 -- what a place gives where no other key is told, it gives whichever is
-without_other : (by_node : Bool) (slab : Slab Entry) (t : ℕ) (b : List ℕ) (keys : Option (List ℕ)) (other : Option ℕ) {k : ℕ}
-    → in_place by_node slab t b keys None ≡ Some k → in_place by_node slab t b keys other ≡ Some k
-without_other by_node slab t b None other found = grind arith
-without_other by_node slab t b (Some keys) other found = grind arith
+without_other : (test : ℕ → Bool) (keys : Option (List ℕ)) (other : Option ℕ) {k : ℕ}
+    → in_place test keys None ≡ Some k → in_place test keys other ≡ Some k
+without_other test keys other found = grind arith
 
 -- a tree that has the places and the numbers of another leads as that
 pub same_keeps : (old new : UnstableTree) → new.places.items ≡ old.places.items → new.others.entries ≡ old.others.entries
     → (by_node : Bool) (slab : Slab Entry) → Keeps by_node slab old new
 same_keeps old new places numbers by_node slab t b k found =
-    (λ i. in_place by_node slab t b (slice_get (places i) (place (length (places i)) t b))
-    (if_stands by_node slab t b (number_of t b (numbers i)))) ∙ found
+    let p = stands_under by_node slab t b in
+    (λ i. in_place p (slice_get (places i) (place (length (places i)) t b)) (if_passes p (number_of t b (numbers i)))) ∙ found
 
 -- one key of a place is another from now on
 module _ (old : UnstableTree) (at : ℕ) (keys : List ℕ) (i key : ℕ)
@@ -138,19 +137,17 @@ module _ (old : UnstableTree) (at : ℕ) (keys : List ℕ) (i key : ℕ)
       (find p keys ≡ Some k → find p (set keys i key) ≡ Some k) → (find p keys ≡ None → find p (set keys i key) ≡ None)
       → holder by_node slab old t b ≡ Some k → holder by_node slab new t b ≡ Some k
   still_found by_node slab t b k taken some none found =
-      let later = set keys i key in
+      let p = stands_under by_node slab t b in
       let other = other_holder by_node slab old t b in
-      let stood : keys_at new t b ≡ keys_at old t b → holder by_node slab new t b ≡ Some k = λ alike.
-      ap (λ o. in_place by_node slab t b o other) alike ∙ found in
       elim (cases_Bool (at == place (length old.places.items) t b)) [
         | inl here ↦
             let read : keys_at old t b ≡ Some keys = grind arith in
-            let write : keys_at new t b ≡ Some later = grind (arith, keys_set t b) in
-            ap (λ o. in_place by_node slab t b o other) write
-            ∙ kept_in (stands_under by_node slab t b) keys later other k some none
-            (any_set (λ k. k == NO_KEY) keys i key taken)
-            (sym (ap (λ o. in_place by_node slab t b o other) read) ∙ found)
-        | inr apart ↦ stood (grind (arith, keys_set t b))
+            let write : keys_at new t b ≡ Some (set keys i key) = grind (arith, keys_set t b) in
+            ap (λ o. in_place p o other) write
+            ∙ kept_in p keys (set keys i key) other k some none (any_set (λ k. k == NO_KEY) keys i key taken)
+            (sym (ap (λ o. in_place p o other) read) ∙ found)
+        | inr apart ↦
+            let alike : keys_at new t b ≡ keys_at old t b = grind (arith, keys_set t b) in ap (λ o. in_place p o other) alike ∙ found
       ]
 
   -- a key to which the tree does not lead stands where such a one stood: the tree leads as before
@@ -198,11 +195,13 @@ module _ (old new : UnstableTree) (same : new.places.items ≡ old.places.items)
       → (by_node : Bool) → Keeps by_node slab old new
   beside_forgets slab {key} gone number by_node t b k found = elim (cases_Bool (t == tree && bytes_eq b bytes)) [
     | inl is ↦
+        let p = stands_under by_node slab tree bytes in
+        let other = other_holder by_node slab new tree bytes in
         let none : other_holder by_node slab old tree bytes ≡ None = grind (arith, number, not_led by_node slab tree bytes key gone) in
-        let was = sym (same_content old by_node slab t b is) ∙ found in
         same_content new by_node slab t b is
-        ∙ (λ i. in_place by_node slab tree bytes (slice_get (same i) (place (length (same i)) tree bytes)) (other_holder by_node slab new tree bytes))
-        ∙ without_other by_node slab tree bytes (keys_at old tree bytes) (other_holder by_node slab new tree bytes) (ap (in_place by_node slab tree bytes (keys_at old tree bytes)) (sym none) ∙ was)
+        ∙ (λ i. in_place p (slice_get (same i) (place (length (same i)) tree bytes)) other)
+        ∙ without_other p (keys_at old tree bytes) other
+        (ap (in_place p (keys_at old tree bytes)) (sym none) ∙ sym (same_content old by_node slab t b is) ∙ found)
     | inr apart ↦ elsewhere_same by_node slab t b apart ∙ found
   ]
 

@@ -26,6 +26,10 @@ view_of s = record {
 abbrev pub AreLawful : Inside → Type 0
 AreLawful s = AreKept s.shape s.knobs s.rows s.dups s.frames.items
 
+-- no dup has the tree and bytes of a row, if it is said to be alone
+abbrev pub IsLoneIn : Inside → Held → Type 0
+IsLoneIn s h = IsLone s.knobs (dup_rows s.dups.dups) h
+
 -- the rows became these, and the unstable trees are of the nodes, or of all, as they were
 pub record Become (old new : RowsView) (these : List Held) : Type 0 where
   pub held : new.held ≡ these
@@ -115,7 +119,7 @@ module _ (s : Inside) (are : AreLawful s) (page : GuestPage) {h : Held} (found :
         → later ≡ record s.dups { dups = ds }
         → dup_rows ds ≡ dup_rows s.dups.dups → (to : Row → Row) → g old ≡ to old
         → AreTied (change_row page (λ _. to old) (rows_of s.rows.held)) ds
-        → (IsLone s.knobs (dup_rows s.dups.dups) h → IsLone s.knobs (dup_rows s.dups.dups) (f h)) → {frame : Option ℕ}
+        → (IsLoneIn s h → IsLoneIn s (f h)) → {frame : Option ℕ}
         → seat (of_dup s) (Some (f h)) ≡ frame
         → Comes s rows later (relaid page to frame (seen p))
     turned_so f g is same turned rest alike to agree tied lone lodged =

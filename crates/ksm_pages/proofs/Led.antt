@@ -1,9 +1,8 @@
 -- Each entry in the unstable tree is found there: what one entry that came, went or changed leaves, and what the rows show of it.
-use Rattle.ksm_pages.proofs.Names.{All, ap, AreAscending, AreFiled, arith, Bool, cases_Bool, Entry, false, find, find_all, find_none, find_nothing, find_passes, get, get_or}
-use Rattle.ksm_pages.proofs.Names.{held_in, held_of, holds, inl, inr, List, map, Named, nat_tests, None, Option, option_map, refl, RowsView, same_page_eq, same_Some, Slab, Some, sym, true, true≢false, waiting_state}
-use Rattle.ksm_pages.proofs.Names.{ℕ, [], ◌==◌, ◌∙◌, ◌∷◌, ◌≡◌, ◌≢◌, ◌⊎◌, is_some}
+use Rattle.ksm_pages.proofs.Names.{All, ap, arith, Bool, cases_Bool, Entry, false, find, find_all, find_none, find_nothing, find_passes, get, get_or}
+use Rattle.ksm_pages.proofs.Names.{held_of, holds, inl, inr, List, map, nat_tests, None, Option, option_map, refl, same_page_eq, same_Some, Slab, Some, sym, true, true≢false, waiting_state}
+use Rattle.ksm_pages.proofs.Names.{ℕ, ◌==◌, ◌∙◌, ◌≡◌, ◌≢◌, ◌⊎◌, is_some}
 use Rattle.ksm_pages.proofs.Options.{mapped_some}
-use Rattle.std.proofs.Math.ListN.{get_or-map}
 use Rattle.std.specs.Prelude.{nat_lt}
 use Rattle.ksm_tree.specs.Numbered.{number_of}
 use Rattle.ksm_pages.specs.declared.unstable.TheConstants.{GONE}
@@ -11,54 +10,37 @@ use Rattle.std.proofs.lemmas.Slice.Eq.{bytes_eq-Decides}
 use Rattle.slab.specs.Slab.{Updates as Fills}
 use Rattle.ksm_pages.specs.Filed.{StaysLed}
 use Rattle.ksm_pages.specs.Held.{AreInTree, has_content, Held, in_tree_by, IsFree, is_in, page_in_tree, tree_by}
-use Rattle.ksm_pages.specs.Unstable.{AreLed, found_or, holder, if_stands, in_place, Keeps, keys_at, LeadsTo, stands_under}
+use Rattle.ksm_pages.specs.Unstable.{AreLed, holder, if_passes, in_place, Keeps, keys_at, LeadsTo, stands_under}
+use Rattle.ksm_pages.specs.declared.rows.Rows.TheInside.{Inside}
 use Rattle.ksm_pages.specs.declared.unstable.UnstableTree.{UnstableTree}
 use Rattle.ksm_pages.proofs.Found.{find_narrower}
-use Rattle.ksm_pages.proofs.Filing.{differ_by, held_found, named_under, one_key}
-use Rattle.ksm_pages.proofs.Gathering.{rows_all}
+use Rattle.ksm_pages.proofs.Filing.{all_held, AreRows, differ_by, each_mapped, one_key, row_found, rows_all, view_of}
 
 -- where a test that lets less through is searched for, none is found where none was
 none_less : {X : Type 0} (p q : X → Bool) (xs : List X) → ((y : X) → q y ≡ true → p y ≡ true) → find p xs ≡ None → find q xs ≡ None
-none_less p q [] less none = refl
-none_less p q (y ∷ ys) less none = grind (arith, less y, none_less p q ys less)
+none_less p q xs less none = find_nothing q xs (λ k d lt. grind (arith, find_none p xs none k d lt, less (get_or xs k d)))
 
 module _ (by_node : Bool) (slab : Slab Entry) (u : UnstableTree) (t : ℕ) (b : List ℕ) {key : ℕ} (is : holder by_node slab u t b ≡ Some key) where
   -- the entry to which the tree leads stands there
   pub holder_stands : stands_under by_node slab t b key ≡ true
   holder_stands = grind (arith, find_passes)
 
-module _ (by_node : Bool) (slab later : Slab Entry) (t : ℕ) (b : List ℕ) (key : ℕ)
-    (less : (k : ℕ) → stands_under by_node later t b k ≡ true → stands_under by_node slab t b k ≡ true)
-    (stands : stands_under by_node later t b key ≡ true) where
-  other_less : (o : Option ℕ) → if_stands by_node slab t b o ≡ Some key → if_stands by_node later t b o ≡ Some key
-  other_less None is = grind arith
-  other_less (Some k) is = grind (arith, stands)
+-- a place gives the same key by a test that lets less through, where that key passes it
+place_less : (p q : ℕ → Bool) → ((k : ℕ) → q k ≡ true → p k ≡ true) → (key : ℕ) → q key ≡ true
+    → (place : Option (List ℕ)) (o : Option ℕ) → in_place p place (if_passes p o) ≡ Some key → in_place q place (if_passes q o) ≡ Some key
+place_less p q less key passes None o is = grind arith
+place_less p q less key passes (Some keys) o is = grind (arith, is, find_narrower p q less keys key, none_less p q keys less)
 
-  found_less : (keys : List ℕ) (o : Option ℕ)
-      → found_or (find (stands_under by_node slab t b) keys) keys (if_stands by_node slab t b o) ≡ Some key
-      → found_or (find (stands_under by_node later t b) keys) keys (if_stands by_node later t b o) ≡ Some key
-  found_less keys o got =
-      let p = stands_under by_node slab t b in
-      let q = stands_under by_node later t b in
-      grind (arith, got, stands, find_narrower p q less keys key, none_less p q keys less, other_less o)
-
-  -- in a later slab in which no more entries stand with a tree and bytes the tree leads to the same one, if it stands still
-  pub place_less : (p : Option (List ℕ)) (o : Option ℕ) → in_place by_node slab t b p (if_stands by_node slab t b o) ≡ Some key
-      → in_place by_node later t b p (if_stands by_node later t b o) ≡ Some key
-  place_less None o is = other_less o is
-  place_less (Some keys) o is = found_less keys o is
-
--- the tree leads to the same entry in such a slab
+-- in a later slab in which no more entries stand with a tree and bytes the tree leads to the same one, if it stands still
 pub holder_less : (by_node : Bool) (slab : Slab Entry) (u : UnstableTree) (t : ℕ) (b : List ℕ) {key : ℕ} → holder by_node slab u t b ≡ Some key
     → (later : Slab Entry) → ((k : ℕ) → stands_under by_node later t b k ≡ true → stands_under by_node slab t b k ≡ true)
     → stands_under by_node later t b key ≡ true → holder by_node later u t b ≡ Some key
 holder_less by_node slab u t b {key} is later less stands =
-    place_less by_node slab later t b key less stands (keys_at u t b) (number_of t b u.others.entries) is
+    place_less (stands_under by_node slab t b) _ less key stands (keys_at u t b) (number_of t b u.others.entries) is
 
--- each entry of a later slab to which the tree leads stood before, with the same home and bytes
-abbrev pub StayIn : Slab Entry → Slab Entry → Type 0
-StayIn slab later = (k : ℕ) (e : Entry) → get later k ≡ Some e → is_in e.in_tree ≡ true
-    → (d : Entry) × (get slab k ≡ Some d) × (is_in d.in_tree ≡ true) × (e.home ≡ d.home) × (e.bytes ≡ d.bytes)
+-- where the tree leads to the entry that stands now, it led to the one that stood, with the same home and bytes
+abbrev pub StaysIn : Option Entry → Option Entry → Type 0
+StaysIn was now = (e : Entry) → now ≡ Some e → is_in e.in_tree ≡ true → (d : Entry) × (was ≡ Some d) × StaysLed d e
 
 -- two numbers are one, or differ
 pub same_or_apart : (m n : ℕ) → (m ≡ n) ⊎ (m ≢ n)
@@ -66,7 +48,7 @@ same_or_apart m n = elim (cases_Bool (m == n)) [ inl same ↦ inl (grind (arith,
 
 module _ (by_node : Bool) (slab later : Slab Entry) (u : UnstableTree) (led : AreLed by_node slab u) where
   -- where the tree led to all entries that are in it, it does so later
-  led_still : StayIn slab later → AreLed by_node later u
+  pub led_still : ((k : ℕ) → StaysIn (get slab k) (get later k)) → AreLed by_node later u
   led_still stay k e is in_tree =
       let t = tree_by by_node e.home in
       let before : holder by_node slab u t e.bytes ≡ Some k = grind (arith, stay k e is in_tree, led k) in
@@ -77,41 +59,31 @@ module _ (by_node : Bool) (slab later : Slab Entry) (u : UnstableTree) (led : Ar
       less t b k stands = grind (arith, stay k)
 
   module _ {key : ℕ} {o : Option Entry} (fills : Fills slab later key o) where
-    led_filled : ((e : Entry) → o ≡ Some e → is_in e.in_tree ≡ true
-        → (d : Entry) × (get slab key ≡ Some d) × (is_in d.in_tree ≡ true) × (e.home ≡ d.home) × (e.bytes ≡ d.bytes)) → AreLed by_node later u
-    led_filled here = led_still (λ k f is in_tree. elim (same_or_apart k key) [
-      | inl same ↦
-          let at = here f (sym fills.changed ∙ ap (get later) (sym same) ∙ is) in_tree in
-          (at.0, ap (get slab) same ∙ at.1, at.2, at.3, at.4)
-      | inr apart ↦ (f, sym (fills.others k apart) ∙ is, in_tree, refl, refl)
+    led_filled : StaysIn (get slab key) o → AreLed by_node later u
+    led_filled here = led_still (λ k. elim (same_or_apart k key) [
+      | inl same ↦ rw (same, fills.changed) here
+      | inr apart ↦ rw (fills.others k apart) (λ f is in_tree. (f, is, λ led. (led, refl, refl)))
     ])
 
     -- so it does where one entry is written anew that is in it only as before
     pub led_written : {d e : Entry} → o ≡ Some e → get slab key ≡ Some d → StaysLed d e → AreLed by_node later u
-    led_written {d} {e} here stood stays = led_filled (λ f is in_tree.
-        let now : (is_in d.in_tree ≡ true) × (f.home ≡ d.home) × (f.bytes ≡ d.bytes) = grind (arith, stays, same_Some f e (sym is ∙ here)) in
-        (d, stood, now.0, now.1, now.2))
+    led_written {d} here stood stays =
+        led_filled (λ f is in_tree. (d, stood, rw (same_Some _ _ (sym here ∙ is)) at stays))
 
     -- and where one comes that is not in it, or one goes
     pub led_out : ((e : Entry) → o ≡ Some e → is_in e.in_tree ≡ false) → AreLed by_node later u
     led_out out = led_filled (λ f is in_tree. absurd (true≢false (sym in_tree ∙ out f is)))
 
 module _ (slab later : Slab Entry) (g : Entry → Entry) (slots : later.slots ≡ map (option_map g) slab.slots) where
-  each_mapped : (k : ℕ) → get later k ≡ option_map g (get slab k)
-  each_mapped k = ap (λ xs. get_or xs k None) slots ∙ get_or-map (option_map g) slab.slots k None
-
-  -- the same where each is changed but for its home, its bytes and the tree
-  pub led_mapped : ((e : Entry) → ((g e).in_tree ≡ e.in_tree) × ((g e).home ≡ e.home) × ((g e).bytes ≡ e.bytes))
-      → (by_node : Bool) (u : UnstableTree) → AreLed by_node slab u → AreLed by_node later u
-  led_mapped same by_node u led = led_still by_node slab later u led (λ k f is in_tree.
-      let at = mapped_some _ _ (sym (each_mapped k) ∙ is) in
-      let now : (is_in at.0.in_tree ≡ true) × (f.home ≡ at.0.home) × (f.bytes ≡ at.0.bytes) = grind (arith, same at.0, at.2) in
-      (at.0, at.1, now.0, now.1, now.2))
+  -- the same where each is changed, and is in the tree only as before
+  pub led_mapped : ((e : Entry) → StaysLed e (g e)) → (by_node : Bool) (u : UnstableTree) → AreLed by_node slab u → AreLed by_node later u
+  led_mapped stays by_node u led = led_still by_node slab later u led (λ k f is in_tree.
+      let at = mapped_some _ _ (sym (each_mapped slab later g slots k) ∙ is) in (at.0, at.1, rw at.2 at (stays at.0)))
 
   -- once no entry is in the tree, it leads to all that are
   pub none_led : ((e : Entry) → is_in (g e).in_tree ≡ false) → (by_node : Bool) (u : UnstableTree) → AreLed by_node later u
   none_led out by_node u k f is in_tree =
-      let at = mapped_some _ _ (sym (each_mapped k) ∙ is) in
+      let at = mapped_some _ _ (sym (each_mapped slab later g slots k) ∙ is) in
       absurd (grind (arith, out at.0, at.2))
 
 module _ (by_node : Bool) (slab later : Slab Entry) (key : ℕ) (d e : Entry) (stood : get slab key ≡ Some d)
@@ -161,71 +133,72 @@ stands_some by_node slab t b key stands = grind arith
 
 -- ---------------------------------------------------------------- what the rows show
 
-module _ (slab : Slab Entry) (order : List Named) (rise : AreAscending order) (filed : AreFiled slab order) (pass : ℕ) where
+module _ (s : Inside) (are : AreRows s) where
   -- a row that waits is in the tree
-  pub rows_led : All (λ h. waiting_state h.row.state ≡ true → is_in h.in_tree ≡ true) (held_in pass slab order)
-  rows_led = rows_all slab order rise filed pass (λ h. waiting_state h.row.state ≡ true → is_in h.in_tree ≡ true) (λ k e stands. grind arith)
+  pub rows_led : All (λ h. waiting_state h.row.state ≡ true → is_in h.in_tree ≡ true) (all_held s)
+  rows_led = rows_all s are (λ h. waiting_state h.row.state ≡ true → is_in h.in_tree ≡ true) (λ k e stands. grind arith)
 
   -- what holds of all rows holds of that of each entry
-  holds_at : (P : Held → Type 0) → All P (held_in pass slab order) → (key : ℕ) (e : Entry) → get slab key ≡ Some e → P (held_of pass e)
+  holds_at : (P : Held → Type 0) → All P (all_held s) → (key : ℕ) (e : Entry) → get s.entries key ≡ Some e → P (held_of s.pass e)
   holds_at P all key e stands =
-      find_all (holds e.page) P (held_in pass slab order) (held_of pass e)
-      (grind (arith, held_found slab order rise filed pass e.page, named_under slab order filed key e stands)) all
+      find_all (holds e.page) P (all_held s) (held_of s.pass e) (row_found s are key e stands) all
 
-  module _ (by_node : Bool) (u : UnstableTree) (led : AreLed by_node slab u) where
-    abbrev seen : RowsView
-    seen = record { held = held_in pass slab order; pass = pass; by_node = by_node }
+  module _ (led : AreLed s.by_node s.entries s.unstable) where
+    abbrev key_by : ℕ → List ℕ → Option ℕ
+    key_by t b = holder s.by_node s.entries s.unstable t b
+
+    abbrev has : ℕ → List ℕ → Held → Bool
+    has t b h = has_content s.by_node t b h
 
     -- the tree leads to each entry with a tree and bytes from these
-    held_by_content : (t : ℕ) (b : List ℕ) (k : ℕ) (f : Entry) → get slab k ≡ Some f → has_content by_node t b (held_of pass f) ≡ true
-        → holder by_node slab u t b ≡ Some k
-    held_by_content t b k f stands has =
-        let content : (t ≡ tree_by by_node f.home) × (b ≡ f.bytes) = grind (arith, bytes_eq-Decides f.bytes b, nat_tests) in
-        (λ i. holder by_node slab u (content.0 i) (content.1 i)) ∙ led k f stands (grind arith)
+    held_by_content : (t : ℕ) (b : List ℕ) (k : ℕ) (f : Entry) → get s.entries k ≡ Some f → has t b (held_of s.pass f) ≡ true
+        → key_by t b ≡ Some k
+    held_by_content t b k f stands is =
+        let content : (t ≡ tree_by s.by_node f.home) × (b ≡ f.bytes) = grind (arith, bytes_eq-Decides f.bytes b, nat_tests) in
+        (λ i. key_by (content.0 i) (content.1 i)) ∙ led k f stands (grind arith)
 
     -- the row found with a tree and bytes is of the page of each entry in the tree that has these
-    pub page_found : (t : ℕ) (b : List ℕ) (key : ℕ) (e : Entry) → get slab key ≡ Some e → has_content by_node t b (held_of pass e) ≡ true
-        → page_in_tree seen t b ≡ Some e.page
-    page_found t b key e stands has = go _ refl
+    pub page_found : (t : ℕ) (b : List ℕ) (key : ℕ) (e : Entry) → get s.entries key ≡ Some e → has t b (held_of s.pass e) ≡ true
+        → page_in_tree (view_of s) t b ≡ Some e.page
+    page_found t b key e stands is = go _ refl
       where
-        same : All (λ h. has_content by_node t b h ≡ true → h.row.page ≡ e.page) (held_in pass slab order)
-        same = rows_all slab order rise filed pass (λ h. has_content by_node t b h ≡ true → h.row.page ≡ e.page) (λ k f there also.
-            grind (arith, held_by_content t b k f there also, held_by_content t b key e stands has, there, stands))
+        same : All (λ h. has t b h ≡ true → h.row.page ≡ e.page) (all_held s)
+        same = rows_all s are (λ h. has t b h ≡ true → h.row.page ≡ e.page) (λ k f there also.
+            grind (arith, held_by_content t b k f there also, held_by_content t b key e stands is, there, stands))
 
-        go : (o : Option Held) → find (has_content by_node t b) (held_in pass slab order) ≡ o
-            → option_map (λ (h : Held). h.row.page) (find (has_content by_node t b) (held_in pass slab order)) ≡ Some e.page
-        go (Some h) is =
-            ap (option_map (λ (h : Held). h.row.page)) is
-            ∙ ap Some (find_all (has_content by_node t b) (λ h. has_content by_node t b h ≡ true → h.row.page ≡ e.page) (held_in pass slab order) h is same (find_passes (has_content by_node t b) (held_in pass slab order) h is))
-        go None is =
-            absurd (true≢false (sym has ∙ holds_at (λ h. has_content by_node t b h ≡ false) (find_none (has_content by_node t b) (held_in pass slab order) is) key e stands))
+        go : (o : Option Held) → find (has t b) (all_held s) ≡ o
+            → option_map (λ (h : Held). h.row.page) (find (has t b) (all_held s)) ≡ Some e.page
+        go (Some h) at =
+            ap (option_map (λ (h : Held). h.row.page)) at
+            ∙ ap Some (find_all (has t b) (λ h. has t b h ≡ true → h.row.page ≡ e.page) (all_held s) h at same (find_passes (has t b) (all_held s) h at))
+        go None at =
+            absurd (true≢false (sym is ∙ holds_at (λ h. has t b h ≡ false) (find_none (has t b) (all_held s) at) key e stands))
 
     -- each row in the tree is found by its tree and bytes
-    pub rows_found : AreInTree seen
+    pub rows_found : AreInTree (view_of s)
     rows_found =
-        rows_all slab order rise filed pass (λ h. is_in h.in_tree ≡ true → page_in_tree seen (tree_by by_node h.row.home) h.row.bytes ≡ Some h.row.page)
+        rows_all s are (λ h. is_in h.in_tree ≡ true → page_in_tree (view_of s) (tree_by s.by_node h.row.home) h.row.bytes ≡ Some h.row.page)
         (λ k e stands in_tree. page_found _ _ k e stands (grind (arith, bytes_eq-Decides e.bytes e.bytes)))
 
     -- where the tree leads to no entry from a tree and bytes, no row is found with these
-    pub none_found : (t : ℕ) (b : List ℕ) → holder by_node slab u t b ≡ None → find (has_content by_node t b) (held_in pass slab order) ≡ None
+    pub none_found : (t : ℕ) (b : List ℕ) → key_by t b ≡ None → find (has t b) (all_held s) ≡ None
     none_found t b none =
-        find_nothing _ _ (rows_all slab order rise filed pass (λ h. has_content by_node t b h ≡ false) (λ k e stands.
-        grind (arith, none, held_by_content t b k e stands)))
+        find_nothing _ _ (rows_all s are (λ h. has t b h ≡ false) (λ k e stands. grind (arith, none, held_by_content t b k e stands)))
 
     -- the tree leads to no entry from the tree and bytes of one that is not in it, where no other row has these
-    pub free_none : (key : ℕ) (e : Entry) → get slab key ≡ Some e → is_in e.in_tree ≡ false → IsFree seen e.page (held_of pass e)
-        → holder by_node slab u (tree_by by_node e.home) e.bytes ≡ None
+    pub free_none : (key : ℕ) (e : Entry) → get s.entries key ≡ Some e → is_in e.in_tree ≡ false → IsFree (view_of s) e.page (held_of s.pass e)
+        → key_by (tree_by s.by_node e.home) e.bytes ≡ None
     free_none key e stands out free = go _ refl
       where
-        go : (o : Option ℕ) → holder by_node slab u (tree_by by_node e.home) e.bytes ≡ o → o ≡ None
+        go : (o : Option ℕ) → key_by (tree_by s.by_node e.home) e.bytes ≡ o → o ≡ None
         go None is = refl
         go (Some k) is = absurd (at _ refl)
           where
-            there : stands_under by_node slab (tree_by by_node e.home) e.bytes k ≡ true
-            there = holder_stands by_node slab u (tree_by by_node e.home) e.bytes is
+            there : stands_under s.by_node s.entries (tree_by s.by_node e.home) e.bytes k ≡ true
+            there = holder_stands s.by_node s.entries s.unstable _ _ is
 
-            at : (o : Option Entry) → get slab k ≡ o → ⊥
+            at : (o : Option Entry) → get s.entries k ≡ o → ⊥
             at None none = true≢false (sym there ∙ grind (arith, none))
             at (Some f) stood =
-                let other = holds_at (λ g. holds e.page g ≡ false → has_content by_node (tree_by by_node e.home) e.bytes g ≡ false) free k f stood in
-                grind (arith, there, stood, stands, out, other, one_key slab order filed stood stands, same_page_eq f.page e.page)
+                let other = holds_at (λ g. holds e.page g ≡ false → has (tree_by s.by_node e.home) e.bytes g ≡ false) free k f stood in
+                grind (arith, there, stood, stands, out, other, one_key s.entries s.order are.filed stood stands, same_page_eq f.page e.page)

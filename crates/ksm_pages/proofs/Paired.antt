@@ -1,5 +1,5 @@
 -- The pages once two of them became the items of a new dup.
-use Rattle.ksm_pages.proofs.Names.{All, All-append, All-cons, All-filter, All-map, ap, ap₂, AreAlone, AreDups, AreInTree, AreKept, arith, change_held, change_row, change_rows, cond_both, dup_numbered}
+use Rattle.ksm_pages.proofs.Names.{All, All-filter, All-map, ap, ap₂, AreAlone, AreDups, AreInTree, AreKept, arith, change_held, change_row, change_rows, cond_both, dup_numbered}
 use Rattle.ksm_pages.proofs.Names.{DupRow, DupsState, Entry, false, filter, find, find-append, find_all, find_nothing, find_over, frame_of, Frames, get_or, GuestPage, has_content, Held, held_at, held_of, holds}
 use Rattle.ksm_pages.proofs.Names.{in_group, InPageOrder, InPlaceOrder, Inside, InTree, is_in, is_live, length, length-set, lies_on, List, lodging, lodgings_of, MatchOption, MayPair, Merged, merged_into, nat_tests, None, not, Option, option_and_then}
 use Rattle.ksm_pages.proofs.Names.{option_map, ordered_change, page_in_tree, PagesValue, paired, refl, Row, row_at, rows_new, rows_of, RowsView, rules, same_page, same_page_eq, same_page_refl, seen, set, shares, slice_get}
@@ -9,7 +9,7 @@ use Rattle.std.specs.Vec.{with_item as with_frame}
 use Rattle.ksm_tree.specs.Dups.{rows_of as dup_rows}
 use Rattle.ksm_tree.proofs.Alike.{map_mapped}
 use Rattle.ksm_tree.proofs.Rows.{eq_bytes}
-use Rattle.ksm_base.proofs.Orders.{above, below, dups_parted, elsewhere}
+use Rattle.ksm_base.proofs.Orders.{above, all_with_dup, below, dups_parted, elsewhere}
 use Rattle.ksm_pages.proofs.Changing.{row_told, rows_changed}
 use Rattle.ksm_pages.proofs.Dropping.{lodged_alike, none_live, not_vacant}
 use Rattle.ksm_pages.proofs.Found.{find_changed_other, find_kept}
@@ -207,10 +207,7 @@ module _ {s : Inside} {p : PagesValue} {place : ℕ} {first second : GuestPage} 
     half_order : InPageOrder (rows_of half)
     half_order = grind (arith, half_rows, ordered_change)
 
-    abbrev one_row : List Row
-    one_row = change_row a.row.page (λ _. item a.row) before
-
-    whole : rows_of rows.held ≡ change_row b.row.page (λ _. item b.row) one_row
+    whole : rows_of rows.held ≡ change_row b.row.page (λ _. item b.row) (change_row a.row.page (λ _. item a.row) before)
     whole =
         both_rows
         ∙ changed_to _ _ _ half_order (row_told _ half found_second)
@@ -246,12 +243,8 @@ module _ {s : Inside} {p : PagesValue} {place : ℕ} {first second : GuestPage} 
     half_alone = All-map (IsLone s.knobs dups_now) _ s.rows.held (λ k d lt.
         let h = get_or s.rows.held k d in
         cond_both _ _ _ (IsLone s.knobs dups_now) (λ _. shared_lone s.knobs dups_now (Merged s.dups.next) h)
-        (λ apart alone.
-        let none = are.alone k d lt alone in
-        let P : DupRow → Type 0 = λ r. in_group (tree_of s.knobs h.row) h.row.bytes r ≡ false in
-        All-append P (filter (below dup.place) (dup_rows s.dups.dups)) _ (All-filter _ P _ none)
-        (All-cons P dup _ (not_of_dup h (in_where h.in_tree alone) apart (each_led s.rows there tree b.row.bytes k d lt))
-        (All-filter _ P _ none))))
+        (λ apart alone. all_with_dup (λ r. in_group (tree_of s.knobs h.row) h.row.bytes r ≡ false) dup _
+        (not_of_dup h (in_where h.in_tree alone) apart (each_led s.rows there tree b.row.bytes k d lt)) (are.alone k d lt alone)))
       where
         in_where : (t : InTree) → is_alone t ≡ true → is_in t ≡ true
         in_where t is = grind arith
@@ -286,9 +279,6 @@ module _ {s : Inside} {p : PagesValue} {place : ℕ} {first second : GuestPage} 
     abbrev lay : Frames
     lay = frame_of (lodgings_of (of_dup s) s.rows.held)
 
-    lies_first : lay a.row.page ≡ Some frame
-    lies_first = grind (arith, frame_by, found_first, own_first)
-
     new_frame : of_new s.dups.next ≡ Some frame
     new_frame =
         ap (λ of. of s.dups.next) of_with
@@ -308,7 +298,7 @@ module _ {s : Inside} {p : PagesValue} {place : ℕ} {first second : GuestPage} 
     now_lie =
         let two = lodged_changed b.row.page into (λ h. refl) of_new half found_second in
         let one_moved = lodged_changed a.row.page into (λ h. refl) of_new s.rows.held found_first in
-        grind (arith, now_held, two, one_moved, others, new_frame, lies_first, lies_same a.row.page {frames = lay})
+        grind (arith, now_held, two, one_moved, others, new_frame, frame_by (of_dup s) s.rows.held a.row.page, found_first, own_first, lies_same a.row.page {frames = lay})
 
     told : seen (view_of (record s { rows = rows; dups = later; frames = with_frame s.frames place frame }))
         ≡ paired place a.row b.row (seen (view_of s))

@@ -4,12 +4,11 @@ use Rattle.ksm_pages.proofs.Names.{Listing, map, MutBor, Named, None, on_row, Op
 use Rattle.ksm_pages.proofs.Names.{◌∙◌, ◌∷◌, ◌≡◌, ◌≤◌}
 use Rattle.ksm_pages.proofs.Options.{mapped_some}
 use Rattle.ksm_base.specs.Rows.{merged_state, settled_state, waiting_state, zero_state}
-use Rattle.std.proofs.Math.ListN.{get_or-map}
 use Rattle.ksm_pages.specs.declared.row.InTree.TheVariants.{Not}
 use Rattle.ksm_pages.specs.declared.row.Kind.TheVariants as kinds
 use Rattle.ksm_pages.specs.Held.{out_of_tree}
 use Rattle.ksm_tree.proofs.Alike.{count_mapped, map_mapped}
-use Rattle.ksm_pages.proofs.Filing.{all_stand}
+use Rattle.ksm_pages.proofs.Filing.{all_stand, each_mapped}
 
 -- where each call of a retain keeps its value and changes it by g, all full slots are changed by g
 pub retained_all : {T F : Type 0} (step : F → ℕ → MutBor T → Bool → MutBor T → F → Type 0) (g : T → T) → ((f : F) (k : ℕ) (old : T) (keep : Bool) (new : T) (next : F) → CalledAt step f k old keep new next → (keep ≡ true) × (new ≡ g old))
@@ -58,7 +57,7 @@ module _ {slab : Slab Entry} {order : List Named} {restless : Listing} {tally : 
   module _ (later : Slab Entry) (after : ℕ) (g : Entry → Entry) (slots : later.slots ≡ map (option_map g) slab.slots)
       (same : (e : Entry) → ((g e).page ≡ e.page) × ((g e).mergeable ≡ e.mergeable) × ((g e).kind ≡ e.kind)) where
     all : (k : ℕ) → get later k ≡ option_map g (get slab k)
-    all k = ap (λ xs. get_or xs k None) slots ∙ get_or-map (option_map g) slab.slots k None
+    all = each_mapped slab later g slots
 
     all_filed : AreFiled later order
     all_filed n = search (rules, all, same)

@@ -3,8 +3,8 @@ use Rattle.std.specs.Prelude.{◌||◌, ◌%◌, ◌^◌}
 use Rattle.ksm_pages.proofs.Names.{cases_Bool, inl, inr, list_any-append, map-append, suc}
 use Rattle.ksm_pages.proofs.Names.{after_cursor, All, All-map, ap, AreInOrder, arith, Bool, comes_before, Entry, false, filter, get, get_or}
 use Rattle.ksm_pages.proofs.Names.{append-nil, GuestPage, has_item, is_useless, IsInVain, length, List, Named, None, not, not-true, Option, page_of, pages_of}
-use Rattle.ksm_pages.proofs.Names.{refl, rules, same_page, same_page_eq, Slab, Some, Spot, subst, sym, true}
-use Rattle.ksm_pages.proofs.Names.{ℕ, true≢false, [], ◌++◌, ◌<◌, ◌∙◌, ◌∷◌, ◌≡◌, ◌≤◌, ◌⊎◌}
+use Rattle.ksm_pages.proofs.Names.{refl, rules, same_page, same_page_eq, Slab, Some, Spot, subst, true}
+use Rattle.ksm_pages.proofs.Names.{ℕ, [], ◌++◌, ◌<◌, ◌∙◌, ◌∷◌, ◌≡◌, ◌≤◌, ◌⊎◌}
 use Rattle.std.specs.Option.{is_none}
 use Rattle.std.proofs.lemmas.Bool.Decides.{nat_tests}
 use Rattle.std.proofs.lemmas.List.{get_or_default}
@@ -44,32 +44,19 @@ module _ (entries : Slab Entry) (order : List Named) where
       let same : l.page % 2 ^ 48 ≡ l.page = omega (arith, small) in
       subst (λ n. IsInVain entries order (page_of n)) same (vain_of order (low_spot l) (grind (arith, gone)))
 
-  -- a listed page stays once useless ones are swept out, or is there in vain
-  swept : (listed : List Listed) → AreSmall listed → {page : GuestPage} → has_item page (pages_of listed) ≡ true
-      → (has_item page (pages_of (filter stays listed)) ≡ true) ⊎ IsInVain entries order page
-  swept [] small has = absurd (true≢false (sym has))
-  swept (l ∷ listed) small {page} has = elim (cases_Bool (same_page (page_by l) page)) [
+  -- a listed page stays once useless ones are swept out, or is there in vain; and other pages stay
+  pub swept_beside : (listed : List Listed) → AreSmall listed → (others : List GuestPage) {page : GuestPage} → has_item page (pages_of listed ++ others) ≡ true
+      → (has_item page (pages_of (filter stays listed) ++ others) ≡ true) ⊎ IsInVain entries order page
+  swept_beside [] small others has = inl has
+  swept_beside (l ∷ listed) small others {page} has = elim (cases_Bool (same_page (page_by l) page)) [
     | inl here ↦ elim (cases_Bool (stays l)) [
       | inl kept ↦ inl (grind (arith, kept, here))
       | inr gone ↦ inr (subst (IsInVain entries order) (same_page_eq (page_by l) page here) (useless_vain l (small 0 l (omega arith)) gone))
     ]
-    | inr not_here ↦ elim (swept listed (λ k d lt. small (suc k) d (omega arith)) {page = page} (grind (arith, has, not_here))) [
+    | inr not_here ↦ elim (swept_beside listed (λ k d lt. small (suc k) d (omega arith)) others {page = page} (grind (arith, has, not_here))) [
       | inl there ↦ inl (grind (arith, there))
       | inr vain ↦ inr vain
     ]
-  ]
-
-  -- the same beside other pages, which stay
-  pub swept_beside : (listed : List Listed) → AreSmall listed → (others : List GuestPage) {page : GuestPage} → has_item page (pages_of listed ++ others) ≡ true
-      → (has_item page (pages_of (filter stays listed) ++ others) ≡ true) ⊎ IsInVain entries order page
-  swept_beside listed small others {page} has = elim (cases_Bool (has_item page (pages_of listed))) [
-    | inl here ↦ elim (swept listed small here) [
-      | inl kept ↦ inl (list_any-append (λ p. same_page p page) (pages_of (filter stays listed)) others ∙ grind (arith, kept))
-      | inr vain ↦ inr vain
-    ]
-    | inr not_here ↦
-        let there : has_item page others ≡ true = grind (arith, list_any-append, not_here, has) in
-        inl (list_any-append (λ p. same_page p page) (pages_of (filter stays listed)) others ∙ grind (arith, there))
   ]
 
 -- the second page does not come before the first

@@ -10,7 +10,7 @@ use Rattle.ksm_tree.proofs.Alike.{map_mapped}
 use Rattle.ksm_pages.proofs.Changing.{rows_without}
 use Rattle.ksm_pages.proofs.Joined.{let_out_alone}
 use Rattle.ksm_pages.proofs.Lodgings.{lodged_gone, seat}
-use Rattle.ksm_pages.proofs.Leaving.{alone_found, AreLawful, Become, Comes, comes, held_as, known_there, lies, of_dup, of_page, row_seen, row_there, stays_there, turned_so, view_of}
+use Rattle.ksm_pages.proofs.Leaving.{alone_found, AreLawful, Become, Comes, comes, held_as, IsLoneIn, known_there, lies, of_dup, of_page, row_seen, row_there, stays_there, turned_so, view_of}
 use Rattle.ksm_pages.proofs.Lone.{IsLone}
 use Rattle.ksm_pages.proofs.Resting.{idle_settled, lies_alike, settled_again}
 
@@ -44,9 +44,6 @@ module _ {s : Inside} {p : PagesValue} {page : GuestPage} {later : DupsState} {f
     out : later ≡ record s.dups { dups = let_out it.held.row.state page s.dups.dups }
     out = grind (arith, at, it.left.dups)
 
-    abbrev StaysLone : Held → Type 0
-    StaysLone to = IsLone s.knobs (dup_rows s.dups.dups) it.held → IsLone s.knobs (dup_rows s.dups.dups) to
-
     -- what is held with another row, and a frame and a place in the tree that come of those that it had
     abbrev into : (Option ℕ → Option ℕ) → (InTree → InTree) → (Row → Row) → Held → Held
     into own in_tree g h = record { row = g h.row; frame = own h.frame; in_tree = in_tree h.in_tree }
@@ -57,7 +54,7 @@ module _ {s : Inside} {p : PagesValue} {page : GuestPage} {later : DupsState} {f
           → Become s.rows rows (change_held page (into own in_tree g) s.rows.held)
           → (to : Row → Row) → g it.held.row ≡ to it.held.row
           → merged_state (to it.held.row).state ≡ false
-          → StaysLone (into own in_tree g it.held) → {frame : Option ℕ}
+          → (IsLoneIn s it.held → IsLoneIn s (into own in_tree g it.held)) → {frame : Option ℕ}
           → seat (of_dup s) (Some (into own in_tree g it.held)) ≡ frame
           → Comes s rows later (relaid page to frame (seen p))
       moved own in_tree g same turned to agree apart keeps =
@@ -68,7 +65,7 @@ module _ {s : Inside} {p : PagesValue} {page : GuestPage} {later : DupsState} {f
       pub rested : (in_tree : InTree → InTree) (g to : Row → Row) → ((r : Row) → (g r).page ≡ r.page)
           → (to it.held.row).state ≡ Private → IsAlone page p.rows
           → (shared_state it.held.row.state ≡ false → g it.held.row ≡ to it.held.row)
-          → StaysLone (into (λ o. o) in_tree g it.held)
+          → (IsLoneIn s it.held → IsLoneIn s (into (λ o. o) in_tree g it.held))
           → Become s.rows rows (change_held page (into (λ o. o) in_tree g) s.rows.held)
           → Comes s rows later (changed page to (seen p))
       rested in_tree g to same private alone_seen agree keeps turned =
@@ -88,7 +85,7 @@ module _ {s : Inside} {p : PagesValue} {page : GuestPage} {later : DupsState} {f
           (comes s it.lawful rows gone (rows_without page _) out (rows_out _ _ _)
           (ordered_without _ _ it.lawful.order)
           (tied_dropped _ _ _ it.lawful.order there _ it.lawful.tied)
-          (All-filter _ (IsLone s.knobs (dup_rows s.dups.dups)) s.rows.held it.lawful.alone)
+          (All-filter _ (IsLoneIn s) s.rows.held it.lawful.alone)
           (lodged_gone _ _ _))
 
 -- a page with a frame of its own is in no dup, and leaves nothing
@@ -125,27 +122,27 @@ module _ (s : Inside) (are : AreLawful s) {p : PagesValue} (seen_as : view_of s 
   -- where rows change, but for pages and dups, and those that are said to be alone were so, all rows are seen changed so
   pub still : (F : Held → Held) (f : Row → Row) → ((x : Held) → (F x).row ≡ f x.row) → ((x : Held) → (F x).frame ≡ x.frame)
       → ((r : Row) → (f r).page ≡ r.page) → ((r : Row) → settled_state (f r).state ≡ settled_state r.state)
-      → ((x : Held) → IsLone s.knobs (dup_rows s.dups.dups) x → IsLone s.knobs (dup_rows s.dups.dups) (F x))
+      → ((x : Held) → IsLoneIn s x → IsLoneIn s (F x))
       → (rows : RowsView) → Become s.rows rows (map F s.rows.held)
       → Comes s rows s.dups (record (seen p) { rows = map f p.rows })
   still F f is framed pages like keeps rows turned =
       rw (← seen_as)
       (comes s are rows turned (rows_by F f is s.rows.held) refl refl (ordered_map f _ pages are.order)
       (tied_mapped f _ _ (λ k d lt. (pages _, λ number. grind (arith, like (get_or (rows_of s.rows.held) k d)))) are.tied)
-      (All-map (IsLone s.knobs (dup_rows s.dups.dups)) F s.rows.held (λ k d lt. keeps _ (are.alone k d lt)))
+      (All-map (IsLoneIn s) F s.rows.held (λ k d lt. keeps _ (are.alone k d lt)))
       (ap frame_of (map_mapped _ F _ s.rows.held (λ k d lt.
       let h = get_or s.rows.held k d in
       grind (arith, is h, framed h, pages h.row, lies_alike (of_dup s) (f h.row).state h.row.state h.frame (like h.row))))))
 
   -- where a row changes, but for its page and state, only that row is seen changed
   pub stays : (page : GuestPage) (g : Row → Row) → ((r : Row) → (g r).page ≡ r.page) → ((r : Row) → (g r).state ≡ r.state)
-      → ((x : Held) → IsLone s.knobs (dup_rows s.dups.dups) x → IsLone s.knobs (dup_rows s.dups.dups) (record x { row = g x.row }))
+      → ((x : Held) → IsLoneIn s x → IsLoneIn s (record x { row = g x.row }))
       → (rows : RowsView) → Become s.rows rows (change_held page (λ h. record h { row = g h.row }) s.rows.held)
       → Comes s rows s.dups (changed page g (seen p))
   stays page g same states keeps rows turned =
       still (λ h. if same_page h.row.page page then record h { row = g h.row } else h) (λ r. if same_page r.page page then g r else r)
       (λ x. grind arith) (λ x. grind arith) (λ r. grind (arith, same r)) (λ r. grind (arith, states r))
-      (λ x lone. cond_both _ _ _ (IsLone s.knobs (dup_rows s.dups.dups)) (λ _. keeps x lone) (λ _. lone)) rows turned
+      (λ x lone. cond_both _ _ _ (IsLoneIn s) (λ _. keeps x lone) (λ _. lone)) rows turned
 
   -- where no row waits any more, and the tree then leads to none or to those that it did, all rows are seen settled
   pub settle_then : {rows later : RowsView} {pass : ℕ} → rows ≡ record s.rows { held = map (on_row settled) s.rows.held; pass = pass }

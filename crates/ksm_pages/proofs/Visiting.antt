@@ -1,6 +1,6 @@
 -- What a visit finds of a row that it may change, and the pages once the row waits.
-use Rattle.ksm_pages.proofs.Names.{All, All-map, all_rows, all_zero, altered, and_parts, ap, AreInTree, AreTied, arith, Best, best_dup, best_found, best_of, Bool, change_held, change_row, changed, Dup, DupRow, DupsState, Entry, false, Find}
-use Rattle.ksm_pages.proofs.Names.{Finds, FindsAt, find, find_all, find_nothing, find_passes, found_at, get_or, GuestPage, has_content, Held, held_at, held_of, holds, in_group, in_tree_by, inl, inr, Inside, is_in, IsFree, is_for_zero, IsAlone, if◌then◌else◌, List, MatchOption, None, not, not-true}
+use Rattle.ksm_pages.proofs.Names.{All, All-map, all_rows, all_zero, altered, ap, AreInTree, AreTied, arith, Best, best_dup, best_found, best_of, Bool, change_held, change_row, changed, Dup, DupRow, DupsState, Entry, false, Find}
+use Rattle.ksm_pages.proofs.Names.{Finds, FindsAt, find, find_all, find_nothing, find_passes, found_at, get_or, GuestPage, has_content, Held, held_at, held_of, holds, in_group, in_tree_by, inl, inr, Inside, is_in, IsFree, is_for_zero, IsAlone, if◌then◌else◌, List, MatchOption, None, not}
 use Rattle.ksm_pages.proofs.Names.{Option, option_and_then, option_map, out_of_tree, page_in_tree, PagesValue, PagesView, partner, Private, refl, Row, row_at, rows_of, RowsView, rules, same_page, same_page_eq, same_page_refl, seen, shared_state, Some, subst, sym}
 use Rattle.ksm_pages.proofs.Names.{tied_counted, tied_left, tree_by, tree_of, true, true≢false, Waiting, waiting_in, waiting_state, ℕ, ◌&&◌, ◌==◌, ◌∙◌, ◌≡◌, ◌⊎◌}
 use Rattle.ksm_tree.specs.Dups.{rows_of as dup_rows}
@@ -8,15 +8,15 @@ use Rattle.ksm_tree.proofs.Alike.{map_mapped}
 use Rattle.ksm_pages.proofs.Options.{mapped_some, none_mapped}
 use Rattle.ksm_pages.proofs.Partners.{free_but, free_by, partner_is, tree_is}
 use Rattle.ksm_pages.specs.declared.pages.Find.TheVariants as finds
-use Rattle.std.specs.Prelude.{IfNone, IfSome}
+use Rattle.std.specs.Prelude.{IfNone}
 use Rattle.ksm_pages.specs.Held.{is_alone as is_alone_in, is_restless as is_restless_entry}
 use Rattle.ksm_pages.specs.Paged.{HasRow, is_restless}
 use Rattle.ksm_pages.proofs.Found.{find_changed_other}
 use Rattle.ksm_pages.proofs.Gathering.{restless_as}
 use Rattle.ksm_pages.proofs.Joined.{let_out_alone}
-use Rattle.ksm_pages.proofs.Leaving.{AreLawful, Become, Comes, comes, held_as, lies, of_page, row_seen, row_there, stays_there, turned_so, view_of}
+use Rattle.ksm_pages.proofs.Leaving.{AreLawful, Become, Comes, comes, held_as, IsLoneIn, lies, of_page, row_seen, row_there, stays_there, turned_so, view_of}
 use Rattle.ksm_pages.proofs.Resting.{idle_settled}
-use Rattle.ksm_pages.proofs.Lone.{each_held, IsLone, lone_changed}
+use Rattle.ksm_pages.proofs.Lone.{each_held, lone_changed}
 
 -- ---------------------------------------------------------------- groups that got other numbers
 
@@ -31,9 +31,6 @@ module _ (s : Inside) {later : DupsState} (kept : later ≡ record s.dups { numb
 
 -- ---------------------------------------------------------------- one row
 
-not_shared : (a : Bool) {b : Bool} → (a && not b) ≡ true → b ≡ false
-not_shared a {b} is = not-true b (and_parts _ _ is).1
-
 finds_row : (s : Inside) {p : PagesValue} → view_of s ≡ p → (page : GuestPage) {h : Held} → held_at page s.rows.held ≡ Some h
     → (new : PagesView) (what : Find) → FindsAt (seen p) new h.row what → Finds (seen p) new page what
 finds_row s {p} seen_as page found new what is = rw (row_seen s seen_as _ found) is
@@ -47,7 +44,7 @@ finds_gone s seen_as page e found calm = search (rules, finds_row, restless_as)
 -- a row that a visit may change has a frame of its own
 pub is_alone : (s : Inside) → AreLawful s → (page : GuestPage) (e : Entry) → held_at page s.rows.held ≡ Some (held_of s.rows.pass e)
     → is_restless_entry e ≡ true → IsAlone page (rows_of s.rows.held)
-is_alone s are page e found restless = search (rules, row_there, not_shared, restless_as)
+is_alone s are page e found restless = rw (row_there s are page found) (grind (arith, restless_as s.rows.pass e))
 
 -- ---------------------------------------------------------------- a row that is asked
 
@@ -86,8 +83,9 @@ module _ {s : Inside} {p : PagesValue} {page : GuestPage} {e : Entry} (it : IsAs
   may : is_restless row ≡ true
   may = restless_as _ e ∙ it.restless
 
-  alone : shared_state row.state ≡ false
-  alone = not_shared _ may
+  -- a row that is asked has a frame of its own
+  pub alone : shared_state row.state ≡ false
+  alone = grind (arith, may)
 
   finds_at : (new : PagesView) (what : Find) → FindsAt (seen p) new row what → Finds (seen p) new page what
   finds_at = finds_row s it.seen_as _ it.found
@@ -104,7 +102,7 @@ module _ {s : Inside} {p : PagesValue} {page : GuestPage} {e : Entry} (it : IsAs
   -- no dup has the content of a row that is said to be alone
   pub lone_none : is_alone_in e.in_tree ≡ true → NoneHas (tree_of s.knobs row) row.bytes s.dups.dups
   lone_none is = all_rows (λ (d : DupRow). in_group (tree_of s.knobs row) row.bytes d ≡ false) s.dups.dups
-      (find_all (holds page) (IsLone s.knobs (dup_rows s.dups.dups)) s.rows.held held it.found it.lawful.alone is)
+      (find_all (holds page) (IsLoneIn s) s.rows.held held it.found it.lawful.alone is)
 
   -- where an asked row has a best dup, the visit finds that dup
   pub finds_dup : (b : Best) → Some b ≡ option_map found_at best → Finds (seen p) (seen (view_of s)) page (finds.Dup b)
@@ -147,7 +145,7 @@ module _ {s : Inside} {p : PagesValue} {page : GuestPage} {e : Entry} (it : IsAs
 
   -- the pages are lawful once the row waits, and are seen so
   pub waits_then : (f : Held → Held) → ((x : Held) → (f x).row ≡ record x.row { state = Waiting }) → ((x : Held) → (f x).frame ≡ x.frame)
-      → (IsLone s.knobs (dup_rows s.dups.dups) held → IsLone s.knobs (dup_rows s.dups.dups) (f held))
+      → (IsLoneIn s held → IsLoneIn s (f held))
       → {rows : RowsView} → Become s.rows rows (change_held page f s.rows.held)
       → Comes s rows s.dups (changed page (λ r. record r { state = Waiting }) (seen p))
   waits_then f is framed keeps {rows} turned =
@@ -160,15 +158,19 @@ module _ {s : Inside} {p : PagesValue} {page : GuestPage} {e : Entry} (it : IsAs
 
   -- a row that enters the tree is said to be alone only where no dup has its content
   pub entered_lone : (group : Option ℕ) → IfNone group (NoneHas (tree_of s.knobs row) row.bytes s.dups.dups)
-      → IsLone s.knobs (dup_rows s.dups.dups) (waiting_in (in_tree_by group) held)
+      → IsLoneIn s (waiting_in (in_tree_by group) held)
   entered_lone None none is = All-map (λ (d : DupRow). in_group (tree_of s.knobs row) row.bytes d ≡ false) (λ (d : Dup). d.row) _ none
   entered_lone (Some group) any is = cc
 
-  -- without a dup that is told, the row may join none
-  pub none_told : {tree : ℕ} → tree ≡ tree_of s.knobs row → {told : Option Best}
-      → told ≡ option_map found_at (best_of tree e.bytes s.knobs.max_page_sharing s.dups.dups) → told ≡ None → best ≡ None
-  none_told in_tree is none =
-      none_mapped found_at _ ((λ i. option_map found_at (best_of (sym in_tree i) e.bytes s.knobs.max_page_sharing s.dups.dups)) ∙ sym is ∙ none)
+  module _ {tree : ℕ} (in_tree : (r : Row) → r.home ≡ e.home → tree ≡ tree_of s.knobs r) {told : Option Best}
+      (is : told ≡ option_map found_at (best_of tree e.bytes s.knobs.max_page_sharing s.dups.dups)) where
+    -- what is told of the best dup by the tree of the row's home is that of the row
+    pub told_best : told ≡ option_map found_at best
+    told_best = is ∙ (λ i. option_map found_at (best_of (in_tree row refl i) e.bytes s.knobs.max_page_sharing s.dups.dups))
+
+    -- without a dup that is told, the row may join none
+    pub none_told : told ≡ None → best ≡ None
+    none_told none = none_mapped found_at _ (sym told_best ∙ none)
 
 -- ---------------------------------------------------------------- a row that leaves the tree
 
@@ -223,10 +225,6 @@ pub record MayEnter (s : Inside) (p : PagesValue) (page : GuestPage) (e : Entry)
   pub free : IsFree s.rows page (held_of s.rows.pass e)
 
 module _ {s : Inside} {p : PagesValue} {page : GuestPage} {e : Entry} {group : Option ℕ} (it : MayEnter s p page e group) where
-  -- it has a frame of its own
-  pub enters_alone : IfSome (held_at page s.rows.held) (λ h. shared_state h.row.state ≡ false)
-  enters_alone = rw it.asked.found (alone it.asked)
-
   -- where it does not enter, what is seen of the pages is what it was
   pub entered_not : {rows : RowsView} → rows ≡ s.rows → view_of (record s { rows = rows }) ≡ p
   entered_not same = (λ i. view_of (record s { rows = same i })) ∙ it.asked.seen_as
@@ -234,10 +232,6 @@ module _ {s : Inside} {p : PagesValue} {page : GuestPage} {e : Entry} {group : O
   -- a visit may change its row
   pub enters_restless : HasRow page p.rows (λ r. is_restless r ≡ true)
   enters_restless = rw (row_seen s it.asked.seen_as page it.asked.found) (may it.asked)
-
-  -- the tree leads to no other row
-  pub enters_free : IfSome (held_at page s.rows.held) (λ h. IsFree s.rows page h)
-  enters_free = rw it.asked.found it.free
 
   -- the pages are lawful once it has entered, and are seen so
   pub entered_then : {rows : RowsView} → rows ≡ altered page (waiting_in (in_tree_by group)) s.rows
@@ -258,12 +252,12 @@ told_waits (Some w) told is = (w, refl, sym told ∙ is)
 
 module _ {s : Inside} {p : PagesValue} {page : GuestPage} {e : Entry} (it : IsAsked s p page e)
     (led : All (λ h. waiting_state h.row.state ≡ true → is_in h.in_tree ≡ true) s.rows.held) (found_by : AreInTree s.rows)
-    {tree : ℕ} (in_tree : tree ≡ tree_of s.knobs (held_of s.rows.pass e).row) where
+    {tree : ℕ} (in_tree : (r : Row) → r.home ≡ e.home → tree ≡ tree_of s.knobs r) where
   abbrev row_of : Row
   row_of = (held_of s.rows.pass e).row
 
   to_tree : {o : Option GuestPage} → page_in_tree s.rows tree e.bytes ≡ o → page_in_tree s.rows (tree_of s.knobs row_of) e.bytes ≡ o
-  to_tree at = ap (λ t. page_in_tree s.rows t e.bytes) (sym in_tree) ∙ at
+  to_tree at = ap (λ t. page_in_tree s.rows t e.bytes) (sym (in_tree row_of refl)) ∙ at
 
   by_home : {o : Option GuestPage} → page_in_tree s.rows tree e.bytes ≡ o → page_in_tree s.rows (tree_by s.rows.by_node e.home) e.bytes ≡ o
   by_home at = ap (λ t. page_in_tree s.rows t e.bytes) (tree_is s.knobs it.lawful.by_node row_of) ∙ to_tree at
@@ -285,7 +279,7 @@ module _ {s : Inside} {p : PagesValue} {page : GuestPage} {e : Entry} (it : IsAs
   module _ (none : best it ≡ None) (not_zero : (s.knobs.use_zero_pages == 1 && all_zero e.bytes) ≡ false) (group : Option ℕ)
       (lone : IfNone group (NoneHas tree e.bytes s.dups.dups)) where
     lone_so : IfNone group (NoneHas (tree_of s.knobs row_of) e.bytes s.dups.dups)
-    lone_so = subst (λ t. IfNone group (NoneHas t e.bytes s.dups.dups)) in_tree lone
+    lone_so = subst (λ t. IfNone group (NoneHas t e.bytes s.dups.dups)) (in_tree row_of refl) lone
 
     -- where the tree leads to no row, or to the row itself, the row may enter
     pub enters : (page_in_tree s.rows tree e.bytes ≡ None) ⊎ (page_in_tree s.rows tree e.bytes ≡ Some page) → MayEnter s p page e group

@@ -1,7 +1,7 @@
 -- What each change of one row, found under its key, leaves: rows still, and what is seen of them.
 use Rattle.ksm_pages.proofs.Options.{none_mapped}
 use Rattle.ksm_pages.proofs.Names.{ap, AreListed, arith, Bool, CanMove, change_held, Entry, false, find, get, GuestPage, has_item, Held, held_at, held_in, held_of}
-use Rattle.ksm_pages.proofs.Names.{held_under, IfSome, inl, InPageOrder, inr, is_of, is_restless, is_some, IsAddedTo, IsInVain, IsMoved, IsRows, IsUnder, key_in, length}
+use Rattle.ksm_pages.proofs.Names.{held_under, IfSome, inl, inr, is_of, is_restless, is_some, IsAddedTo, IsInVain, IsMoved, IsRows, IsUnder, key_in, length}
 use Rattle.ksm_pages.proofs.Names.{length-map, List, Listing, marked, Named, named_of, nat_tests, None, option_map, pages_ordered, PageState, Private, refl, row_at, rows_of}
 use Rattle.ksm_pages.proofs.Names.{RowsView, rules, same_page_refl, same_Some, shared_state, Slab, Some, state_of, sym, Tally, true, true≢false, Updates-with_value, Waiting, with_held}
 use Rattle.ksm_pages.proofs.Names.{with_named, with_value, without_held, without_named, ℕ, ◌<◌, ◌^◌, ◌∙◌, ◌≡◌, ◌≢◌, ◌≤◌, ◌⊎◌, altered}
@@ -12,23 +12,11 @@ use Rattle.ksm_pages.specs.Held.{is_in}
 use Rattle.ksm_pages.specs.declared.row.Kind.TheVariants as kinds
 use Rattle.ksm_pages.specs.declared.rows.Rows.TheInside.{Inside}
 use Rattle.ksm_pages.proofs.Changing.{marked_same, row_told, rows_changed, rows_with, rows_without}
-use Rattle.ksm_pages.proofs.Filing.{all_filled, filed_marked, filed_put, filed_taken, held_found, held_nowhere, named_under, one_key, put, rows_rise, taken, unmarked, written}
+use Rattle.ksm_pages.proofs.Filing.{all_filled, all_held, AreRows, view, view_of, filed_marked, filed_put, filed_taken, held_found, held_nowhere, named_under, one_key, put, rows_rise, taken, unmarked, written}
 use Rattle.ksm_pages.proofs.Led.{led_written}
 use Rattle.ksm_pages.proofs.Found.{absent_unchanged, write_rises}
 use Rattle.ksm_order.proofs.Ordered.{absent_kept, with_rises, without_rises}
 use Rattle.ksm_pages.proofs.Tallying.{can_move, tally_changed, tally_gone, tally_put}
-
--- what is seen of entries in an order, in a pass, where each node has a tree or not
-abbrev pub view : Bool → ℕ → Slab Entry → List Named → RowsView
-view by_node pass entries order = record { held = held_in pass entries order; pass = pass; by_node = by_node }
-
--- what is seen of the rows inside
-abbrev pub view_of : Inside → RowsView
-view_of s = view s.by_node s.pass s.entries s.order
-
--- the rows inside are lawful
-abbrev pub AreRows : Inside → Type 0
-AreRows s = IsRows s.entries s.order s.restless s.tally s.pass
 
 -- a row with a frame of its own waits where its number is that of the pass and the unstable tree leads to it
 pub waits_now : (pass : ℕ) (e : Entry) → e.kind ≡ kinds.Own → e.number ≡ pass → is_in e.in_tree ≡ true → state_of pass e ≡ Waiting
@@ -47,10 +35,7 @@ nothing s are page told f is =
 
 module _ (s : Inside) (are : AreRows s) where
   abbrev held : List Held
-  held = held_in s.pass s.entries s.order
-
-  rise : InPageOrder (rows_of held)
-  rise = grind (arith, rows_rise)
+  held = all_held s
 
   module _ {page : GuestPage} {key : ℕ} (there : IsUnder s.entries page key) {e : Entry} (stood : get s.entries key ≡ Some e) where
     -- the entry is that of the page
@@ -80,7 +65,7 @@ module _ (s : Inside) (are : AreRows s) where
     can_be is {state} few =
         let many : length (rows_of held) < 2 ^ 64 =
         omega (arith, length-map held (λ (h : Held). h.row), length-map s.order (λ (n : Named). held_under s.pass (get s.entries n.key)), few) in
-        rw is (can_move rise _ found_row s.tally are.counted (search rules) many)
+        rw is (can_move (rows_rise s are) _ found_row s.tally are.counted (search rules) many)
 
     -- the unstable tree leads as it did where the entry is written anew, in it only as before
     pub led_so : AreLed s.by_node s.entries s.unstable → (e' : Entry) → StaysLed e e' → AreLed s.by_node (with_value s.entries key e') s.unstable
@@ -126,7 +111,7 @@ module _ (s : Inside) (are : AreRows s) where
         ];
         counted =
             rw (ap rows_of (held_later _ refl) ∙ rows_changed _ (λ _. held_of s.pass e') _ _ (λ h. refl))
-            (tally_changed rise _ found_row _ are.counted _ (grind arith));
+            (tally_changed (rows_rise s are) _ found_row _ are.counted _ (grind arith));
         begun = all_filled fills (grind arith) (λ k f stands apart. are.begun k f stands);
         counting = are.counting;
       }
@@ -153,7 +138,7 @@ module _ (s : Inside) (are : AreRows s) where
         ascending = without_rises pages_ordered (λ (n : Named). n.page) page _ are.ascending;
         filed = rw (← of_page) (filed_taken _ _ are.ascending are.filed stood fills);
         listed = grind (arith, stood_before);
-        counted = rw (ap rows_of held_gone ∙ rows_without page held) (tally_gone rise _ found_row _ are.counted (rw (← was) moved));
+        counted = rw (ap rows_of held_gone ∙ rows_without page held) (tally_gone (rows_rise s are) _ found_row _ are.counted (rw (← was) moved));
         begun = λ k f stands. are.begun k f (stood_before stands).0;
         counting = are.counting;
       }
@@ -189,9 +174,6 @@ module _ (s : Inside) (are : AreRows s) {v : RowsView} (seen_as : view_of s ≡ 
   pub filled : Fills s.entries later key (Some e)
   filled = record { changed = fills.changed; others = λ k apart. fills.others k apart ∙ (λ i. get (rest i) k) }
 
-  held_absent : held_at e.page before ≡ None
-  held_absent = grind arith
-
   not_named : find (is_of e.page) s.order ≡ None
   not_named = no_name s are _ seen_as absent
 
@@ -208,7 +190,7 @@ module _ (s : Inside) (are : AreRows s) {v : RowsView} (seen_as : view_of s ≡ 
         all_filled filled (λ may. is.1 e.page ∙ grind (arith, same_page_refl))
         (λ k f stands apart may. is.1 f.page ∙ grind (arith, are.listed is.0 k f stands may));
     counted = rw (ap rows_of held_put ∙ rows_with (held_of s.pass e) before)
-        (tally_put _ (row_told e.page before held_absent) alone are.counted);
+        (tally_put _ (row_told e.page before (ap (λ w. held_at e.page w.held) seen_as ∙ absent)) alone are.counted);
     begun = all_filled filled (λ own. fits) (λ k f stands apart. are.begun k f stands);
     counting = are.counting;
   }

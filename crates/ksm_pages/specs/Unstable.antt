@@ -43,30 +43,29 @@ stands_as by_node tree bytes (Some e) = is_in e.in_tree && (tree_by by_node e.ho
 abbrev pub stands_under : Bool → Slab Entry → ℕ → List ℕ → ℕ → Bool
 stands_under by_node slab tree bytes key = nat_lt key GONE && stands_as by_node tree bytes (get slab key)
 
--- a key, if such an entry is under it
-abbrev pub if_stands : Bool → Slab Entry → ℕ → List ℕ → Option ℕ → Option ℕ
-if_stands by_node slab tree bytes None = None
-if_stands by_node slab tree bytes (Some key) = if stands_under by_node slab tree bytes key then Some key else None
+-- a key, if it passes a test
+abbrev pub if_passes : (ℕ → Bool) → Option ℕ → Option ℕ
+if_passes test None = None
+if_passes test (Some key) = if test key then Some key else None
 
 -- the key of the row, where it does not stand in its place
 abbrev pub other_holder : Bool → Slab Entry → UnstableTree → ℕ → List ℕ → Option ℕ
-other_holder by_node slab u tree bytes = if_stands by_node slab tree bytes (number_of tree bytes u.others.entries)
+other_holder by_node slab u tree bytes = if_passes (stands_under by_node slab tree bytes) (number_of tree bytes u.others.entries)
 
 -- the key that was found in a place, or else the other one, unless a key of the place was never taken
 abbrev pub found_or : Option ℕ → List ℕ → Option ℕ → Option ℕ
 found_or (Some key) keys other = Some key
 found_or None keys other = if list_any (λ k. k == NO_KEY) keys then None else other
 
--- the key that stands in a place with a tree and bytes, or else the other one
-abbrev pub in_place : Bool → Slab Entry → ℕ → List ℕ → Option (List ℕ) → Option ℕ → Option ℕ
-in_place by_node slab tree bytes None other = other
-in_place by_node slab tree bytes (Some keys) other =
-    found_or (find (stands_under by_node slab tree bytes) keys) keys other
+-- the key that passes a test in a place, or else the other one
+abbrev pub in_place : (ℕ → Bool) → Option (List ℕ) → Option ℕ → Option ℕ
+in_place test None other = other
+in_place test (Some keys) other = found_or (find test keys) keys other
 
 -- the key of the row to which the tree leads from a tree and bytes
 abbrev pub holder : Bool → Slab Entry → UnstableTree → ℕ → List ℕ → Option ℕ
 holder by_node slab u tree bytes =
-    in_place by_node slab tree bytes (keys_at u tree bytes) (other_holder by_node slab u tree bytes)
+    in_place (stands_under by_node slab tree bytes) (keys_at u tree bytes) (other_holder by_node slab u tree bytes)
 
 -- each entry to which the tree is said to lead is found there
 abbrev pub AreLed : Bool → Slab Entry → UnstableTree → Type 0

@@ -25,6 +25,7 @@ impl Pages {
     }
 
     /// Whether a dup stands at the place.
+    #[tactic(auto, using(crate::proofs::Paging::any_at))]
     pub fn has_dup(&self, place: u32) -> bool
         ensures { result ≡ list_any (λ d. d.place == place) self.now.dups }
     {
@@ -54,6 +55,7 @@ impl Pages {
     }
 
     /// The least place of a stale dup.
+    #[tactic(auto, using(crate::proofs::Paging::stale_at))]
     pub fn stale_place(&self) -> Option<u32>
         ensures { result ≡ option_map (λ d. d.place) (find (is_stale self.now.rows) self.now.dups) }
     {

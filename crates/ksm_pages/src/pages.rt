@@ -114,6 +114,7 @@ impl Pages {
     }
 
     /// A law: the rows are in the order of their pages, and a page without a row lies on no frame.
+    #[tactic(auto, using(crate::proofs::Lodgings::frame_by, crate::proofs::Changing::nothing_held))]
     pub fn lie_in_order(&self)
         ensures rise { InPageOrder self.now.rows }
         ensures absent { (page : GuestPage) → row_at page self.now.rows ≡ None → (seen self.now).frame page ≡ None }

@@ -61,6 +61,7 @@ fn least_next(guest: Option<u16>, cursor: Option<GuestPage>) -> Option<GuestPage
 
 impl Pages {
     /// Whether a page has a row.
+    #[tactic(auto, using(crate::proofs::Options::both_full, crate::proofs::Options::some_mapped, crate::proofs::Changing::row_found))]
     pub fn has(&self, page: GuestPage) -> bool
         ensures { result ≡ is_some (row_at page self.now.rows) }
     {
@@ -78,6 +79,7 @@ impl Pages {
     }
 
     /// The bytes of a page that has a row.
+    #[tactic(auto, using(crate::proofs::Leaving::row_seen, crate::proofs::Leaving::known_there))]
     pub fn bytes(&self, spot: Spot) -> PageBytes
         requires { IsKnown spot.page self.now.rows }
         ensures { option_map (λ r. r.bytes) (row_at spot.page self.now.rows) ≡ Some result }
@@ -89,6 +91,7 @@ impl Pages {
     }
 
     /// Whether a page waits.
+    #[tactic(auto, using(crate::proofs::Leaving::row_seen))]
     #[inline(always)]
     pub fn waits(&self, spot: Spot) -> bool
         ensures { MatchOption (row_at spot.page self.now.rows) (result ≡ false) (λ r. result ≡ waiting_state r.state) }

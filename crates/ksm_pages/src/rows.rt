@@ -269,6 +269,7 @@ impl Rows {
     }
 
     /// How many rows a scan visits.
+    #[tactic(auto, using(crate::proofs::Reading::flags_counted))]
     pub fn mergeable(&self) -> usize
         ensures { result ≡ count_by (λ r. r.mergeable) (rows_of self.now.held) }
     {
@@ -297,6 +298,7 @@ impl Rows {
     }
 
     /// What so many visits behind the cursor come to.
+    #[tactic(auto, using(crate::proofs::Reading::pages_by))]
     pub fn ahead(&self, cursor: Option<GuestPage>, visits: u64) -> Ahead
         requires { 1 ≤ visits }
         ensures { EndsAt (pages_behind cursor (mergeable_pages (rows_of self.now.held))) visits result }
@@ -305,6 +307,7 @@ impl Rows {
     }
 
     /// How many pages behind the cursor and before a page a scan visits, and the last of them, or else the cursor.
+    #[tactic(auto, using(crate::proofs::Reading::pages_by))]
     pub fn between(&self, cursor: Option<GuestPage>, page: GuestPage) -> (u64, Option<GuestPage>)
         ensures many { result.0 ≡ length (pages_between cursor page (mergeable_pages (rows_of self.now.held))) }
         ensures last { result.1 ≡ last_of cursor (pages_between cursor page (mergeable_pages (rows_of self.now.held))) }

@@ -228,6 +228,7 @@ impl UnstableTree {
     }
 
     // The same where the place is full.
+    #[tactic(auto, using(crate::proofs::Leading::other_numbers))]
     #[inline(never)]
     fn lead_beside(&mut self, tree: u32, bytes: &PageBytes, key: u32) -> Result<(), Fault>
         ensures places { self.new.places.items ≡ self.old.places.items }
@@ -261,6 +262,7 @@ impl UnstableTree {
     }
 
     // The same where it does not stand in that place.
+    #[tactic(auto, using(crate::proofs::Leading::other_numbers))]
     #[inline(never)]
     fn forget_beside(&mut self, tree: u32, bytes: &PageBytes, key: u32)
         ensures places { self.new.places.items ≡ self.old.places.items }

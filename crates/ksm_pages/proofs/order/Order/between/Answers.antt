@@ -36,13 +36,9 @@ returns-in-Some-clause-last g c =
     ∙ sym (passed_last _ c.self.view_is _ _ c.key_of.ensures.few c.self.invariant.ascending
     _ c.passed-passed.ensures.ahead (before g a) (omega arith) (sym c.nth.ensures ∙ c.in-Some.is))
 
-no_such : (g : _) (c : goal.In-None g) → ⊥
-no_such g c =
+pub returns-in-None : goal.returns-in-None
+returns-in-None g c =
     let items = c.self.inside.pages in
-    some_at (marked items) _ (omega (arith, c.if-before-passed.false, c.up_to-before.ensures, up_to_few c.key_of.result items, length-filter (λ (x : Item). x.marked) items)) (sym c.nth.ensures ∙ c.in-None.is)
-
-pub returns-in-None-clause-count : goal.returns-in-None-clause-count
-returns-in-None-clause-count g c = absurd (no_such g c)
-
-pub returns-in-None-clause-last : goal.returns-in-None-clause-last
-returns-in-None-clause-last g c = absurd (no_such g c)
+    absurd (some_at (marked items) _
+    (omega (arith, c.if-before-passed.false, c.up_to-before.ensures, up_to_few c.key_of.result items, length-filter (λ (x : Item). x.marked) items))
+    (sym c.nth.ensures ∙ c.in-None.is))

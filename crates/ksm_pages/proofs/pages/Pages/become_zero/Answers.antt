@@ -24,10 +24,5 @@ returns-clause-left c =
 pub returns-clause-zero : goal.returns-clause-zero
 returns-clause-zero c = (gone c).told_as
 
-pub returns-in_err-find-clause-left : goal.returns-in_err-find-clause-left
-returns-in_err-find-clause-left c =
-    absurd (true≢false (alone_found c.self.inside c.self.view_is _ c.in_err-find.ensures c.requires))
-
-pub returns-in_err-find-clause-zero : goal.returns-in_err-find-clause-zero
-returns-in_err-find-clause-zero c =
-    absurd (true≢false (alone_found c.self.inside c.self.view_is _ c.in_err-find.ensures c.requires))
+pub returns-in_err-find : goal.returns-in_err-find
+returns-in_err-find c = absurd (true≢false (alone_found c.self.inside c.self.view_is _ c.in_err-find.ensures c.requires))

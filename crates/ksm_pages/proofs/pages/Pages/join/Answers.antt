@@ -1,4 +1,4 @@
-use Rattle.ksm_pages.proofs.Names.{sym, tied_absent, ◌∙◌, true≢false}
+use Rattle.ksm_pages.proofs.Names.{rules, sym, tied_absent, ◌∙◌, true≢false}
 use Rattle.ksm_pages.proofs.Joined.{joins, own_not_merged, own_seat, room_found, told_joined}
 use Rattle.ksm_pages.proofs.Leaving.{alone_found, lies, row_there}
 use Rattle.ksm_pages.proofs.pages.Pages.join.Goals as goal
@@ -23,17 +23,15 @@ invariant_of-self-2 c =
     (joins c.self.inside c.self.invariant _ c.in-Some.ensures (alone_found c.self.inside c.self.view_is _ c.in-Some.ensures c.requires.alone) _
     c.in_ok-place.ensures.joined c.merge.ensures c.self.view_is).lawful
 
-pub returns-clause-left : goal.returns-clause-left
-returns-clause-left c =
-    sym (lies c.self.inside c.self.invariant _ c.in-Some.ensures c.self.view_is)
-    ∙ own_seat _ _ c.in-Some.entry.now (alone_found c.self.inside c.self.view_is _ c.in-Some.ensures c.requires.alone)
-
-pub returns-clause-joined : goal.returns-clause-joined
-returns-clause-joined c =
-    (told_joined c.self.inside c.self.invariant _ c.in-Some.ensures (alone_found c.self.inside c.self.view_is _ c.in-Some.ensures c.requires.alone) _
-    c.in_ok-place.ensures.joined c.merge.ensures c.self.view_is).0
-
-pub returns-clause-frame : goal.returns-clause-frame
-returns-clause-frame c =
-    (told_joined c.self.inside c.self.invariant _ c.in-Some.ensures (alone_found c.self.inside c.self.view_is _ c.in-Some.ensures c.requires.alone) _
-    c.in_ok-place.ensures.joined c.merge.ensures c.self.view_is).1
+pub returns : goal.returns
+returns c =
+    let s = c.self.inside in
+    let alone = alone_found s c.self.view_is _ c.in-Some.ensures c.requires.alone in
+    let told = told_joined s c.self.invariant _ c.in-Some.ensures alone _ c.in_ok-place.ensures.joined c.merge.ensures c.self.view_is in
+    record {
+      left = sym (lies s c.self.invariant _ c.in-Some.ensures c.self.view_is) ∙ own_seat _ _ c.in-Some.entry.now alone;
+      joined = told.0;
+      frame = told.1;
+      refused = search rules;
+      fault = search rules;
+    }

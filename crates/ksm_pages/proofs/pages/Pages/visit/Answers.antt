@@ -1,9 +1,9 @@
-use Rattle.ksm_pages.proofs.Names.{ap, arith, best_of, changed, false, found_at, held_of, inl, inr, option_map, Private, refl, Row, rules, same_page, same_page_eq, seen, settled, Some, sym, true, ◌∙◌, ◌≡◌}
+use Rattle.ksm_pages.proofs.Names.{ap, arith, changed, false, held_of, inl, inr, Private, refl, Row, rules, same_page, same_page_eq, seen, settled, Some, sym, true, ◌∙◌, ◌≡◌}
 use Rattle.ksm_tree.proofs.Numbers.{on_err}
 use Rattle.ksm_pages.proofs.Leaving.{Comes, held_as, row_seen, view_of}
 use Rattle.ksm_pages.proofs.Turning.{own_left, rested}
-use Rattle.ksm_pages.proofs.Visiting.{asked, entered_not, entered_then, entered_waits, enters, enters_alone, enters_for, enters_free, enters_restless, finds_changed, finds_dup, finds_gone, finds_partner, finds_zero}
-use Rattle.ksm_pages.proofs.Visiting.{is_alone, lone_none, MayEnter, met, none_told}
+use Rattle.ksm_pages.proofs.Visiting.{asked, entered_not, entered_then, entered_waits, alone, enters, enters_for, enters_restless, finds_changed, finds_dup, finds_gone, finds_partner, finds_zero}
+use Rattle.ksm_pages.proofs.Visiting.{is_alone, lone_none, MayEnter, met, none_told, told_best}
 use Rattle.ksm_pages.proofs.pages.Pages.visit.Goals as goal
 use Rattle.ksm_pages.proofs.pages.Pages.visit.Goals.{After-enter-arg-1, in-Some-in_tree+then-ne+else-waits, in-Some-in_tree+else-ne, in_default-in_tree}
 
@@ -20,13 +20,9 @@ group_with_best-group-requires c =
 
 pub returns-in-Some-best-clause-found : goal.returns-in-Some-best-clause-found
 returns-in-Some-best-clause-found c =
-    let s = c.self.inside in
-    let e = c.in-Some.entry.now in
-    let tree_is = c.tree_in-tree.ensures (held_of s.rows.pass e).row refl in
+    let it = asked c.self.inside c.self.invariant c.self.view_is c.in-Some.entry.now c.in-Some.ensures (grind arith) in
     rw c.group_with_best-group.ensures.kept
-    (finds_dup (asked c.self.inside c.self.invariant c.self.view_is c.in-Some.entry.now c.in-Some.ensures (grind arith)) c.in-Some-best.best
-    (sym c.in-Some-best.is ∙ c.group_with_best-group.ensures.best
-    ∙ (λ i. option_map found_at (best_of (tree_is i) e.bytes s.knobs.max_page_sharing s.dups.dups))))
+    (finds_dup it c.in-Some-best.best (sym c.in-Some-best.is ∙ told_best it c.tree_in-tree.ensures c.group_with_best-group.ensures.best))
 
 abbrev kept : Row → Row
 kept r = record (settled r) { unchanged = true }
@@ -48,27 +44,24 @@ invariant_of-self-then-not-entry c = rw c.group_with_best-group.ensures.kept (we
 pub returns-then-not-entry-clause-found : goal.returns-then-not-entry-clause-found
 returns-then-not-entry-clause-found c =
     let it = asked c.self.inside c.self.invariant c.self.view_is c.in-Some.entry.now c.in-Some.ensures (grind arith) in
-    let tree_is = c.tree_in-tree.ensures (held_of c.self.inside.rows.pass c.in-Some.entry.now).row refl in
     rw c.group_with_best-group.ensures.kept
-    (finds_changed it (none_told it tree_is c.group_with_best-group.ensures.best c.in_default-best.is) c.if-not-entry.true (went c).told_as)
+    (finds_changed it (none_told it c.tree_in-tree.ensures c.group_with_best-group.ensures.best c.in_default-best.is) c.if-not-entry.true (went c).told_as)
 
 pub returns-then-is_for_zero-clause-found : goal.returns-then-is_for_zero-clause-found
 returns-then-is_for_zero-clause-found c =
     let it = asked c.self.inside c.self.invariant c.self.view_is c.in-Some.entry.now c.in-Some.ensures (grind arith) in
-    let tree_is = c.tree_in-tree.ensures (held_of c.self.inside.rows.pass c.in-Some.entry.now).row refl in
     rw c.group_with_best-group.ensures.kept
-    (finds_zero it (none_told it tree_is c.group_with_best-group.ensures.best c.in_default-best.is) c.if-not-entry.false
+    (finds_zero it (none_told it c.tree_in-tree.ensures c.group_with_best-group.ensures.best c.in_default-best.is) c.if-not-entry.false
     (sym c.is_for_zero.ensures ∙ c.if-is_for_zero.true))
 
 pub returns-then-waits-clause-found : goal.returns-then-waits-clause-found
 returns-then-waits-clause-found c =
     let it = asked c.self.inside c.self.invariant c.self.view_is c.in-Some.entry.now c.in-Some.ensures (grind arith) in
-    let tree_is = c.tree_in-tree.ensures (held_of c.self.inside.rows.pass c.in-Some.entry.now).row refl in
     let apart : same_page c.in-Some-in_tree.other.page c.args.spot.page ≡ false = grind arith in
     rw c.group_with_best-group.ensures.kept
-    (finds_partner it (none_told it tree_is c.group_with_best-group.ensures.best c.in_default-best.is) c.if-not-entry.false
+    (finds_partner it (none_told it c.tree_in-tree.ensures c.group_with_best-group.ensures.best c.in_default-best.is) c.if-not-entry.false
     (sym c.is_for_zero.ensures ∙ c.if-is_for_zero.false) c.in-Some-in_tree.other.page
-    (met it c.are_lawful.ensures.led c.are_lawful.ensures.found tree_is (sym c.in-Some-in_tree.ensures) apart c.waits.ensures c.if-waits.true))
+    (met it c.are_lawful.ensures.led c.are_lawful.ensures.found c.tree_in-tree.ensures (sym c.in-Some-in_tree.ensures) apart c.waits.ensures c.if-waits.true))
 
 -- the row may enter the tree
 way : (c : After-enter-arg-1)
@@ -76,16 +69,15 @@ way : (c : After-enter-arg-1)
 way c =
     let s = c.self.inside in
     let it = asked c.self.inside c.self.invariant c.self.view_is c.in-Some.entry.now c.in-Some.ensures (grind arith) in
-    let tree_is = c.tree_in-tree.ensures (held_of s.rows.pass c.in-Some.entry.now).row refl in
-    let none = none_told it tree_is c.group_with_best-group.ensures.best c.in_default-best.is in
+    let none = none_told it c.tree_in-tree.ensures c.group_with_best-group.ensures.best c.in_default-best.is in
     let not_zero = sym c.is_for_zero.ensures ∙ c.if-is_for_zero.false in
     let kept_dups = c.group_with_best-group.ensures.kept in
-    let may = enters it c.are_lawful.ensures.led c.are_lawful.ensures.found tree_is none not_zero c.group_with_best-group.result.0 c.group_with_best-group.ensures.none in
+    let may = enters it c.are_lawful.ensures.led c.are_lawful.ensures.found c.tree_in-tree.ensures none not_zero c.group_with_best-group.result.0 c.group_with_best-group.ensures.none in
     elim c.match-in_tree.branch [
       | in-Some-in_tree+then-ne+else-waits w ↦
           let apart : same_page w.in-Some-in_tree.other.page c.args.spot.page ≡ false = grind arith in
           rw (w.self-inside-is, kept_dups, w.leave_tree.ensures)
-          (enters_for it c.are_lawful.ensures.led c.are_lawful.ensures.found tree_is none not_zero c.group_with_best-group.result.0 c.group_with_best-group.ensures.none
+          (enters_for it c.are_lawful.ensures.led c.are_lawful.ensures.found c.tree_in-tree.ensures none not_zero c.group_with_best-group.result.0 c.group_with_best-group.ensures.none
           (sym w.in-Some-in_tree.ensures) apart w.waits.ensures w.if-waits.false)
       | in-Some-in_tree+else-ne w ↦
           let own : w.in-Some-in_tree.other.page ≡ c.args.spot.page =
@@ -96,10 +88,10 @@ way c =
     ]
 
 pub enter-requires-clause-own : goal.enter-requires-clause-own
-enter-requires-clause-own c = enters_alone (way c)
+enter-requires-clause-own c = rw (way c).asked.found (alone (way c).asked)
 
 pub enter-requires-clause-free : goal.enter-requires-clause-free
-enter-requires-clause-free c = enters_free (way c)
+enter-requires-clause-free c = rw (way c).asked.found (way c).free
 
 pub invariant_of-self-in_err-enter : goal.invariant_of-self-in_err-enter
 invariant_of-self-in_err-enter c =

@@ -7,9 +7,5 @@ pub returns : goal.returns
 returns c =
     let s = c.self.inside in
     let are = c.self.invariant.0 in
-    record {
-      rise = rw (← c.self.view_is) (rows_rise s.entries _ are.ascending are.filed _);
-      framed = rw (← c.self.view_is) (rows_framed s.entries _ are.ascending are.filed _);
-      led = rw (← c.self.view_is) (rows_led s.entries _ are.ascending are.filed _);
-      found = rw (← c.self.view_is) (rows_found s.entries _ are.ascending are.filed _ s.by_node s.unstable c.self.invariant.1);
-    }
+    rw (← c.self.view_is)
+    (record { rise = rows_rise s are; framed = rows_framed s are; led = rows_led s are; found = rows_found s are c.self.invariant.1 })

@@ -19,7 +19,7 @@ lead_to-requires-clause-free c d stood out =
     let s = c.self.inside in
     let are = c.self.invariant.0 in
     let under = c.in-Some.ensures.there in
-    free_none s.entries s.order are.ascending are.filed s.pass s.by_node s.unstable c.self.invariant.1 c.in-Some.key d stood out
+    free_none s are c.self.invariant.1 c.in-Some.key d stood out
     (rw (of_page s are under stood) (rw (row_there s are under stood) at (rw (← c.self.view_is) at c.requires.free)))
 
 -- the entry, which waits

@@ -4,14 +4,8 @@ use Rattle.ksm_pages.proofs.rows.Rows.in_tree.Goals as goal
 
 pub returns-in_err-key : goal.returns-in_err-key
 returns-in_err-key c =
-    let s = c.self.inside in
-    let are = c.self.invariant.0 in
-    grind (
-      arith,
-      none_found s.entries s.order are.ascending are.filed s.pass s.by_node s.unstable c.self.invariant.1 c.args.tree c.args.bytes.now
-          (sym c.in_err-key.ensures),
-      c.from_residual.ensures,
-    )
+    let none = none_found c.self.inside c.self.invariant.0 c.self.invariant.1 c.args.tree c.args.bytes.now (sym c.in_err-key.ensures) in
+    grind (arith, none, c.from_residual.ensures)
 
 pub index-requires : goal.index-requires
 index-requires c =
@@ -22,10 +16,7 @@ index-requires c =
 pub returns : goal.returns
 returns c =
     let s = c.self.inside in
-    let are = c.self.invariant.0 in
     let stands = holder_stands s.by_node s.entries s.unstable c.args.tree c.args.bytes.now (sym c.in_ok-key.ensures) in
-    grind (
-      arith,
-      page_found s.entries s.order are.ascending are.filed s.pass s.by_node s.unstable c.self.invariant.1 c.args.tree c.args.bytes.now
-          c.in_ok-key.field-0 c.index.result.now c.index.ensures (grind (arith, stands, c.index.ensures)),
-    )
+    let found = page_found s c.self.invariant.0 c.self.invariant.1 c.args.tree c.args.bytes.now c.in_ok-key.field-0 c.index.result.now
+    c.index.ensures (grind (arith, stands, c.index.ensures)) in
+    grind (arith, found)

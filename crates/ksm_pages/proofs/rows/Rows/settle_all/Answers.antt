@@ -9,8 +9,11 @@ invariant_of-self c =
 
 pub invariant_of-self-in-None : goal.invariant_of-self-in-None
 invariant_of-self-in-None c =
-    let slots = retained_all _ forgotten (λ f k old keep new next t. search rules) _ _ _ _ c.retain.ensures.retained in
-    ((anew c.self.invariant.0 c.retain.new.self slots).rows, led_mapped c.self.inside.entries c.retain.new.self forgotten slots (λ e. (refl, refl, refl)) c.self.inside.by_node c.self.inside.unstable c.self.invariant.1)
+    let slots = retained_all _ forgotten (λ f k old keep new next t. search rules) _ _ _ _ c.retain.ensures.retained in (
+      (anew c.self.invariant.0 c.retain.new.self slots).rows,
+      led_mapped c.self.inside.entries c.retain.new.self forgotten slots (λ e led. (led, refl, refl)) c.self.inside.by_node
+          c.self.inside.unstable c.self.invariant.1,
+    )
 
 pub returns-in-Some : goal.returns-in-Some
 returns-in-Some c =

@@ -6,8 +6,11 @@ use Rattle.ksm_pages.proofs.rows.Rows.unshare_all.Goals as goal
 
 pub invariant_of-self : goal.invariant_of-self
 invariant_of-self c =
-    let slots = retained_all _ plain (λ f k old keep new next t. search rules) _ _ _ _ c.retain.ensures.retained in
-    ((plain_seen c.self.invariant.0 c.retain.new.self slots).rows, led_mapped c.self.inside.entries c.retain.new.self plain slots (λ e. (refl, refl, refl)) c.self.inside.by_node c.self.inside.unstable c.self.invariant.1)
+    let slots = retained_all _ plain (λ f k old keep new next t. search rules) _ _ _ _ c.retain.ensures.retained in (
+      (plain_seen c.self.invariant.0 c.retain.new.self slots).rows,
+      led_mapped c.self.inside.entries c.retain.new.self plain slots (λ e led. (led, refl, refl)) c.self.inside.by_node
+          c.self.inside.unstable c.self.invariant.1,
+    )
 
 pub returns : goal.returns
 returns c =
