@@ -11,15 +11,11 @@ use Rattle.ksm_tree.specs.Dups.{rows_of as dup_rows}
 use Rattle.ksm_pages.specs.declared.pages.Held.{Held as Told}
 use Rattle.ksm_pages.proofs.Leaving.{AreLawful, row_seen, view_of}
 
--- ---------------------------------------------------------------- the place of a page's dup
-
 -- the place of the dup of a page is what the state of its entry says
 pub ticket_told : (s : Inside) {p : PagesValue} → view_of s ≡ p → {page known : GuestPage} → known ≡ page → (e : Entry)
     → held_at known s.rows.held ≡ Some (held_of s.rows.pass e) → {kind : Kind} → e.kind ≡ kind
     → place_of (state_of s.rows.pass (record e { kind = kind })) (dup_rows s.dups.dups) ≡ option_and_then (λ r. place_of r.state p.dups) (row_at page p.rows)
 ticket_told s {p} seen_as {page} at e found is = grind (arith, row_seen)
-
--- ---------------------------------------------------------------- the first page after a cursor
 
 -- where no row in front of a page passes, and that of the page does, that is the first that passes, if it is there
 pub first_at : (next : Row → Bool) (page : GuestPage) → ((r : Row) → r.page ≡ page → next r ≡ true)
@@ -29,10 +25,6 @@ first_at next page here ahead rows up r found =
     let none = find_nothing next _ (λ k d lt. ahead _ (filter_passes (λ r. comes_before r.page page) rows k d lt)) in
     let parts = found_parts pages_ordered (λ (r : Row). r.page) page rows r up found in
     grind (arith, parts, none, find-append, here r, find_passes, same_page_eq)
-
--- a page that does not come before another is of no earlier guest
-guests_rise : (p q : GuestPage) → comes_before p q ≡ false → q.guest ≤ p.guest
-guests_rise p q ahead = grind arith
 
 module _ (p : PagesValue) (guest : Option ℕ) (cursor : Option GuestPage) where
   abbrev next : Row → Bool
@@ -78,8 +70,7 @@ module _ (p : PagesValue) (guest : Option ℕ) (cursor : Option GuestPage) where
           → (after_cursor start page ≡ true → IfSome guest (λ h. h ≤ page.guest)) → find next p.rows ≡ None
       next_past {g} is differs begun = find_nothing next p.rows (λ k d lt. false_from_ne_true _ (λ passes.
           let x = get_or p.rows k d in
-          let not_before = guests_rise x.page r.page
-          (first_found (λ (s : Row). s.page) behind p.rows r rise there.1 k d lt (less x passes)) in
+          let not_before = first_found (λ (s : Row). s.page) behind p.rows r rise there.1 k d lt (less x passes) in
           grind (arith, not_before, later)))
         where
           later : g ≤ page.guest

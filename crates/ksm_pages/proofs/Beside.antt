@@ -1,6 +1,7 @@
 -- The page that waits in the tree of a merged row with its bytes: it is the row's partner.
-use Rattle.ksm_pages.proofs.Names.{All, AreInTree, arith, Entry, find_passes, GuestPage, held_at, held_of, if◌then◌else◌, Inside, is_in, merged_state, None, not, Option, option_and_then, option_map, page_beside}
-use Rattle.ksm_pages.proofs.Names.{page_in_tree, PagesValue, partner, refl, Row, row_at, rows_of, same_page, same_page_eq, Some, tree_of, true, waiting_state, ℕ, ◌&&◌, ◌≡◌}
+use Rattle.ksm_pages.specs.Held.{AreWaitersLed}
+use Rattle.ksm_pages.proofs.Names.{AreInTree, arith, Entry, find_passes, GuestPage, held_at, held_of, if◌then◌else◌, Inside, merged_state, None, not, Option, option_and_then, option_map, page_beside}
+use Rattle.ksm_pages.proofs.Names.{page_in_tree, PagesValue, partner, refl, Row, row_at, rows_of, same_page, same_page_eq, Some, tree_of, waiting_state, ℕ, ◌&&◌, ◌≡◌}
 use Rattle.ksm_pages.specs.declared.row.Kind.TheVariants as kinds
 use Rattle.ksm_pages.proofs.Partners.{partner_is}
 use Rattle.ksm_pages.proofs.Leaving.{AreLawful, of_page, row_seen, row_there, view_of}
@@ -17,19 +18,12 @@ module _ (s : Inside) (are : AreLawful s) (p : PagesValue) (seen_as : view_of s 
   seen_beside : beside ≡ (if merged_state row.state then option_map (λ r. r.page) (partner s.knobs (rows_of s.rows.held) row) else None)
   seen_beside = grind (arith, row_seen)
 
-  -- no page waits beside one that has a frame of its own, or is Zero
-  pub own_beside : e.kind ≡ kinds.Own → None ≡ beside
-  own_beside is = grind (arith, seen_beside)
-
-  pub zero_beside : e.kind ≡ kinds.Zero → None ≡ beside
-  zero_beside is = grind (arith, seen_beside)
-
   -- a page, if it waits
   abbrev if_waiting : GuestPage → Option GuestPage
   if_waiting other = option_and_then (λ w. if waiting_state w.state then Some other else None) (row_at other p.rows)
 
   -- beside one that is merged that page waits to which the tree leads from its content, where that waits
-  pub merged_beside : All (λ h. waiting_state h.row.state ≡ true → is_in h.in_tree ≡ true) s.rows.held → AreInTree s.rows
+  pub merged_beside : AreWaitersLed s.rows.held → AreInTree s.rows
       → e.kind ≡ kinds.Merged → {tree : ℕ} → ((r : Row) → r.home ≡ e.home → tree ≡ tree_of s.knobs r)
       → beside ≡ option_and_then if_waiting (page_in_tree s.rows tree e.bytes)
   merged_beside led found_by is {tree} in_tree = go _ refl

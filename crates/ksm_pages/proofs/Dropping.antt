@@ -1,7 +1,7 @@
 -- The pages once the stale dup at a place went.
 use Rattle.ksm_pages.proofs.Names.{All, All-filter, all_rows, ap, AreAlone, AreTied, arith, Bool, Dup, dup_at, dup_numbered, DupRow, elsewhere, eq-eqb, eqb-true, false, filter, filter_all, find}
-use Rattle.ksm_pages.proofs.Names.{find_all, find_none, find_nothing, find_passes, frame_of, frame_seen, get_or, GuestPage, Held, in_group, is_live, is_some, is_stale, IsVacant, item_count, Knobs, length, List}
-use Rattle.ksm_pages.proofs.Names.{list_any, lodging, lodgings_of, Merged, merged_into, nat_tests, None, none_counted, not, Option, option_map, PageState, Row, row_at, rows_of, rows_without, Some}
+use Rattle.ksm_pages.proofs.Names.{find_all, find_none, find_nothing, find_passes, frame_of, get_or, GuestPage, Held, in_group, is_live, is_some, is_stale, IsVacant, item_count, Knobs, length, List}
+use Rattle.ksm_pages.proofs.Names.{list_any, lodging, lodgings_of, Merged, merged_into, nat_tests, None, none_counted, not, Option, option_map, Row, row_at, rows_of, rows_without, Some}
 use Rattle.ksm_pages.proofs.Names.{stands_at, sym, tied_counted, tree_of, true, ℕ, ◌&&◌, ◌==◌, ◌∙◌, ◌≡◌}
 use Rattle.ksm_tree.specs.Dups.{rows_of as dup_rows, without_place}
 use Rattle.ksm_tree.proofs.Alike.{find_alike}
@@ -56,10 +56,6 @@ pub lodged_alike : {of to : ℕ → Option ℕ} (held : List Held)
 lodged_alike {of} {to} held same = λ i page. (frame_by of held page ∙ go page _ (row_found page _)
     ∙ sym (frame_by to held page)) i
   where
-    at : (state : PageState) (own : Option ℕ) → ((n : ℕ) → state ≡ Merged n → of n ≡ to n)
-        → frame_seen of state own ≡ frame_seen to state own
-    at state own alike = grind arith
-
     go : (page : GuestPage) (o : Option Held) → row_at page (rows_of held) ≡ option_map (λ h. h.row) o → seat of o ≡ seat to o
     go page o is = grind arith
 

@@ -43,8 +43,6 @@ pub but_there : {new : PagesView} (old : PagesView) (rows : List Row) (page : Gu
     → (new ≡ record old { rows = rows; frame = new.frame }) × (new.frame ≡ lies_on page (new.frame page) old.frame)
 but_there {new} old rows page o is = grind arith
 
--- ---------------------------------------------------------------- results
-
 -- what follows from the promise for Ok, and also from the promise for an error, follows
 pub either_way : {T E P O Q : Type 0} (r : Result T E) → OnOk r P → OnErr r O → (P → Q) → (O → Q) → Q
 either_way (Ok x) holds fails so too = so holds

@@ -35,10 +35,6 @@ under_named slab n told = search rules
 pub page_under : (pass : ℕ) (slab : Slab Entry) {n : Named} → Stands slab n → (held_under pass (get slab n.key)).row.page ≡ n.page
 page_under pass slab told = grind arith
 
--- a scan visits the row under a key exactly where the order says so of its page
-pub flag_under : (pass : ℕ) (slab : Slab Entry) {n : Named} → Stands slab n → (held_under pass (get slab n.key)).row.mergeable ≡ n.mergeable
-flag_under pass slab told = grind arith
-
 -- pages are named as their entries say, where those that are named stand so, and those that stand are named so
 pub filed_by : (slab : Slab Entry) (order : List Named) → All (Stands slab) order
     → ((key : ℕ) (e : Entry) → get slab key ≡ Some e → find (is_of e.page) order ≡ Some (named_of key e)) → AreFiled slab order
@@ -86,10 +82,6 @@ module _ (slab : Slab Entry) (order : List Named) (rise : AreAscending order) (f
     -- what is held of a page is what stands under the key that the order names for the page
     pub held_found : (page : GuestPage) → held_at page (held_in pass slab order) ≡ option_map (held_by pass slab) (find (is_of page) order)
     held_found page = grind (arith, find_mapped, page_under, all_stand)
-
-    -- a page that has no key in the order has no row
-    pub held_nowhere : (page : GuestPage) → key_in order page ≡ None → held_at page (held_in pass slab order) ≡ None
-    held_nowhere page told = search (rules, held_found, none_mapped)
 
   -- ---------------------------------------------------------------- one entry changed
 
@@ -221,6 +213,10 @@ module _ (s : Inside) (are : AreRows s) where
   pub row_found : (key : ℕ) (e : Entry) → get s.entries key ≡ Some e → held_at e.page (all_held s) ≡ Some (held_of s.pass e)
   row_found key e stands =
       grind (arith, held_found s.entries _ are.ascending are.filed s.pass e.page, named_under s.entries _ are.filed key e stands)
+
+  -- a page that has no key in the order has no row
+  pub held_nowhere : (page : GuestPage) → None ≡ key_in s.order page → held_at page (all_held s) ≡ None
+  held_nowhere page told = search (rules, held_found s.entries _ are.ascending are.filed s.pass page, none_mapped)
 
   -- what holds of the row of each entry holds of all rows
   pub rows_all : (P : Held → Type 0) → ((key : ℕ) (e : Entry) → get s.entries key ≡ Some e → P (held_of s.pass e)) → All P (all_held s)

@@ -1,10 +1,10 @@
 -- Lists in the order of their pages: what a search finds once one came, went or changed, and what a write at a page's place leaves.
 use Rattle.ksm_pages.proofs.Names.{All, All-cons, AllPairs, ap, arith, before_irrefl, Bool, comes_before, cond, false, filter, filter_passes, find}
-use Rattle.ksm_pages.proofs.Names.{find-append, find_none, find_nothing, find_over, find_passes, get_or, GuestPage, if◌then◌else◌, length, length-append, List, map}
+use Rattle.ksm_pages.proofs.Names.{find-append, find_nothing, find_over, find_passes, get_or, GuestPage, if◌then◌else◌, length, length-append, List, map}
 use Rattle.ksm_pages.proofs.Names.{None, not, Option, option_map, pages_ordered, pairs_head, pairs_tail, rules, same_page, same_page_eq, same_page_refl, same_page_sym}
 use Rattle.ksm_pages.proofs.Names.{Some, suc, sym, true, zero, [], ◌++◌, ◌+◌, ◌∙◌, ◌∷◌, ◌≡◌}
 use Rattle.ksm_order.proofs.Ordered.{absent_parts}
-use Rattle.ksm_tree.proofs.Alike.{change_none, find_mapped, pairs_mapped}
+use Rattle.ksm_tree.proofs.Alike.{find_mapped, pairs_mapped}
 
 -- what a search finds among all it finds among those that are kept, where the one found is kept
 pub find_kept : {X : Type 0} (test keep : X → Bool) (xs : List X) (o : Option X) → find test xs ≡ o
@@ -54,10 +54,6 @@ module _ {X : Type 0} (key : X → GuestPage) where
 
     abbrev is_it : X → Bool
     is_it y = same_page (key y) page
-
-    -- a change of a page that is not there leaves the list
-    pub absent_unchanged : (f : X → X) {xs : List X} → find is_it xs ≡ None → xs ≡ map (λ y. if is_it y then f y else y) xs
-    absent_unchanged f absent = sym (change_none _ f _ (find_none _ _ absent))
 
     -- a list in order stays in order where the element of a page is changed, but for its page
     pub write_rises : (f : X → X) → ((y : X) → key (f y) ≡ key y) → (xs : List X) → AllPairs Before xs → AllPairs Before (map (λ y. if is_it y then f y else y) xs)

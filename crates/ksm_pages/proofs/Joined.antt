@@ -1,8 +1,8 @@
 -- The pages once a page with a frame of its own joined a dup.
 use Rattle.ksm_tree.specs.Dups.{has_number, items_of as items_numbered, rows_of as dup_rows}
-use Rattle.ksm_pages.proofs.Names.{All, ap, arith, change_items, count_by, Dup, dup_of, DupRow, DupsState, each_at_page, Entry, false, find_none, frame_of, frame_seen, GuestPage, HasRoom}
+use Rattle.ksm_pages.proofs.Names.{All, ap, arith, change_items, count_by, Dup, dup_of, DupRow, DupsState, each_at_page, Entry, false, find_none, get_or, frame_of, frame_seen, GuestPage, HasRoom}
 use Rattle.ksm_pages.proofs.Names.{Held, held_at, held_of, InPageOrder, Inside, is_some, length, let_out, lies_on, List, lodgings_of, Merged, merged_into, merged_state}
-use Rattle.ksm_pages.proofs.Names.{MOST_REFERENCES, nat_tests, None, number_found, Option, option_map, PageState, PagesValue, refl, Row, row_found, rows_items, rows_of, RowsView, seen, shared_state, shares}
+use Rattle.ksm_pages.proofs.Names.{MOST_REFERENCES, nat_tests, None, number_found, Option, option_map, PageState, PagesValue, refl, row_found, rows_items, rows_of, RowsView, seen, shared_state, shares}
 use Rattle.ksm_pages.proofs.Names.{Some, subst, sym, tied_count, tied_joined, true, with_item, ℕ, ◌<◌, ◌==◌, ◌∙◌, ◌≡◌, altered, changed, relaid}
 use Rattle.ksm_pages.proofs.Changing.{row_found as found_rows}
 use Rattle.ksm_pages.proofs.Leaving.{AreLawful, Comes, held_as, of_dup, of_page, row_there, turned_so, view_of}
@@ -45,15 +45,12 @@ room_found s are seen_as {number} required = go _ refl
           ),
         )
 
-item_seat : (of : ℕ → Option ℕ) (number : ℕ) {r : Row} → merged_into number r.state ≡ true → (o : Option Held)
-    → option_map (λ (h : Held). h.row) o ≡ Some r → seat of o ≡ of number
-item_seat of number merged o is = grind arith
-
 -- an item of a dup lies where all its items do
 pub item_lies : (of : ℕ → Option ℕ) (held : List Held) → InPageOrder (rows_of held) → (number : ℕ)
     → All (λ r. merged_into number r.state ≡ true → frame_of (lodgings_of of held) r.page ≡ of number) (rows_of held)
 item_lies of held rise number k d lt merged =
-    frame_by of held _ ∙ item_seat of _ merged _ (sym (found_rows _ held) ∙ each_at_page _ rise k d lt)
+    let r = get_or (rows_of held) k d in
+    grind (arith, frame_by of held r.page, found_rows r.page held, each_at_page (rows_of held) rise k d lt, merged)
 
 -- a page whose row is not shared lies on the frame of its own, if it has one
 pub seen_own : (of : ℕ → Option ℕ) (state : PageState) (own : Option ℕ) → shared_state state ≡ false → frame_seen of state own ≡ own

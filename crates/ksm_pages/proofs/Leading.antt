@@ -69,10 +69,6 @@ all_taken : (slab : Slab Entry) (keys : List ℕ) → list_any (λ k. not (is_le
 all_taken slab [] led = refl
 all_taken slab (k ∷ keys) led = grind (arith, nat_tests, all_taken slab keys)
 
--- what stands in a list, written where it stands, leaves the list
-set_own : {X : Type 0} (xs : List X) (i : ℕ) (x : X) → slice_get xs i ≡ Some x → set xs i x ≡ xs
-set_own xs i x is = ap (set xs i) (sym (get_or_from_slice_get xs i x x is)) ∙ set-get_or xs i x
-
 -- a tree has the places and the others of another
 abbrev pub IsAs : UnstableTree → UnstableTree → Type 0
 IsAs u old = (u.places.items ≡ old.places.items) × (u.others ≡ old.others)
@@ -86,7 +82,8 @@ pub untouched : (u old : UnstableTree) (at : ℕ) (keys : List ℕ)
     → u ≡ record old { places = with_item old.places at keys } → slice_get old.places.items at ≡ Some keys → IsAs u old
 untouched u old at keys is there =
     let same = same_tree u (record old { places = with_item old.places at keys }) is in
-    (same.0 ∙ set_own old.places.items at keys there, same.1)
+    let own = get_or_from_slice_get old.places.items at keys keys there in
+    (same.0 ∙ ap (set old.places.items at) (sym own) ∙ set-get_or old.places.items at keys, same.1)
 
 -- what stands at a place of a list once another thing is written at one of its places
 pub get_set : {X : Type 0} (xs : List X) (i j : ℕ) (x : X)

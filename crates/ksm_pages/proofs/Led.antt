@@ -1,7 +1,8 @@
 -- Each entry in the unstable tree is found there: what one entry that came, went or changed leaves, and what the rows show of it.
+use Rattle.ksm_pages.specs.Held.{AreWaitersLed}
 use Rattle.ksm_pages.proofs.Names.{All, ap, arith, Bool, cases_Bool, Entry, false, find, find_all, find_none, find_nothing, find_passes, get, get_or}
 use Rattle.ksm_pages.proofs.Names.{held_of, holds, inl, inr, List, map, nat_tests, None, Option, option_map, refl, same_page_eq, same_Some, Slab, Some, sym, true, true≢false, waiting_state}
-use Rattle.ksm_pages.proofs.Names.{ℕ, ◌==◌, ◌∙◌, ◌≡◌, ◌≢◌, ◌⊎◌, is_some}
+use Rattle.ksm_pages.proofs.Names.{ℕ, ◌==◌, ◌∙◌, ◌≡◌, ◌≢◌, ◌⊎◌}
 use Rattle.ksm_pages.proofs.Options.{mapped_some}
 use Rattle.std.specs.Prelude.{nat_lt}
 use Rattle.ksm_tree.specs.Numbered.{number_of}
@@ -123,19 +124,13 @@ led_kept by_node slab old new led keeps k e is in_tree = keeps (tree_by by_node 
 
 -- a row that comes to stand in the tree is in it
 pub led_by_group : (group : Option ℕ) → is_in (in_tree_by group) ≡ true
-led_by_group None = refl
-led_by_group (Some group) = refl
-
--- an entry stands under a key where one stands there with a tree and bytes
-pub stands_some : (by_node : Bool) (slab : Slab Entry) (t : ℕ) (b : List ℕ) (key : ℕ) → stands_under by_node slab t b key ≡ true
-    → is_some (get slab key) ≡ true
-stands_some by_node slab t b key stands = grind arith
+led_by_group group = grind arith
 
 -- ---------------------------------------------------------------- what the rows show
 
 module _ (s : Inside) (are : AreRows s) where
   -- a row that waits is in the tree
-  pub rows_led : All (λ h. waiting_state h.row.state ≡ true → is_in h.in_tree ≡ true) (all_held s)
+  pub rows_led : AreWaitersLed (all_held s)
   rows_led = rows_all s are (λ h. waiting_state h.row.state ≡ true → is_in h.in_tree ≡ true) (λ k e stands. grind arith)
 
   -- what holds of all rows holds of that of each entry

@@ -1,5 +1,5 @@
 -- Options that are mapped.
-use Rattle.ksm_pages.proofs.Names.{arith, MatchOption, None, Option, option_map, Some, ◌≡◌}
+use Rattle.ksm_pages.proofs.Names.{arith, None, Option, option_map, Some, ◌≡◌}
 use Rattle.std.specs.Option.{is_some}
 
 -- an option is full once it is mapped exactly where it was full
@@ -17,7 +17,3 @@ mapped_some f o none = grind arith
 -- two maps of an option, one after the other, are one map
 pub mapped_twice : {X Y Z : Type 0} (f : Y → Z) (g : X → Y) (o : Option X) → option_map f (option_map g o) ≡ option_map (λ x. f (g x)) o
 mapped_twice f g o = grind arith
-
--- where an option tells whether another is full, and with what, it is full exactly where that is
-pub both_full : {X Y : Type 0} (f : X → Y) (o : Option X) (p : Option Y) → MatchOption o (p ≡ None) (λ x. p ≡ Some (f x)) → is_some o ≡ is_some p
-both_full f o p is = grind arith

@@ -1,7 +1,7 @@
 -- What is read of the pages: rows and dups found by their pages, places and numbers.
 use Rattle.ksm_pages.proofs.Names.{All, ap, AreDups, AreTied, arith, Dup, dup_at, dup_numbered, dup_of, DupRow, DupsState, each_has_number, find, find_all, found_passing}
 use Rattle.ksm_pages.proofs.Names.{Held, InPageOrder, InPlaceOrder, is_live, is_some, is_stale, items_in, items_of, length, List, list_any, live_placed, lodging, lodgings_of, merged_into, None}
-use Rattle.ksm_pages.proofs.Names.{Option, option_and_then, option_map, refl, Row, rows_of, slice_get, slice_get-get_or, Some, stale_alike, stands_at, sym, tied_counted, true}
+use Rattle.ksm_pages.proofs.Names.{option_and_then, option_map, refl, Row, rows_of, slice_get, slice_get-get_or, Some, stale_alike, stands_at, sym, tied_counted, true}
 use Rattle.ksm_pages.proofs.Names.{unwrap_or-slice_get, ℕ, ◌&&◌, ◌<◌, ◌==◌, ◌∙◌, ◌≡◌, live_at}
 use Rattle.std.proofs.Common.{unwrap_or}
 use Rattle.ksm_base.specs.Rows.{is_stale as is_stale_row}
@@ -11,8 +11,6 @@ use Rattle.ksm_pages.specs.Paged.{frame_of as lies_at}
 use Rattle.ksm_order.proofs.Ordered.{any_found}
 use Rattle.ksm_pages.proofs.Joined.{item_lies}
 use Rattle.ksm_pages.proofs.Options.{mapped_twice, some_mapped}
-
--- ---------------------------------------------------------------- dups
 
 -- the dup with a number stands at the place that the dup row with that number tells
 pub place_numbered : (number : ℕ) (dups : List Dup) → option_map (λ d. d.row.place) (dup_of number dups) ≡ option_map (λ d. d.place) (dup_numbered number (dup_rows dups))
@@ -33,14 +31,6 @@ pub stale_at : (rows : List Row) (dups : List Dup) → AreTied rows dups → opt
 stale_at rows dups tied =
     sym (mapped_twice _ _ _)
     ∙ ap (option_map (λ (r : DupRow). r.place)) (stale_alike rows _ (tied_counted rows _ tied))
-
--- ---------------------------------------------------------------- frames
-
--- the frame of a dup that there may be is read at its place, whether the place is taken first or not
-pub kept_at_place : (frames : List ℕ) (o : Option DupRow) → option_and_then (slice_get frames) (option_map (λ d. d.place) o) ≡ option_and_then (λ d. slice_get frames d.place) o
-kept_at_place frames o = grind arith
-
--- ---------------------------------------------------------------- the dups at their places
 
 -- the items of a dup lie on the frame that is kept at its place
 pub items_lodge : (held : List Held) {s : DupsState} (frames : List ℕ) → InPageOrder (rows_of held) → AreDups s → s.places ≡ length frames → {place : ℕ} {frame : ℕ} → frame ≡ unwrap_or (slice_get frames place) 0

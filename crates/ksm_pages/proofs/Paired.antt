@@ -1,10 +1,10 @@
 -- The pages once two of them became the items of a new dup.
+use Rattle.ksm_pages.specs.Held.{AreWaitersLed}
 use Rattle.ksm_pages.proofs.Names.{All, All-filter, All-map, ap, ap₂, AreAlone, AreDups, AreInTree, AreKept, arith, change_held, change_row, change_rows, cond_both, dup_numbered}
 use Rattle.ksm_pages.proofs.Names.{DupRow, DupsState, Entry, false, filter, find, find-append, find_all, find_nothing, find_over, frame_of, Frames, get_or, GuestPage, has_content, Held, held_at, held_of, holds}
-use Rattle.ksm_pages.proofs.Names.{in_group, InPageOrder, InPlaceOrder, Inside, InTree, is_in, is_live, length, length-set, lies_on, List, lodging, lodgings_of, MatchOption, MayPair, Merged, merged_into, nat_tests, None, not, Option, option_and_then}
+use Rattle.ksm_pages.proofs.Names.{in_group, InPageOrder, InPlaceOrder, Inside, is_in, is_live, length, length-set, lies_on, List, lodging, lodgings_of, MatchOption, MayPair, Merged, merged_into, nat_tests, None, not, Option, option_and_then}
 use Rattle.ksm_pages.proofs.Names.{option_map, ordered_change, page_in_tree, PagesValue, paired, refl, Row, row_at, rows_new, rows_of, RowsView, rules, same_page, same_page_eq, same_page_refl, seen, set, shares, slice_get}
 use Rattle.ksm_pages.proofs.Names.{Some, stands_at, subst, sym, tied_made, tree_of, true, waiting_state, with_dup, with_item, with_new, ℕ, [], ◌&&◌, ◌+◌, ◌<◌, ◌==◌, ◌||◌, ◌∙◌, ◌∷◌, ◌≡◌}
-use Rattle.ksm_pages.specs.Held.{is_alone}
 use Rattle.std.specs.Vec.{with_item as with_frame}
 use Rattle.ksm_tree.specs.Dups.{rows_of as dup_rows}
 use Rattle.ksm_tree.proofs.Alike.{map_mapped}
@@ -19,7 +19,7 @@ use Rattle.ksm_pages.proofs.Leading.{get_set}
 use Rattle.ksm_pages.proofs.Lodgings.{changed_to, frame_by, lodged_changed, seat}
 use Rattle.ksm_pages.proofs.Lone.{IsLone, lone_changed, shared_lone}
 use Rattle.ksm_pages.proofs.Partners.{each_led, held_led, tree_is, waits_parts}
-use Rattle.ksm_pages.proofs.Visiting.{lawful_numbered, seen_numbered}
+use Rattle.ksm_pages.proofs.Visiting.{lawful_numbered}
 
 -- ---------------------------------------------------------------- what is kept at one place
 
@@ -103,7 +103,7 @@ pub can_pair : {s : Inside} → AreLawful s → {p : PagesValue} → view_of s �
     → {later : DupsState} → later ≡ record s.dups { numbers = later.numbers; most = later.most }
     → CanPair (record s { dups = later }) p place first second pass one other
 can_pair {s} are {p = p} seen_as required found also {later = later} same =
-    let now = seen_numbered s same ∙ seen_as in
+    let now : view_of (record s { dups = later }) ≡ p = grind (arith, same, seen_as) in
     record {
       kept = lawful_numbered s same are;
       seen_as = now;
@@ -159,7 +159,7 @@ module _ {s : Inside} {p : PagesValue} {place : ℕ} {first second : GuestPage} 
 
   module _ {tree : ℕ} (in_tree : (r : Row) → r.home ≡ other.home → tree ≡ tree_of s.knobs r) {later : DupsState}
       (is_made : later ≡ with_pair (record { number = s.dups.next; place = place; tree = tree; bytes = b.row.bytes }) first second s.dups)
-      (lawful : AreDups s.dups) (led : All (λ h. waiting_state h.row.state ≡ true → is_in h.in_tree ≡ true) s.rows.held)
+      (lawful : AreDups s.dups) (led : AreWaitersLed s.rows.held)
       (there : AreInTree s.rows) {number : ℕ} (is_number : number ≡ s.dups.next)
       {rows : RowsView} (turned : rows ≡ record s.rows { held = both_merged number first second s.rows.held }) where
     abbrev frame : ℕ
@@ -244,10 +244,7 @@ module _ {s : Inside} {p : PagesValue} {place : ℕ} {first second : GuestPage} 
         let h = get_or s.rows.held k d in
         cond_both _ _ _ (IsLone s.knobs dups_now) (λ _. shared_lone s.knobs dups_now (Merged s.dups.next) h)
         (λ apart alone. all_with_dup (λ r. in_group (tree_of s.knobs h.row) h.row.bytes r ≡ false) dup _
-        (not_of_dup h (in_where h.in_tree alone) apart (each_led s.rows there tree b.row.bytes k d lt)) (are.alone k d lt alone)))
-      where
-        in_where : (t : InTree) → is_alone t ≡ true → is_in t ≡ true
-        in_where t is = grind arith
+        (not_of_dup h (grind (arith, alone)) apart (each_led s.rows there tree b.row.bytes k d lt)) (are.alone k d lt alone)))
 
     now_alone : AreAlone s.knobs rows.held (dup_rows later.dups)
     now_alone =

@@ -1,4 +1,5 @@
 -- The row to which the unstable tree leads from the tree and bytes of a row, and the row's partner.
+use Rattle.ksm_pages.specs.Held.{AreWaitersLed}
 use Rattle.ksm_pages.proofs.Names.{All, All-map, altered, ap₂, AreInTree, arith, bytes_eq-Decides, each_at_page, false, find_all, find_none, find_passes}
 use Rattle.ksm_pages.proofs.Names.{get_or, GuestPage, has_content, Held, held_at, holds, InPageOrder, is_in, IsFree, Knobs, List, nat_tests, None, not, Option, option_and_then, out_of_tree, page_in_tree}
 use Rattle.ksm_pages.proofs.Names.{partner, refl, Row, row_at, rows_of, RowsView, same_page, same_page_refl, Some, sym, tree_by, tree_of, true, waiting_state, waits_for, ℕ, ◌&&◌, if◌then◌else◌}
@@ -27,10 +28,6 @@ module _ (v : RowsView) (found : AreInTree v) where
       grind (arith, nat_tests, bytes_eq-Decides h.row.bytes bytes) in
       sym (ap₂ (page_in_tree v) content.0 content.1) ∙ found k d lt (grind arith)
 
-  -- the row is of the page, or not of the content
-  abbrev IsOther : GuestPage → Held → Held → Type 0
-  IsOther page h g = holds page g ≡ false → has_content v.by_node (tree_by v.by_node h.row.home) h.row.bytes g ≡ false
-
   -- where the tree leads from the content of a page's row to none, or to that page, it leads to no other row
   pub free_by : (page : GuestPage) (h : Held)
       → (page_in_tree v (tree_by v.by_node h.row.home) h.row.bytes ≡ None)
@@ -45,13 +42,13 @@ module _ (v : RowsView) (found : AreInTree v) where
       → IsFree (altered other out_of_tree v) page h
   free_but page other h is =
       let tree = tree_by v.by_node h.row.home in
-      All-map (IsOther page h) _ v.held (λ k d lt apart.
+      All-map (λ g. holds page g ≡ false → has_content v.by_node tree h.row.bytes g ≡ false) _ v.held (λ k d lt apart.
       let g = get_or v.held k d in
       grind (arith, each_led tree h.row.bytes k d lt, is, same_page_refl g.row.page))
 
 module _ (knobs : Knobs) (v : RowsView) (rise : InPageOrder (rows_of v.held))
     (by : v.by_node ≡ not (knobs.merge_across_nodes == 1))
-    (led : All (λ h. waiting_state h.row.state ≡ true → is_in h.in_tree ≡ true) v.held) (found : AreInTree v) (row : Row) where
+    (led : AreWaitersLed v.held) (found : AreInTree v) (row : Row) where
   abbrev rows : List Row
   rows = rows_of v.held
 

@@ -2,7 +2,7 @@
 use Rattle.ksm_pages.proofs.Names.{All, All-map, ap, arith, Bool, change_held, cond_both, DupsState, false, frame_of, get_or, GuestPage, Held, held_at, if◌then◌else◌, inl, inr, InTree, Inside, IsAlone, IsKnown, Knobs}
 use Rattle.ksm_pages.proofs.Names.{IsLeft, let_out, lies_on, List, lodgings_of, map, MatchOption, merged_state, None, not, Option, ordered_map, ordered_without, PagesValue, Private, private_state}
 use Rattle.ksm_pages.proofs.Names.{on_row, out_of_tree, refl, Row, row_at, rows_of, rows_out, RowsView, same_page, seen, settled, settled_state, shared_state, Some, sym, tied_dropped, tied_left, tied_mapped, tree_of, true, true≢false, waiting_state, without_held}
-use Rattle.ksm_pages.proofs.Names.{without_page, ℕ, [], ⊤, ◌∙◌, ◌∷◌, ◌==◌, ◌≡◌, ◌⊎◌, changed, relaid, length-map, InPageOrder, AreTied, AreAlone, All-filter}
+use Rattle.ksm_pages.proofs.Names.{rules, without_page, ℕ, [], ⊤, ◌∙◌, ◌∷◌, ◌==◌, ◌≡◌, ◌⊎◌, changed, relaid, length-map, InPageOrder, AreTied, AreAlone, All-filter}
 use Rattle.std.proofs.Math.ListN.{get_or-map}
 use Rattle.ksm_pages.specs.Paged.{HasRow}
 use Rattle.ksm_tree.specs.Dups.{rows_of as dup_rows}
@@ -12,7 +12,7 @@ use Rattle.ksm_pages.proofs.Joined.{let_out_alone}
 use Rattle.ksm_pages.proofs.Lodgings.{lodged_gone, seat}
 use Rattle.ksm_pages.proofs.Leaving.{alone_found, AreLawful, Become, Comes, comes, held_as, IsLoneIn, known_there, lies, of_dup, of_page, row_seen, row_there, stays_there, turned_so, view_of}
 use Rattle.ksm_pages.proofs.Lone.{IsLone}
-use Rattle.ksm_pages.proofs.Resting.{idle_settled, lies_alike, settled_again}
+use Rattle.ksm_pages.proofs.Resting.{idle_settled, settled_again}
 
 -- ---------------------------------------------------------------- a page that leaves what it is in
 
@@ -132,7 +132,7 @@ module _ (s : Inside) (are : AreLawful s) {p : PagesValue} (seen_as : view_of s 
       (All-map (IsLoneIn s) F s.rows.held (λ k d lt. keeps _ (are.alone k d lt)))
       (ap frame_of (map_mapped _ F _ s.rows.held (λ k d lt.
       let h = get_or s.rows.held k d in
-      grind (arith, is h, framed h, pages h.row, lies_alike (of_dup s) (f h.row).state h.row.state h.frame (like h.row))))))
+      grind (arith, is h, framed h, pages h.row, like h.row)))))
 
   -- where a row changes, but for its page and state, only that row is seen changed
   pub stays : (page : GuestPage) (g : Row → Row) → ((r : Row) → (g r).page ≡ r.page) → ((r : Row) → (g r).state ≡ r.state)
@@ -173,15 +173,7 @@ module _ (s : Inside) (are : AreLawful s) (knobs : Knobs) {by_node : Bool} (is :
   kept_as : (now : RowsView) → InPageOrder (rows_of now.held) → AreTied (rows_of now.held) s.dups.dups
       → now.by_node ≡ not (knobs.merge_across_nodes == 1) → AreAlone knobs now.held (dup_rows s.dups.dups)
       → AreLawful (record s { rows = now; knobs = knobs })
-  kept_as now order tied by alone = record {
-    small = are.small;
-    order = order;
-    tied = tied;
-    places = are.places;
-    by_node = by;
-    alone = alone;
-    room = are.room;
-  }
+  kept_as now order tied by alone = search rules
 
   tuned_same : by_node ≡ s.rows.by_node → rows ≡ s.rows → Tuned
   tuned_same by same = rw same (

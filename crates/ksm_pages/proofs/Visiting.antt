@@ -1,6 +1,7 @@
 -- What a visit finds of a row that it may change, and the pages once the row waits.
+use Rattle.ksm_pages.specs.Held.{AreWaitersLed}
 use Rattle.ksm_pages.proofs.Names.{All, All-map, all_rows, all_zero, altered, ap, AreInTree, AreTied, arith, Best, best_dup, best_found, best_of, Bool, change_held, change_row, changed, Dup, DupRow, DupsState, Entry, false, Find}
-use Rattle.ksm_pages.proofs.Names.{Finds, FindsAt, find, find_all, find_nothing, find_passes, found_at, get_or, GuestPage, has_content, Held, held_at, held_of, holds, in_group, in_tree_by, inl, inr, Inside, is_in, IsFree, is_for_zero, IsAlone, if◌then◌else◌, List, MatchOption, None, not}
+use Rattle.ksm_pages.proofs.Names.{Finds, FindsAt, find, find_all, find_nothing, find_passes, found_at, get_or, GuestPage, has_content, Held, held_at, held_of, holds, in_group, in_tree_by, inl, inr, Inside, IsFree, is_for_zero, IsAlone, if◌then◌else◌, List, MatchOption, None, not}
 use Rattle.ksm_pages.proofs.Names.{Option, option_and_then, option_map, out_of_tree, page_in_tree, PagesValue, PagesView, partner, Private, refl, Row, row_at, rows_of, RowsView, rules, same_page, same_page_eq, same_page_refl, seen, shared_state, Some, subst, sym}
 use Rattle.ksm_pages.proofs.Names.{tied_counted, tied_left, tree_by, tree_of, true, true≢false, Waiting, waiting_in, waiting_state, ℕ, ◌&&◌, ◌==◌, ◌∙◌, ◌≡◌, ◌⊎◌}
 use Rattle.ksm_tree.specs.Dups.{rows_of as dup_rows}
@@ -24,10 +25,6 @@ module _ (s : Inside) {later : DupsState} (kept : later ≡ record s.dups { numb
   -- groups that got other numbers leave the pages lawful
   pub lawful_numbered : AreLawful s → AreLawful (record s { dups = later })
   lawful_numbered are = search rules
-
-  -- groups that got other numbers leave what is seen of the pages as it was
-  pub seen_numbered : view_of (record s { dups = later }) ≡ view_of s
-  seen_numbered = grind arith
 
 -- ---------------------------------------------------------------- one row
 
@@ -251,7 +248,7 @@ told_waits None told is = absurd (true≢false (sym is ∙ told))
 told_waits (Some w) told is = (w, refl, sym told ∙ is)
 
 module _ {s : Inside} {p : PagesValue} {page : GuestPage} {e : Entry} (it : IsAsked s p page e)
-    (led : All (λ h. waiting_state h.row.state ≡ true → is_in h.in_tree ≡ true) s.rows.held) (found_by : AreInTree s.rows)
+    (led : AreWaitersLed s.rows.held) (found_by : AreInTree s.rows)
     {tree : ℕ} (in_tree : (r : Row) → r.home ≡ e.home → tree ≡ tree_of s.knobs r) where
   abbrev row_of : Row
   row_of = (held_of s.rows.pass e).row

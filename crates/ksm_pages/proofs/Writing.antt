@@ -1,6 +1,6 @@
 -- What each change of one row, found under its key, leaves: rows still, and what is seen of them.
 use Rattle.ksm_pages.proofs.Options.{none_mapped}
-use Rattle.ksm_pages.proofs.Names.{ap, AreListed, arith, Bool, CanMove, change_held, Entry, false, find, get, GuestPage, has_item, Held, held_at, held_in, held_of}
+use Rattle.ksm_pages.proofs.Names.{ap, AreListed, arith, Bool, CanMove, change_held, Entry, false, find, get, GuestPage, has_item, Held, held_at, held_in, held_of, holds}
 use Rattle.ksm_pages.proofs.Names.{held_under, IfSome, inl, inr, is_of, is_restless, is_some, IsAddedTo, IsInVain, IsMoved, IsRows, IsUnder, key_in, length}
 use Rattle.ksm_pages.proofs.Names.{length-map, List, Listing, marked, Named, named_of, nat_tests, None, option_map, pages_ordered, PageState, Private, refl, row_at, rows_of}
 use Rattle.ksm_pages.proofs.Names.{RowsView, rules, same_page_refl, same_Some, shared_state, Slab, Some, state_of, sym, Tally, true, true≢false, Updates-with_value, Waiting, with_held}
@@ -14,7 +14,9 @@ use Rattle.ksm_pages.specs.declared.rows.Rows.TheInside.{Inside}
 use Rattle.ksm_pages.proofs.Changing.{marked_same, row_told, rows_changed, rows_with, rows_without}
 use Rattle.ksm_pages.proofs.Filing.{all_filled, all_held, AreRows, view, view_of, filed_marked, filed_put, filed_taken, held_found, held_nowhere, named_under, one_key, put, rows_rise, taken, unmarked, written}
 use Rattle.ksm_pages.proofs.Led.{led_written}
-use Rattle.ksm_pages.proofs.Found.{absent_unchanged, write_rises}
+use Rattle.ksm_pages.proofs.Found.{write_rises}
+use Rattle.ksm_tree.proofs.Alike.{change_none}
+use Rattle.ksm_base.proofs.Edits.{find_none}
 use Rattle.ksm_order.proofs.Ordered.{absent_kept, with_rises, without_rises}
 use Rattle.ksm_pages.proofs.Tallying.{can_move, tally_changed, tally_gone, tally_put}
 
@@ -29,8 +31,7 @@ rests_now pass e counting own none = grind (arith, nat_tests)
 -- a change of a page without a row leaves what is seen of the rows as it is
 pub nothing : (s : Inside) → AreRows s → (page : GuestPage) → None ≡ key_in s.order page → (f : Held → Held) {v : RowsView} → view_of s ≡ v → v ≡ altered page f v
 nothing s are page told f is =
-    let absent = held_nowhere s.entries s.order are.ascending are.filed s.pass page (sym told) in
-    let same = absent_unchanged (λ (h : Held). h.row.page) page f absent in
+    let same = change_none (holds page) f (all_held s) (find_none (holds page) (all_held s) (held_nowhere s are page told)) in
     grind (arith, same)
 
 module _ (s : Inside) (are : AreRows s) where
@@ -151,9 +152,7 @@ module _ (s : Inside) (are : AreRows s) where
 -- where a page has no row, the rows without that page are seen as before
 pub nothing_gone : (s : Inside) → AreRows s → (page : GuestPage) → None ≡ key_in s.order page → {v : RowsView} → view_of s ≡ v → v ≡ record v { held = without_held page v.held }
 nothing_gone s are page told is =
-    let absent = held_nowhere s.entries s.order are.ascending are.filed s.pass page (sym told) in
-    let same = absent_kept pages_ordered (λ (h : Held). h.row.page) page _ absent in
-    grind (arith, same)
+    let same = absent_kept pages_ordered (λ (h : Held). h.row.page) page _ (held_nowhere s are page told) in grind (arith, same)
 
 -- a page that is seen without a row has no name in the order
 pub no_name : (s : Inside) → AreRows s → (page : GuestPage) {v : RowsView} → view_of s ≡ v → held_at page v.held ≡ None → find (is_of page) s.order ≡ None

@@ -6,7 +6,7 @@ use Rattle.ksm_base.specs.declared.row.PageState.{PageState}
 use Rattle.ksm_base.specs.declared.row.PageState.TheVariants.{Private, Waiting, Merged, Zero}
 use Rattle.ksm_base.specs.declared.row.Row.{Row}
 use Rattle.ksm_base.specs.Apply.{stored}
-use Rattle.ksm_base.specs.Rows.{comes_before, same_page, settled}
+use Rattle.ksm_base.specs.Rows.{comes_before, same_page, settled, waiting_state}
 use Rattle.ksm_order.specs.Places.{AreInOrder as AreKeysInOrder}
 use Rattle.ksm_rmap.specs.Items.{has_item}
 use Rattle.ksm_pages.specs.declared.row.InTree.{InTree}
@@ -209,6 +209,10 @@ page_in_tree v tree bytes = option_map (λ h. h.row.page) (find (has_content v.b
 abbrev pub AreInTree : RowsView → Type 0
 AreInTree v = All (λ h. is_in h.in_tree ≡ true
     → page_in_tree v (tree_by v.by_node h.row.home) h.row.bytes ≡ Some h.row.page) v.held
+
+-- the unstable tree leads to each row that waits
+abbrev pub AreWaitersLed : List Held → Type 0
+AreWaitersLed held = All (λ h. waiting_state h.row.state ≡ true → is_in h.in_tree ≡ true) held
 
 -- the unstable tree leads to no other row with the tree and bytes of a page's row
 abbrev pub IsFree : RowsView → GuestPage → Held → Type 0

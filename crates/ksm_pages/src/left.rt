@@ -32,7 +32,7 @@ pub fn frame_of(dups: &Dups, frames: &[u32], entry: &Entry, pass: u64) -> Option
 }
 
 /// Takes the page of a spot out of its dup, if it is merged. Gives the frame on which it lay, if it did on one.
-#[tactic(auto, using(crate::proofs::Paging::kept_at_place, crate::proofs::Paging::place_numbered))]
+#[tactic(auto, using(crate::proofs::Paging::place_numbered))]
 #[inline(always)]
 pub fn leave(dups: &mut Dups, frames: &[u32], rows: &Rows, spot: Spot) -> Option<u32>
     ensures { MatchOption (held_at spot.page rows.now.held) ⊤ (IsLeft frames.now dups.old dups.new result) }

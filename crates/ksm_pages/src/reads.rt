@@ -1,4 +1,5 @@
 //! What is read of pages: where they lie, what they hold, which comes next, and how many there are of each kind.
+#![tactic(auto, using(crate::proofs::Leaving::row_seen))]
 
 ghost use Rattle.std.specs.Prelude.{◌≡◌, ◌≤◌, ◌==◌, true, false, None, Some, All, find, is_some, length, option_map};
 ghost use Rattle.std.specs.Prelude.{option_and_then, MatchOption, IfSome};
@@ -61,7 +62,7 @@ fn least_next(guest: Option<u16>, cursor: Option<GuestPage>) -> Option<GuestPage
 
 impl Pages {
     /// Whether a page has a row.
-    #[tactic(auto, using(crate::proofs::Options::both_full, crate::proofs::Options::some_mapped, crate::proofs::Changing::row_found))]
+    #[tactic(auto, using(crate::proofs::Options::some_mapped, crate::proofs::Changing::row_found))]
     pub fn has(&self, page: GuestPage) -> bool
         ensures { result ≡ is_some (row_at page self.now.rows) }
     {
@@ -91,7 +92,6 @@ impl Pages {
     }
 
     /// Whether a page waits.
-    #[tactic(auto, using(crate::proofs::Leaving::row_seen))]
     #[inline(always)]
     pub fn waits(&self, spot: Spot) -> bool
         ensures { MatchOption (row_at spot.page self.now.rows) (result ≡ false) (λ r. result ≡ waiting_state r.state) }

@@ -4,6 +4,7 @@
 //! A key is told as a guess, or comes from a table of guesses by slots of pages (`slot.rt`). Where it is right no
 //! search is made; where it is wrong the page is searched for in the order. `settle_all` writes no row. `unshare_all`
 //! and `set_by_node` walk over all.
+#![tactic(auto, using(crate::proofs::Writing::nothing, crate::proofs::Writing::own_there))]
 
 ghost use Rattle.std.specs.Prelude.{◌≡◌, ◌⊎◌, ◌≤◌, ◌<◌, ◌^◌, true, false, [], None, Some, All, IfErr, IfOk, IfSome};
 ghost use Rattle.std.specs.Prelude.{MatchOption, OnErr, OnOk, ◌==◌, count_by, filter, find, if◌then◌else◌, is_some};
@@ -17,7 +18,7 @@ ghost use Rattle.ksm_base.specs.Rows.{InPageOrder, settled, shared_state, waitin
 ghost use Rattle.ksm_base.specs.Visit.{after_cursor};
 ghost use Rattle.ksm_pages.specs.Ahead.{EndsAt, FindsNext, last_of, mergeable_pages, pages_behind, pages_between};
 ghost use Rattle.ksm_pages.specs.Filed.{AreFiled, AreListed, IsMade, IsTally, IsUnder, KeepsPage, key_in};
-ghost use Rattle.ksm_pages.specs.Held.{AreInTree, IsFree, altered, held_at, held_of, is_in, on_row, out_of_tree};
+ghost use Rattle.ksm_pages.specs.Held.{AreInTree, AreWaitersLed, IsFree, altered, held_at, held_of, is_in, on_row, out_of_tree};
 ghost use Rattle.ksm_pages.specs.Held.{in_tree_by, page_in_tree, rows_of, copied, shares, waiting_in, with_held, without_held, written};
 ghost use Rattle.ksm_pages.specs.Ordered.{AreAscending};
 ghost use Rattle.ksm_pages.specs.Unstable.{AreLed, IsFreeAt, LeadsAt};
@@ -180,7 +181,7 @@ impl Rows {
     pub fn are_lawful(&self)
         ensures rise { InPageOrder (rows_of self.now.held) }
         ensures framed { All (λ h. is_some h.frame ≡ not (shared_state h.row.state)) self.now.held }
-        ensures led { All (λ h. waiting_state h.row.state ≡ true → is_in h.in_tree ≡ true) self.now.held }
+        ensures led { AreWaitersLed self.now.held }
         ensures found { AreInTree self.now }
     {
         // A law is told of the fields where one of them is read.

@@ -1,6 +1,6 @@
-use Rattle.ksm_pages.proofs.Names.{ap, arith, false, nat_tests, None, same_Some, sym, true, ◌∙◌, ◌≡◌, refl}
+use Rattle.ksm_pages.proofs.Names.{ap, arith, false, nat_tests, same_Some, sym, true, ◌∙◌, ◌≡◌, refl}
 use Rattle.std.proofs.lemmas.Result.{on_ok_weaker}
-use Rattle.ksm_pages.specs.Held.{is_in, tree_by}
+use Rattle.ksm_pages.specs.Held.{is_in}
 use Rattle.ksm_pages.specs.Unstable.{holder, Keeps}
 use Rattle.ksm_pages.proofs.Led.{led_entered, led_kept, led_written}
 use Rattle.ksm_pages.proofs.rows.lead_to.Goals as goal
@@ -19,14 +19,10 @@ out c = grind (arith, c.is_in.ensures, c.if-is_in.false)
 number_is : (c : After-lead) → c.unwrap_or-number.result ≡ c.args.key
 number_is c = grind (arith, nat_tests, c.try_from.ensures, c.unwrap_or-number.ensures, c.if-number-ge-GONE.false)
 
--- the tree led to no row from the entry's content
-none : (c : After-lead) → holder c.args.by_node c.args.entries.now c.args.unstable.now (tree_by c.args.by_node c.index-entry.result.now.home)
-    c.index-entry.result.now.bytes ≡ None
-none c = c.requires.free c.index-entry.result.now c.index-entry.ensures (out c)
-
 kept : (c : After-lead) → Keeps c.args.by_node c.args.entries.now c.args.unstable.now c.lead.new.self
 kept c = c.lead.ensures.kept c.args.by_node
-    (ap (λ t. holder c.args.by_node c.args.entries.now c.args.unstable.now t c.index-entry.result.now.bytes) c.tree_by-tree.ensures ∙ none c)
+    (ap (λ t. holder c.args.by_node c.args.entries.now c.args.unstable.now t c.index-entry.result.now.bytes) c.tree_by-tree.ensures
+    ∙ c.requires.free _ c.index-entry.ensures (out c))
 
 pub returns-clause-leads : goal.returns-clause-leads
 returns-clause-leads c =

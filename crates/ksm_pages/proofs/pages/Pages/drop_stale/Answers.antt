@@ -11,15 +11,7 @@ drop_stale-requires c =
     search (rules, stale_there (rows_of c.self.inside.rows.held) _ c.self.invariant.tied (subst (λ (v : PagesValue). IsVacant c.args.place v.rows v.dups) (sym c.self.view_is) c.requires))
 
 pub invariant_of-self : goal.invariant_of-self
-invariant_of-self c = rw c.drop_stale.ensures (record {
-  small = c.self.invariant.small;
-  order = c.self.invariant.order;
-  tied = tied_pruned (rows_of c.self.inside.rows.held) c.self.inside.dups.dups c.args.place c.self.invariant.tied;
-  places = c.self.invariant.places;
-  by_node = c.self.invariant.by_node;
-  alone = lone_dropped c.self.inside.knobs c.self.inside.rows.held c.args.place c.self.inside.dups.dups c.self.invariant.alone;
-  room = c.self.invariant.room;
-})
+invariant_of-self c = rw c.drop_stale.ensures (search (rules, tied_pruned, lone_dropped))
 
 pub returns-then-is_some : goal.returns-then-is_some
 returns-then-is_some c =

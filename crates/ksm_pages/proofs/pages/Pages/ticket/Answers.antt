@@ -1,11 +1,7 @@
 use Rattle.ksm_pages.proofs.Names.{arith, refl, ◌∙◌}
 use Rattle.ksm_pages.proofs.Asked.{ticket_told}
-use Rattle.ksm_pages.proofs.Leaving.{row_seen}
 use Rattle.ksm_pages.proofs.Paging.{place_numbered}
 use Rattle.ksm_pages.proofs.pages.Pages.ticket.Goals as goal
-
-pub returns-in_err-entry : goal.returns-in_err-entry
-returns-in_err-entry c = grind (arith, row_seen)
 
 pub returns-in-Merged : goal.returns-in-Merged
 returns-in-Merged c =

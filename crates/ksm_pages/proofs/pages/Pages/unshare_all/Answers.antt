@@ -1,4 +1,4 @@
-use Rattle.ksm_pages.proofs.Resting.{rests, settled_again}
+use Rattle.ksm_pages.proofs.Resting.{settled_again}
 use Rattle.ksm_tree.proofs.Alike.{map_alike}
 use Rattle.ksm_pages.proofs.Names.{ap, arith, false, map, on_row, refl, Row, seen, settled, ◌∙◌}
 use Rattle.ksm_pages.proofs.Leaving.{Comes, held_as}
@@ -19,4 +19,4 @@ pub invariant_of-self : goal.invariant_of-self
 invariant_of-self c = (came c).lawful
 
 pub returns : goal.returns
-returns c = (came c).told_as ∙ ap (λ rows. record (seen c.args.self.now) { rows = rows }) (grind (arith, map_alike, rests))
+returns c = (came c).told_as ∙ ap (λ rows. record (seen c.args.self.now) { rows = rows }) (grind (arith, map_alike))

@@ -1,4 +1,4 @@
-use Rattle.ksm_pages.proofs.Names.{ap, arith, changed, false, held_of, inl, inr, Private, refl, Row, rules, same_page, same_page_eq, seen, settled, Some, sym, true, ◌∙◌, ◌≡◌}
+use Rattle.ksm_pages.proofs.Names.{ap, arith, changed, held_of, inl, inr, Private, refl, Row, rules, same_page_eq, seen, settled, Some, sym, true, ◌∙◌, ◌≡◌}
 use Rattle.ksm_tree.proofs.Numbers.{on_err}
 use Rattle.ksm_pages.proofs.Leaving.{Comes, held_as, row_seen, view_of}
 use Rattle.ksm_pages.proofs.Turning.{own_left, rested}
@@ -57,11 +57,10 @@ returns-then-is_for_zero-clause-found c =
 pub returns-then-waits-clause-found : goal.returns-then-waits-clause-found
 returns-then-waits-clause-found c =
     let it = asked c.self.inside c.self.invariant c.self.view_is c.in-Some.entry.now c.in-Some.ensures (grind arith) in
-    let apart : same_page c.in-Some-in_tree.other.page c.args.spot.page ≡ false = grind arith in
     rw c.group_with_best-group.ensures.kept
     (finds_partner it (none_told it c.tree_in-tree.ensures c.group_with_best-group.ensures.best c.in_default-best.is) c.if-not-entry.false
     (sym c.is_for_zero.ensures ∙ c.if-is_for_zero.false) c.in-Some-in_tree.other.page
-    (met it c.are_lawful.ensures.led c.are_lawful.ensures.found c.tree_in-tree.ensures (sym c.in-Some-in_tree.ensures) apart c.waits.ensures c.if-waits.true))
+    (met it c.are_lawful.ensures.led c.are_lawful.ensures.found c.tree_in-tree.ensures (sym c.in-Some-in_tree.ensures) (grind arith) c.waits.ensures c.if-waits.true))
 
 -- the row may enter the tree
 way : (c : After-enter-arg-1)
@@ -75,10 +74,9 @@ way c =
     let may = enters it c.are_lawful.ensures.led c.are_lawful.ensures.found c.tree_in-tree.ensures none not_zero c.group_with_best-group.result.0 c.group_with_best-group.ensures.none in
     elim c.match-in_tree.branch [
       | in-Some-in_tree+then-ne+else-waits w ↦
-          let apart : same_page w.in-Some-in_tree.other.page c.args.spot.page ≡ false = grind arith in
           rw (w.self-inside-is, kept_dups, w.leave_tree.ensures)
           (enters_for it c.are_lawful.ensures.led c.are_lawful.ensures.found c.tree_in-tree.ensures none not_zero c.group_with_best-group.result.0 c.group_with_best-group.ensures.none
-          (sym w.in-Some-in_tree.ensures) apart w.waits.ensures w.if-waits.false)
+          (sym w.in-Some-in_tree.ensures) (grind arith) w.waits.ensures w.if-waits.false)
       | in-Some-in_tree+else-ne w ↦
           let own : w.in-Some-in_tree.other.page ≡ c.args.spot.page =
           grind (arith, same_page_eq w.in-Some-in_tree.other.page c.args.spot.page, w.if-ne.ensures) in

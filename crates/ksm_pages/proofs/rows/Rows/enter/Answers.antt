@@ -1,15 +1,9 @@
 use Rattle.ksm_pages.proofs.Names.{ap, arith, Entry, inr, is_some, refl, rules, sym, Updates-with_value, with_value, ◌∙◌}
 use Rattle.ksm_pages.specs.Held.{in_tree_by, is_in, waiting_in}
 use Rattle.ksm_pages.proofs.Led.{free_none, led_by_group}
-use Rattle.ksm_pages.proofs.Writing.{can_be, kept_mark, nothing, of_page, own_there, row_there, still, viewed, waits_now}
+use Rattle.ksm_pages.proofs.Writing.{can_be, kept_mark, of_page, own_there, row_there, still, viewed, waits_now}
 use Rattle.ksm_pages.proofs.rows.Rows.enter.Goals as goal
 use Rattle.ksm_pages.proofs.rows.Rows.enter.Goals.{After-change}
-
-pub returns-in_default-clause-waits : goal.returns-in_default-clause-waits
-returns-in_default-clause-waits c = search (rules, nothing)
-
-pub state_alone-old-requires : goal.state_alone-old-requires
-state_alone-old-requires c = search (rules, own_there)
 
 pub change-requires : goal.change-requires
 change-requires c = search (rules, can_be c.self.inside c.self.invariant.0 c.in-Some.ensures.there)

@@ -1,5 +1,5 @@
 use Rattle.ksm_pages.proofs.Names.{arith, sym}
-use Rattle.ksm_pages.proofs.Led.{holder_stands, none_found, page_found, stands_some}
+use Rattle.ksm_pages.proofs.Led.{holder_stands, none_found, page_found}
 use Rattle.ksm_pages.proofs.rows.Rows.in_tree.Goals as goal
 
 pub returns-in_err-key : goal.returns-in_err-key
@@ -10,8 +10,7 @@ returns-in_err-key c =
 pub index-requires : goal.index-requires
 index-requires c =
     let s = c.self.inside in
-    stands_some s.by_node s.entries c.args.tree c.args.bytes.now c.in_ok-key.field-0
-    (holder_stands s.by_node s.entries s.unstable c.args.tree c.args.bytes.now (sym c.in_ok-key.ensures))
+    grind (arith, holder_stands s.by_node s.entries s.unstable c.args.tree c.args.bytes.now (sym c.in_ok-key.ensures))
 
 pub returns : goal.returns
 returns c =

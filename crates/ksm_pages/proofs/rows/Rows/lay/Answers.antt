@@ -1,9 +1,6 @@
 use Rattle.ksm_pages.proofs.Names.{arith, inr, refl, rules}
-use Rattle.ksm_pages.proofs.Writing.{kept_mark, led_so, nothing, own_there, still, viewed}
+use Rattle.ksm_pages.proofs.Writing.{kept_mark, led_so, own_there, still, viewed}
 use Rattle.ksm_pages.proofs.rows.Rows.lay.Goals as goal
-
-pub returns-in_default : goal.returns-in_default
-returns-in_default c = search (rules, nothing)
 
 pub invariant_of-self : goal.invariant_of-self
 invariant_of-self c =

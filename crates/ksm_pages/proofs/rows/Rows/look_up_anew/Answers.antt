@@ -7,7 +7,7 @@ pub index-requires : goal.index-requires
 index-requires c = ap is_some (under c.self.inside.entries _ c.self.invariant.0.filed (sym c.in_ok-key.ensures)).stands
 
 pub returns-in_err-key : goal.returns-in_err-key
-returns-in_err-key c = search (rules, held_nowhere)
+returns-in_err-key c = search (rules, held_nowhere c.self.inside c.self.invariant.0)
 
 pub returns : goal.returns
 returns c =

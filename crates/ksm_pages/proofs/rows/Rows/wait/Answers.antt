@@ -1,13 +1,7 @@
 use Rattle.ksm_pages.proofs.Names.{arith, Entry, inr, refl, rules, sym}
-use Rattle.ksm_pages.proofs.Writing.{can_be, kept_mark, led_so, led_there, nothing, own_there, still, viewed, waits_now}
+use Rattle.ksm_pages.proofs.Writing.{can_be, kept_mark, led_so, led_there, own_there, still, viewed, waits_now}
 use Rattle.ksm_pages.proofs.rows.Rows.wait.Goals as goal
 use Rattle.ksm_pages.proofs.rows.Rows.wait.Goals.{After-change}
-
-pub returns-in_default : goal.returns-in_default
-returns-in_default c = search (rules, nothing)
-
-pub state_alone-old-requires : goal.state_alone-old-requires
-state_alone-old-requires c = search (rules, own_there)
 
 pub change-requires : goal.change-requires
 change-requires c = search (rules, can_be c.self.inside c.self.invariant.0 c.in-Some.ensures.there)

@@ -11,7 +11,7 @@ use Rattle.ksm_pages.proofs.unstable.UnstableTree.forget.Goals.{in-Some+in_defau
 pub returns-in-Some-index_in : goal.returns-in-Some-index_in
 returns-in-Some-index_in c by_node =
     put_keeps c.args.self.now c.place_of-at.result c.in-Some.keys.now c.in-Some-index_in.here GONE
-    (slice_get_read _ _ _ _ c.args.self.now.places.ok.0 (search rules) c.in-Some.ensures.value)
+    (search (rules, slice_get_read))
     c.args.entries.now refl (grind arith) (grind arith) by_node
 
 -- where the key does not stand in the place, the tree is as it was
@@ -19,7 +19,7 @@ same : (c : goal.After-forget_beside) → IsAs c.match-get_mut.self c.args.self.
 same c = elim c.match-get_mut.branch [
   | in-Some+in_default-index_in w ↦
       untouched c.match-get_mut.self c.args.self.now c.place_of-at.result w.in-Some.keys.now w.self-is
-      (slice_get_read _ _ _ _ c.args.self.now.places.ok.0 (search rules) w.in-Some.ensures.value)
+      (search (rules, slice_get_read))
   | in_default w ↦ same_tree c.match-get_mut.self c.args.self.now w.self-is
 ]
 

@@ -14,13 +14,13 @@ use Rattle.ksm_pages.proofs.unstable.UnstableTree.lead.Goals.{in-Some+in_default
 pub returns-in-Some-free_in-clause-leads : goal.returns-in-Some-free_in-clause-leads
 returns-in-Some-free_in-clause-leads c =
     put_leads c.args.self.now c.place_of-at.result c.in-Some.keys.now c.in-Some-free_in.free c.args.key
-    (slice_get_read _ _ _ _ c.args.self.now.places.ok.0 (search rules) c.in-Some.ensures.value)
+    (search (rules, slice_get_read))
     c.args.entries.now c.args.tree c.args.bytes.now (search rules) (search rules)
 
 pub returns-in-Some-free_in-clause-kept : goal.returns-in-Some-free_in-clause-kept
 returns-in-Some-free_in-clause-kept c =
     (λ by_node _. put_keeps c.args.self.now c.place_of-at.result c.in-Some.keys.now c.in-Some-free_in.free c.args.key
-    (slice_get_read _ _ _ _ c.args.self.now.places.ok.0 (search rules) c.in-Some.ensures.value)
+    (search (rules, slice_get_read))
     c.args.entries.now (grind arith) (search rules) (search rules) by_node)
 
 -- where no key of the place is another, the tree is as it was
@@ -28,7 +28,7 @@ same : (c : goal.After-lead_beside) → IsAs c.match-get_mut.self c.args.self.no
 same c = elim c.match-get_mut.branch [
   | in-Some+in_default-free_in w ↦
       untouched c.match-get_mut.self c.args.self.now c.place_of-at.result w.in-Some.keys.now w.self-is
-      (slice_get_read _ _ _ _ c.args.self.now.places.ok.0 (search rules) w.in-Some.ensures.value)
+      (search (rules, slice_get_read))
   | in_default w ↦ same_tree c.match-get_mut.self c.args.self.now w.self-is
 ]
 
