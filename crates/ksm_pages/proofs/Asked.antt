@@ -1,13 +1,12 @@
 -- What is asked of the pages: the place of a page's dup, and the first page after a cursor.
-use Rattle.ksm_pages.proofs.Names.{after_cursor, ap, arith, Bool, comes_before, each_at_page, Entry, false, filter_passes, find, find-append, find_all, find_none, find_nothing, find_passes, get_or}
-use Rattle.ksm_pages.proofs.Names.{GuestPage, held_at, held_of, InPageOrder, Inside, is_next, IsHeld, Kind, List, None, none-some, of_guest, Option, option_map, pages_ordered, PagesValue, place_of}
-use Rattle.ksm_pages.proofs.Names.{Row, row_at, rows_of, same_page_eq, seen, Some, state_of, sym, true, ℕ, ◌∙◌, ◌≡◌, ◌≤◌}
+use Rattle.ksm_pages.proofs.Names.{after_cursor, ap, arith, Bool, comes_before, dup_rows, each_at_page, Entry, false, filter_passes, find, find-append, find_all, find_none, find_nothing, find_passes}
+use Rattle.ksm_pages.proofs.Names.{get_or, GuestPage, held_at, held_of, InPageOrder, Inside, is_next, IsHeld, Kind, List, None, none-some, of_guest, Option, option_map, pages_ordered, PagesValue}
+use Rattle.ksm_pages.proofs.Names.{place_of, Row, row_at, rows_of, same_page_eq, seen, Some, state_of, sym, true, ℕ, ◌∙◌, ◌≡◌, ◌≤◌}
 use Rattle.ksm_pages.proofs.Options.{mapped_some, none_mapped}
 use Rattle.ksm_pages.proofs.Found.{find_narrower, first_found}
 use Rattle.std.proofs.lemmas.Bool.{false_from_ne_true}
 use Rattle.ksm_order.proofs.Ordered.{found_parts}
 use Rattle.std.specs.Prelude.{IfSome, MatchOption, option_and_then}
-use Rattle.ksm_tree.specs.Dups.{rows_of as dup_rows}
 use Rattle.ksm_pages.specs.declared.pages.Held.{Held as Told}
 use Rattle.ksm_pages.proofs.Leaving.{AreLawful, row_seen, view_of}
 

@@ -1,8 +1,8 @@
--- The rows of what is held, once that of one page came, went or changed.
-use Rattle.ksm_pages.proofs.Names.{arith, Bool, change_held, change_row, Entry, GuestPage, Held, held_at, held_in, List, map-append, marked, Named, None, Option, option_map, refl, Row}
-use Rattle.ksm_pages.proofs.Names.{row_at, rows_of, rules, Slab, with_held, with_row, without_held, without_page, ℕ, [], ◌∷◌, ◌≡◌}
+-- The rows of what is held, once that of one page came, went or changed; and rows that wait no more.
+use Rattle.ksm_pages.proofs.Names.{[], arith, Bool, change_held, change_row, Entry, false, filter_mapped, find_mapped, GuestPage, Held, held_at, held_in, List, map-append, map_mapped, marked, Named}
+use Rattle.ksm_pages.proofs.Names.{None, Option, option_map, PageState, refl, Row, row_at, rows_of, rules, settled, settled_state, Slab, waiting_state, with_held, with_row, without_held, without_page}
+use Rattle.ksm_pages.proofs.Names.{ℕ, ◌∷◌, ◌≡◌}
 use Rattle.ksm_pages.proofs.Options.{none_mapped}
-use Rattle.ksm_tree.proofs.Alike.{filter_mapped, find_mapped, map_mapped}
 
 -- where a change of what is held changes its row by g, the rows have g at the row of the page
 pub rows_changed : (page : GuestPage) (f : Held → Held) (g : Row → Row) (held : List Held) → ((h : Held) → (f h).row ≡ g h.row) → rows_of (change_held page f held) ≡ change_row page g (rows_of held)
@@ -32,3 +32,14 @@ rows_with h held = search (rules, map-append, filter_mapped)
 -- whether the order says that a scan visits a page makes no difference to what is held
 pub marked_same : (pass : ℕ) (slab : Slab Entry) (page : GuestPage) (m : Bool) (order : List Named) → held_in pass slab (marked page m order) ≡ held_in pass slab order
 marked_same pass slab page m order = grind (arith, map_mapped)
+
+-- a state that is settled twice is the state settled once
+pub settled_again : (state : PageState) → settled_state (settled_state state) ≡ settled_state state
+settled_again state = grind arith
+
+-- a row that does not wait is settled
+pub idle_settled : (r : Row) → waiting_state r.state ≡ false → settled r ≡ r
+idle_settled r idle = λ i. record r { state = same r.state idle i }
+  where
+    same : (state : PageState) → waiting_state state ≡ false → settled_state state ≡ state
+    same state is = grind arith

@@ -1,15 +1,16 @@
--- The pages once the stale dup at a place went.
-use Rattle.ksm_pages.proofs.Names.{All, All-filter, all_rows, ap, AreAlone, AreTied, arith, Bool, Dup, dup_at, dup_numbered, DupRow, elsewhere, eq-eqb, eqb-true, false, filter, filter_all, find}
-use Rattle.ksm_pages.proofs.Names.{find_all, find_none, find_nothing, find_passes, frame_of, get_or, GuestPage, Held, in_group, is_live, is_some, is_stale, IsVacant, item_count, Knobs, length, List}
-use Rattle.ksm_pages.proofs.Names.{list_any, lodging, lodgings_of, Merged, merged_into, nat_tests, None, none_counted, not, Option, option_map, Row, row_at, rows_of, rows_without, Some}
-use Rattle.ksm_pages.proofs.Names.{stands_at, sym, tied_counted, tree_of, true, ℕ, ◌&&◌, ◌==◌, ◌∙◌, ◌≡◌}
-use Rattle.ksm_tree.specs.Dups.{rows_of as dup_rows, without_place}
-use Rattle.ksm_tree.proofs.Alike.{find_alike}
+-- The pages once the stale dup at a place went, or the items of a dup went to another frame.
+use Rattle.ksm_pages.proofs.Names.{[], All, All-filter, All-head, All-tail, all_rows, ap, AreAlone, AreTied, arith, Bool, Dup, dup_at, dup_numbered, dup_rows, DupRow, each_has_number, elsewhere}
+use Rattle.ksm_pages.proofs.Names.{eq-eqb, eqb-true, false, filter, filter_all, find, find_alike, find_all, find_none, find_nothing, find_passes, frame_of, get_or, GuestPage, Held, held_at}
+use Rattle.ksm_pages.proofs.Names.{if◌then◌else◌, in_group, InPlaceOrder, is_item, is_live, is_some, is_stale, IsVacant, item_count, items_on, Knobs, length, List, list_any, lodging, lodgings_of}
+use Rattle.ksm_pages.proofs.Names.{Merged, merged_into, nat_tests, None, none_counted, not, one_of_each_place, Option, option_and_then, option_map, refl, Row, row_at, rows_of, rows_without, set}
+use Rattle.ksm_pages.proofs.Names.{slice_get, Some, stands_at, sym, tied_counted, tree_of, true, ℕ, ◌&&◌, ◌<◌, ◌==◌, ◌∙◌, ◌∷◌, ◌≡◌}
+use Rattle.ksm_tree.specs.Dups.{without_place}
 use Rattle.ksm_pages.proofs.Changing.{row_found}
 use Rattle.ksm_pages.proofs.Found.{find_kept}
 use Rattle.ksm_pages.proofs.Lodgings.{frame_by, seat}
 use Rattle.ksm_pages.proofs.Options.{some_mapped}
 use Rattle.ksm_order.proofs.Ordered.{none_found}
+use Rattle.ksm_pages.proofs.Leading.{get_set}
 
 vacant_stale : {place : ℕ} (rows : List Row) (dups : List Dup) → AreTied rows dups → IsVacant place rows (dup_rows dups)
     → All (λ d. stands_at place d ≡ true → is_stale d ≡ true) dups
@@ -72,3 +73,54 @@ lone_dropped knobs held place dups are k d lt is =
     let h = get_or held k d in
     rw (rows_without place dups)
     (All-filter (elsewhere place) (λ (r : DupRow). in_group (tree_of knobs h.row) h.row.bytes r ≡ false) _ (are k d lt is))
+
+-- a dup that may be there, and stands elsewhere, keeps its frame where one is written at a place
+pub frame_away : (frames : List ℕ) (place frame : ℕ) (o : Option DupRow)
+    → ((e : DupRow) → o ≡ Some e → (e.place == place) ≡ false)
+    → option_and_then (λ d. slice_get (set frames place frame) d.place) o ≡ option_and_then (λ d. slice_get frames d.place) o
+frame_away frames place frame None away = refl
+frame_away frames place frame (Some e) away = grind (arith, nat_tests, get_set frames place e.place frame, away e)
+
+-- a place where a dup stands is below the bound of all places
+pub any_below : (place n : ℕ) (dups : List DupRow) → All (λ d. d.place < n) dups → list_any (λ d. d.place == place) dups ≡ true → place < n
+any_below place n [] below there = cc
+any_below place n (d ∷ dups) below there =
+    grind (arith, nat_tests, All-head (λ e. e.place < n) d _ below, any_below place n dups (All-tail (λ e. e.place < n) d dups below))
+
+module _ (dups : List DupRow) (rise : InPlaceOrder dups) (frames : List ℕ) (place frame : ℕ) (inside : place < length frames) where
+  abbrev of : ℕ → Option ℕ
+  of = lodging dups frames
+
+  abbrev of_now : ℕ → Option ℕ
+  of_now = lodging dups (set frames place frame)
+
+  module _ {d : DupRow} (at : d.place ≡ place) (found : dup_numbered d.number dups ≡ Some d)
+      (one : All (λ e. (e.place == d.place) ≡ true → e ≡ d) dups) where
+    moved : of_now d.number ≡ Some frame
+    moved = grind (arith, nat_tests, get_set frames place place frame)
+
+    stayed : (n : ℕ) → (n == d.number) ≡ false → of_now n ≡ of n
+    stayed n other = frame_away frames place frame _ (λ e is.
+        grind (
+          arith,
+          nat_tests,
+          other,
+          find_passes (λ x. x.number == n) dups e is,
+          find_all _ (λ x. (x.place == d.place) ≡ true → x ≡ d) dups e is one,
+        ))
+
+    -- a row merged into the dup lies on the new frame, and any other where it lay
+    seats : (o : Option Held) → seat of_now o ≡ (if is_item d.number (option_map (λ h. h.row) o) then Some frame else seat of o)
+    seats None = refl
+    seats (Some h) = grind (arith, eqb-true, moved, stayed)
+
+    lie_now : (held : List Held)
+        → frame_of (lodgings_of of_now held) ≡ items_on d.number frame (rows_of held) (frame_of (lodgings_of of held))
+    lie_now held = λ i page. (frame_by of_now held page ∙ seats (held_at page held)
+        ∙ (λ j. if is_item d.number (sym (row_found page held) j) then Some frame else sym (frame_by of held page) j)) i
+
+  -- the items of the dup at a place lie on the frame that is written there
+  pub items_moved : (held : List Held)
+      → All (λ d. d.place ≡ place
+      → frame_of (lodgings_of of_now held) ≡ items_on d.number frame (rows_of held) (frame_of (lodgings_of of held))) dups
+  items_moved held k e lt at = lie_now at (each_has_number _ rise k e lt) (one_of_each_place _ rise k e lt) _

@@ -1,9 +1,8 @@
 -- A walk along the order that lists the pages that a visit may change.
-use Rattle.ksm_pages.proofs.Names.{after_cursor, All, All-map, ap, AreAscending, AreFiled, AreListed, arith, before_irrefl, Bool, cases_Bool, comes_before, Entry, false, filter, find, find_all}
-use Rattle.ksm_pages.proofs.Names.{find_none, find_passes, get, GuestPage, has_item, held_of, IfSome, inl, InPageOrder, inr, is_of, is_restless, is_some, IsAddedTo, IsUnder, length}
-use Rattle.ksm_pages.proofs.Names.{List, Listing, Named, named_of, None, not, one_before, Option, option_map, Row, rows_of, same_page, same_page_eq, same_page_refl, same_Some, shared_state}
-use Rattle.ksm_pages.proofs.Names.{Slab, Some, Spot, subst, suc, sym, true, true≢false, ℕ, [], ◌<◌, ◌∙◌, ◌∷◌, ◌≡◌, ◌≤◌, ◌⊎◌}
-use Rattle.std.specs.Prelude.{IfNone}
+use Rattle.ksm_pages.proofs.Names.{[], after_cursor, All, All-map, ap, AreAscending, AreFiled, AreListed, arith, before_irrefl, Bool, cases_Bool, comes_before, Entry, false, filter, find, find_all}
+use Rattle.ksm_pages.proofs.Names.{find_none, find_passes, get, GuestPage, has_item, held_of, IfNone, IfSome, inl, InPageOrder, inr, is_of, is_restless, is_some, IsAddedTo, IsUnder, length, List}
+use Rattle.ksm_pages.proofs.Names.{Listing, Named, named_of, None, not, one_before, Option, option_map, Row, rows_of, same_page, same_page_eq, same_page_refl, same_Some, shared_state, Slab, Some}
+use Rattle.ksm_pages.proofs.Names.{Spot, subst, suc, sym, true, true≢false, ℕ, ◌<◌, ◌∙◌, ◌∷◌, ◌≡◌, ◌≤◌, ◌⊎◌}
 use Rattle.ksm_pages.specs.Ahead.{FindsNext}
 use Rattle.ksm_pages.specs.Paged.{is_restless as may_change}
 use Rattle.ksm_pages.proofs.Found.{first_found}

@@ -1,13 +1,12 @@
 -- The unstable tree: what a key that came to a place or went from it leaves of what is found.
-use Rattle.std.proofs.Common.{ap, ap₂, arith, Bool, drop, false, get_or, inl, inr, length, length-set}
-use Rattle.std.proofs.Common.{List, None, Option, refl, set, Some, suc, sym, true, zero, ℕ, [], ◌+◌, ◌<◌, ◌∙◌, ◌∷◌, ◌≡◌, ◌≢◌}
+use Rattle.std.proofs.Common.{[], ap, ap₂, arith, Bool, drop, false, get_or, inl, inr, length, length-set, List, None, Option, refl, set, Some, suc, sym, true, zero, ℕ, ◌+◌, ◌<◌, ◌∙◌, ◌∷◌, ◌≡◌, ◌≢◌}
 use Rattle.std.proofs.lemmas.Bool.{cases_Bool}
 use Rattle.std.proofs.lemmas.Bool.Decides.{nat_tests}
 use Rattle.std.proofs.lemmas.List.{drop_more, set-get_or}
 use Rattle.std.proofs.lemmas.List.Folds.{find_past}
 use Rattle.std.proofs.lemmas.Option.{get_or_from_slice_get, slice_get_within}
 use Rattle.std.specs.List.{list_any, slice_get}
-use Rattle.std.specs.Prelude.{bytes_eq, find, if◌then◌else◌, nat_lt, not, ◌&&◌, ◌*◌, ◌%◌, ◌==◌, ◌^◌}
+use Rattle.std.specs.Prelude.{bytes_eq, find, if◌then◌else◌, nat_lt, not, ◌%◌, ◌&&◌, ◌*◌, ◌==◌, ◌^◌}
 use Rattle.std.specs.Vec.{with_item}
 use Rattle.slab.specs.Slab.{Slab}
 use Rattle.ksm_tree.proofs.Names.{BTreeMap, bytes_eq-Decides, Updates}
@@ -15,7 +14,7 @@ use Rattle.ksm_tree.proofs.Numbering.{told_equal}
 use Rattle.ksm_tree.proofs.Rows.{eq_bytes}
 use Rattle.ksm_tree.specs.Numbered.{content_of, content_order, number_of}
 use Rattle.ksm_tree.specs.declared.content.Content.{Content}
-use Rattle.ksm_pages.specs.Unstable.{digest, found_or, holder, if_passes, in_place, is_led, keys_at, Keeps, LeadsTo, other_holder, place, stands_under, turned}
+use Rattle.ksm_pages.specs.Unstable.{digest, found_or, holder, if_passes, in_place, is_led, Keeps, keys_at, LeadsTo, other_holder, place, stands_under, turned}
 use Rattle.ksm_pages.specs.declared.row.Entry.{Entry}
 use Rattle.ksm_pages.specs.declared.unstable.TheConstants.{NO_KEY, SPREAD}
 use Rattle.ksm_pages.specs.declared.unstable.UnstableTree.{UnstableTree}

@@ -1,8 +1,7 @@
 -- The pages once the row of one page changed, or went: they are lawful still, and what is seen of them is changed so.
-use Rattle.ksm_pages.proofs.Names.{ap, AreAlone, AreKept, AreTied, arith, change_held, change_row, Dup, DupsState, false, find_passes, frame_of, Frames, GuestPage, Held, held_at, InPageOrder}
-use Rattle.ksm_pages.proofs.Names.{Inside, is_some, IsAlone, IsKnown, lies_on, List, lodging, lodgings_of, MatchOption, None, Option, option_map, ordered_change, PagesValue, PagesView, Row}
-use Rattle.ksm_pages.proofs.Names.{row_at, rows_of, RowsView, same_page_eq, seen, shared_state, Some, subst, sym, true, ℕ, ◌∙◌, ◌≡◌, relaid}
-use Rattle.ksm_tree.specs.Dups.{rows_of as dup_rows}
+use Rattle.ksm_pages.proofs.Names.{ap, AreAlone, AreKept, AreTied, arith, change_held, change_row, Dup, dup_rows, DupsState, false, find_passes, frame_of, Frames, GuestPage, Held, held_at}
+use Rattle.ksm_pages.proofs.Names.{InPageOrder, Inside, is_some, IsAlone, IsKnown, lies_on, List, lodging, lodgings_of, MatchOption, None, Option, option_map, ordered_change, PagesValue, PagesView}
+use Rattle.ksm_pages.proofs.Names.{relaid, Row, row_at, rows_of, RowsView, same_page_eq, seen, shared_state, Some, subst, sym, true, ℕ, ◌∙◌, ◌≡◌}
 use Rattle.ksm_pages.proofs.Changing.{row_told, rows_changed}
 use Rattle.ksm_pages.proofs.Lodgings.{changed_to, frame_by, lodged_changed, seat}
 use Rattle.ksm_pages.proofs.Lone.{IsLone, lone_changed}
@@ -106,10 +105,9 @@ module _ (s : Inside) (are : AreLawful s) (page : GuestPage) {h : Held} (found :
   pub of_page : old.page ≡ page
   of_page = grind (arith, same_page_eq, find_passes, row_there)
 
-  module _ {p : PagesValue} (seen_as : view_of s ≡ p) where
-    -- the page lies where its row says
-    pub lies : seat (of_dup s) (Some h) ≡ frame_of p.lodgings page
-    lies = grind (arith, frame_by)
+  -- the page lies where its row says
+  pub lies : {p : PagesValue} → view_of s ≡ p → seat (of_dup s) (Some h) ≡ frame_of p.lodgings page
+  lies seen_as = grind (arith, frame_by)
 
   module _ {p : PagesValue} (seen_as : view_of s ≡ p) (rows : RowsView) where
     -- once a page's row changed, the page is seen with the new row, on the frame that the new row says

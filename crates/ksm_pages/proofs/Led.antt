@@ -1,17 +1,10 @@
 -- Each entry in the unstable tree is found there: what one entry that came, went or changed leaves, and what the rows show of it.
-use Rattle.ksm_pages.specs.Held.{AreWaitersLed}
-use Rattle.ksm_pages.proofs.Names.{All, ap, arith, Bool, cases_Bool, Entry, false, find, find_all, find_none, find_nothing, find_passes, get, get_or}
-use Rattle.ksm_pages.proofs.Names.{held_of, holds, inl, inr, List, map, nat_tests, None, Option, option_map, refl, same_page_eq, same_Some, Slab, Some, sym, true, true≢false, waiting_state}
-use Rattle.ksm_pages.proofs.Names.{ℕ, ◌==◌, ◌∙◌, ◌≡◌, ◌≢◌, ◌⊎◌}
+use Rattle.ksm_pages.proofs.Names.{All, ap, AreInTree, AreLed, AreWaitersLed, arith, Bool, bytes_eq-Decides, cases_Bool, Entry, false, Fills, find, find_all, find_none, find_nothing, find_passes, get}
+use Rattle.ksm_pages.proofs.Names.{get_or, has_content, Held, held_of, holds, in_tree_by, inl, inr, is_in, IsFree, List, map, nat_lt, nat_tests, None, number_of, Option, option_map, page_in_tree}
+use Rattle.ksm_pages.proofs.Names.{refl, same_page_eq, same_Some, Slab, Some, StaysLed, sym, tree_by, true, true≢false, waiting_state, ℕ, ◌==◌, ◌∙◌, ◌≡◌, ◌≢◌, ◌⊎◌}
 use Rattle.ksm_pages.proofs.Options.{mapped_some}
-use Rattle.std.specs.Prelude.{nat_lt}
-use Rattle.ksm_tree.specs.Numbered.{number_of}
 use Rattle.ksm_pages.specs.declared.unstable.TheConstants.{GONE}
-use Rattle.std.proofs.lemmas.Slice.Eq.{bytes_eq-Decides}
-use Rattle.slab.specs.Slab.{Updates as Fills}
-use Rattle.ksm_pages.specs.Filed.{StaysLed}
-use Rattle.ksm_pages.specs.Held.{AreInTree, has_content, Held, in_tree_by, IsFree, is_in, page_in_tree, tree_by}
-use Rattle.ksm_pages.specs.Unstable.{AreLed, holder, if_passes, in_place, Keeps, keys_at, LeadsTo, stands_under}
+use Rattle.ksm_pages.specs.Unstable.{holder, if_passes, in_place, Keeps, keys_at, LeadsTo, stands_under}
 use Rattle.ksm_pages.specs.declared.rows.Rows.TheInside.{Inside}
 use Rattle.ksm_pages.specs.declared.unstable.UnstableTree.{UnstableTree}
 use Rattle.ksm_pages.proofs.Found.{find_narrower}
@@ -155,19 +148,16 @@ module _ (s : Inside) (are : AreRows s) where
     -- the row found with a tree and bytes is of the page of each entry in the tree that has these
     pub page_found : (t : ℕ) (b : List ℕ) (key : ℕ) (e : Entry) → get s.entries key ≡ Some e → has t b (held_of s.pass e) ≡ true
         → page_in_tree (view_of s) t b ≡ Some e.page
-    page_found t b key e stands is = go _ refl
-      where
-        same : All (λ h. has t b h ≡ true → h.row.page ≡ e.page) (all_held s)
-        same = rows_all s are (λ h. has t b h ≡ true → h.row.page ≡ e.page) (λ k f there also.
-            grind (arith, held_by_content t b k f there also, held_by_content t b key e stands is, there, stands))
-
-        go : (o : Option Held) → find (has t b) (all_held s) ≡ o
-            → option_map (λ (h : Held). h.row.page) (find (has t b) (all_held s)) ≡ Some e.page
-        go (Some h) at =
-            ap (option_map (λ (h : Held). h.row.page)) at
-            ∙ ap Some (find_all (has t b) (λ h. has t b h ≡ true → h.row.page ≡ e.page) (all_held s) h at same (find_passes (has t b) (all_held s) h at))
-        go None at =
-            absurd (true≢false (sym is ∙ holds_at (λ h. has t b h ≡ false) (find_none (has t b) (all_held s) at) key e stands))
+    page_found t b key e stands is =
+        let held = all_held s in
+        let Same : Held → Type 0 = λ h. has t b h ≡ true → h.row.page ≡ e.page in
+        let same : All Same held = rows_all s are Same (λ k f there also.
+        grind (arith, held_by_content t b k f there also, held_by_content t b key e stands is, there, stands)) in
+        let some : (h : Held) → find (has t b) held ≡ Some h → h.row.page ≡ e.page =
+        λ h at. find_all (has t b) Same held h at same (find_passes (has t b) held h at) in
+        let none : find (has t b) held ≡ None → has t b (held_of s.pass e) ≡ false =
+        λ at. holds_at (λ h. has t b h ≡ false) (find_none (has t b) held at) key e stands in
+        grind (arith, some, none, is)
 
     -- each row in the tree is found by its tree and bytes
     pub rows_found : AreInTree (view_of s)
@@ -187,13 +177,8 @@ module _ (s : Inside) (are : AreRows s) where
       where
         go : (o : Option ℕ) → key_by (tree_by s.by_node e.home) e.bytes ≡ o → o ≡ None
         go None is = refl
-        go (Some k) is = absurd (at _ refl)
-          where
-            there : stands_under s.by_node s.entries (tree_by s.by_node e.home) e.bytes k ≡ true
-            there = holder_stands s.by_node s.entries s.unstable _ _ is
-
-            at : (o : Option Entry) → get s.entries k ≡ o → ⊥
-            at None none = true≢false (sym there ∙ grind (arith, none))
-            at (Some f) stood =
-                let other = holds_at (λ g. holds e.page g ≡ false → has (tree_by s.by_node e.home) e.bytes g ≡ false) free k f stood in
-                grind (arith, there, stood, stands, out, other, one_key s.entries s.order are.filed stood stands, same_page_eq f.page e.page)
+        go (Some k) is =
+            let there = holder_stands s.by_node s.entries s.unstable (tree_by s.by_node e.home) e.bytes is in
+            let other = holds_at (λ g. holds e.page g ≡ false → has (tree_by s.by_node e.home) e.bytes g ≡ false) free k in
+            let one = λ (f : Entry) (stood : get s.entries k ≡ Some f). one_key s.entries s.order are.filed stood stands in
+            absurd (grind (arith, there, other, one, stands, out, same_page_eq))

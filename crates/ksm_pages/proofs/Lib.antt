@@ -15,16 +15,12 @@ pub mod Lodgings
 pub mod Lone
 pub mod Leaving
 pub mod Paging
-pub mod Resting
 pub mod Dropping
 pub mod Joined
 pub mod Turning
-pub mod Entering
 pub mod Partners
 pub mod Visiting
 pub mod Paired
 pub mod Sorting
-pub mod Moving
 pub mod Asked
-pub mod Beside
 pub mod Leading

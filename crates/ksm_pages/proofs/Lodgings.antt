@@ -1,7 +1,6 @@
 -- Where the pages lie, once the row of one was changed, came or went, and the dups kept their frames.
-use Rattle.ksm_pages.proofs.Names.{All, arith, change_held, change_row, false, find_all, find_passes, frame_of, frame_seen, GuestPage, Held, held_at, if◌then◌else◌, InPageOrder, lies_on, List}
-use Rattle.ksm_pages.proofs.Names.{lodgings_of, None, one_of_each_page, Option, refl, Row, row_at, rules, same_page, same_page_eq, same_page_sym, Some, true, without_held, ℕ, [], ◌∷◌, ◌≡◌}
-use Rattle.ksm_tree.proofs.Alike.{map_alike}
+use Rattle.ksm_pages.proofs.Names.{[], All, arith, change_held, change_row, false, find_all, find_passes, frame_of, frame_seen, GuestPage, Held, held_at, if◌then◌else◌, InPageOrder, lies_on, List}
+use Rattle.ksm_pages.proofs.Names.{lodgings_of, map_alike, None, one_of_each_page, Option, refl, Row, row_at, rules, same_page, same_page_eq, same_page_sym, Some, true, without_held, ℕ, ◌∷◌, ◌≡◌}
 use Rattle.ksm_pages.proofs.Found.{find_changed, find_changed_other, find_gone, find_gone_other}
 
 -- where what is held of a page lies: on a frame, or on none where nothing is held

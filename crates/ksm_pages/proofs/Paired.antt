@@ -1,17 +1,15 @@
 -- The pages once two of them became the items of a new dup.
-use Rattle.ksm_pages.specs.Held.{AreWaitersLed}
-use Rattle.ksm_pages.proofs.Names.{All, All-filter, All-map, ap, ap₂, AreAlone, AreDups, AreInTree, AreKept, arith, change_held, change_row, change_rows, cond_both, dup_numbered}
-use Rattle.ksm_pages.proofs.Names.{DupRow, DupsState, Entry, false, filter, find, find-append, find_all, find_nothing, find_over, frame_of, Frames, get_or, GuestPage, has_content, Held, held_at, held_of, holds}
-use Rattle.ksm_pages.proofs.Names.{in_group, InPageOrder, InPlaceOrder, Inside, is_in, is_live, length, length-set, lies_on, List, lodging, lodgings_of, MatchOption, MayPair, Merged, merged_into, nat_tests, None, not, Option, option_and_then}
-use Rattle.ksm_pages.proofs.Names.{option_map, ordered_change, page_in_tree, PagesValue, paired, refl, Row, row_at, rows_new, rows_of, RowsView, rules, same_page, same_page_eq, same_page_refl, seen, set, shares, slice_get}
-use Rattle.ksm_pages.proofs.Names.{Some, stands_at, subst, sym, tied_made, tree_of, true, waiting_state, with_dup, with_item, with_new, ℕ, [], ◌&&◌, ◌+◌, ◌<◌, ◌==◌, ◌||◌, ◌∙◌, ◌∷◌, ◌≡◌}
+use Rattle.ksm_pages.proofs.Names.{[], All, All-filter, All-map, ap, ap₂, AreAlone, AreDups, AreInTree, AreKept, AreWaitersLed, arith, change_held, change_row, change_rows, cond_both, dup_numbered}
+use Rattle.ksm_pages.proofs.Names.{dup_rows, DupRow, DupsState, Entry, false, filter, find, find-append, find_all, find_nothing, find_over, frame_of, Frames, get_or, GuestPage, has_content, Held}
+use Rattle.ksm_pages.proofs.Names.{held_at, held_of, holds, in_group, InPageOrder, InPlaceOrder, Inside, is_in, is_live, length, length-set, lies_on, List, lodging, lodgings_of, map_mapped}
+use Rattle.ksm_pages.proofs.Names.{MatchOption, MayPair, Merged, merged_into, nat_tests, None, not, Option, option_and_then, option_map, ordered_change, page_in_tree, PagesValue, paired, refl, Row}
+use Rattle.ksm_pages.proofs.Names.{row_at, rows_new, rows_of, RowsView, rules, same_page, same_page_eq, same_page_refl, seen, set, shares, slice_get, Some, stands_at, subst, sym, tied_made, tree_of}
+use Rattle.ksm_pages.proofs.Names.{true, waiting_state, with_dup, with_item, with_new, ℕ, ◌&&◌, ◌+◌, ◌<◌, ◌==◌, ◌||◌, ◌∙◌, ◌∷◌, ◌≡◌}
 use Rattle.std.specs.Vec.{with_item as with_frame}
-use Rattle.ksm_tree.specs.Dups.{rows_of as dup_rows}
-use Rattle.ksm_tree.proofs.Alike.{map_mapped}
 use Rattle.ksm_tree.proofs.Rows.{eq_bytes}
 use Rattle.ksm_base.proofs.Orders.{above, all_with_dup, below, dups_parted, elsewhere}
 use Rattle.ksm_pages.proofs.Changing.{row_told, rows_changed}
-use Rattle.ksm_pages.proofs.Dropping.{lodged_alike, none_live, not_vacant}
+use Rattle.ksm_pages.proofs.Dropping.{frame_away, lodged_alike, none_live, not_vacant}
 use Rattle.ksm_pages.proofs.Found.{find_changed_other, find_kept}
 use Rattle.ksm_pages.proofs.Joined.{own_not_merged, own_seat}
 use Rattle.ksm_pages.proofs.Leaving.{AreLawful, lies, lies_same, of_dup, of_page, row_seen, view_of}
@@ -22,13 +20,6 @@ use Rattle.ksm_pages.proofs.Partners.{each_led, held_led, tree_is, waits_parts}
 use Rattle.ksm_pages.proofs.Visiting.{lawful_numbered}
 
 -- ---------------------------------------------------------------- what is kept at one place
-
--- a dup that may be there, and stands elsewhere, keeps its frame where one is written at a place
-pub frame_away : (frames : List ℕ) (place frame : ℕ) (o : Option DupRow)
-    → ((e : DupRow) → o ≡ Some e → (e.place == place) ≡ false)
-    → option_and_then (λ d. slice_get (set frames place frame) d.place) o ≡ option_and_then (λ d. slice_get frames d.place) o
-frame_away frames place frame None away = refl
-frame_away frames place frame (Some e) away = grind (arith, nat_tests, get_set frames place e.place frame, away e)
 
 module _ (dups : List DupRow) (dup : DupRow) (frames : List ℕ) (frame : ℕ) where
   abbrev of_now : ℕ → Option ℕ
@@ -270,26 +261,18 @@ module _ {s : Inside} {p : PagesValue} {place : ℕ} {first second : GuestPage} 
     abbrev of_new : ℕ → Option ℕ
     of_new = lodging (dup_rows later.dups) (set s.frames.items place frame)
 
-    of_with : of_new ≡ lodging (with_dup dup (dup_rows s.dups.dups)) (set s.frames.items place frame)
-    of_with = search (rules, now_rows)
-
     abbrev lay : Frames
     lay = frame_of (lodgings_of (of_dup s) s.rows.held)
 
     new_frame : of_new s.dups.next ≡ Some frame
-    new_frame =
-        ap (λ of. of s.dups.next) of_with
-        ∙ lodged_new _ _ _ _ lawful.numbers_below (rw are.room may.inside)
+    new_frame = rw now_rows (lodged_new _ _ _ _ lawful.numbers_below (rw are.room may.inside))
 
     others : frame_of (lodgings_of of_new s.rows.held) ≡ lay
     others =
         lodged_alike _ (λ page r n there merged.
-        ap (λ of. of n) of_with
-        ∙ lodged_kept _ _ _ frame lawful.in_place_order n (unlike _ there merged) (not_vacant _ _ page may.vacant there merged))
-      where
-        unlike : (page : GuestPage) {r : Row} {n : ℕ} → row_at page before ≡ Some r → r.state ≡ Merged n → (n == s.dups.next) ≡ false
-        unlike page there merged = ap (merged_into s.dups.next) (sym merged)
-            ∙ find_all _ (λ x. merged_into s.dups.next x.state ≡ false) _ _ there may.fresh
+        let unlike = ap (merged_into s.dups.next) (sym merged)
+        ∙ find_all _ (λ x. merged_into s.dups.next x.state ≡ false) _ _ there may.fresh in
+        rw now_rows (lodged_kept _ _ _ frame lawful.in_place_order n unlike (not_vacant _ _ page may.vacant there merged)))
 
     now_lie : frame_of (lodgings_of of_new rows.held) ≡ lies_on b.row.page (lay a.row.page) lay
     now_lie =

@@ -1,12 +1,13 @@
--- The row to which the unstable tree leads from the tree and bytes of a row, and the row's partner.
-use Rattle.ksm_pages.specs.Held.{AreWaitersLed}
-use Rattle.ksm_pages.proofs.Names.{All, All-map, altered, ap₂, AreInTree, arith, bytes_eq-Decides, each_at_page, false, find_all, find_none, find_passes}
-use Rattle.ksm_pages.proofs.Names.{get_or, GuestPage, has_content, Held, held_at, holds, InPageOrder, is_in, IsFree, Knobs, List, nat_tests, None, not, Option, option_and_then, out_of_tree, page_in_tree}
-use Rattle.ksm_pages.proofs.Names.{partner, refl, Row, row_at, rows_of, RowsView, same_page, same_page_refl, Some, sym, tree_by, tree_of, true, waiting_state, waits_for, ℕ, ◌&&◌, if◌then◌else◌}
-use Rattle.ksm_pages.proofs.Names.{◌∙◌, ◌≡◌, ◌⊎◌, ◌==◌, Bool}
+-- The row to which the unstable tree leads from the tree and bytes of a row, the row's partner, and the page that waits beside a merged row.
+use Rattle.ksm_pages.proofs.Names.{All, All-map, altered, ap₂, AreInTree, AreWaitersLed, arith, Bool, bytes_eq-Decides, each_at_page, Entry, false, find_all, find_none, find_passes, get_or, GuestPage}
+use Rattle.ksm_pages.proofs.Names.{has_content, Held, held_at, held_of, holds, if◌then◌else◌, InPageOrder, Inside, is_in, IsFree, Knobs, List, merged_state, nat_tests, None, not, Option}
+use Rattle.ksm_pages.proofs.Names.{option_and_then, option_map, out_of_tree, page_beside, page_in_tree, PagesValue, partner, refl, Row, row_at, rows_of, RowsView, same_page, same_page_eq}
+use Rattle.ksm_pages.proofs.Names.{same_page_refl, Some, sym, tree_by, tree_of, true, waiting_state, waits_for, ℕ, ◌&&◌, ◌==◌, ◌∙◌, ◌≡◌, ◌⊎◌}
 use Rattle.ksm_pages.proofs.Changing.{row_told}
 use Rattle.ksm_pages.proofs.Lone.{each_held}
 use Rattle.ksm_pages.proofs.Options.{mapped_some}
+use Rattle.ksm_pages.specs.declared.row.Kind.TheVariants as kinds
+use Rattle.ksm_pages.proofs.Leaving.{AreLawful, of_page, row_seen, row_there, view_of}
 
 -- a row that waits for another waits, is of another page, and has the same content
 pub waits_parts : (knobs : Knobs) (row w : Row) → waits_for knobs row w ≡ true
@@ -102,3 +103,53 @@ held_led knobs v by found page {h} at is =
     rw (← tree_is knobs by h.row)
     (find_all (holds page) (λ x. is_in x.in_tree ≡ true → page_in_tree v (tree_by v.by_node x.row.home) x.row.bytes ≡ Some x.row.page)
     v.held h at found is)
+
+module _ (s : Inside) (are : AreLawful s) (p : PagesValue) (seen_as : view_of s ≡ p) (page : GuestPage) (e : Entry)
+    (found : held_at page s.rows.held ≡ Some (held_of s.rows.pass e)) where
+  abbrev row : Row
+  row = (held_of s.rows.pass e).row
+
+  abbrev beside : Option GuestPage
+  beside = page_beside p.knobs p.rows (row_at page p.rows)
+
+  -- what waits beside the page is what does beside its row
+  seen_beside : beside ≡ (if merged_state row.state then option_map (λ r. r.page) (partner s.knobs (rows_of s.rows.held) row) else None)
+  seen_beside = grind (arith, row_seen)
+
+  -- a page, if it waits
+  abbrev if_waiting : GuestPage → Option GuestPage
+  if_waiting other = option_and_then (λ w. if waiting_state w.state then Some other else None) (row_at other p.rows)
+
+  -- beside one that is merged that page waits to which the tree leads from its content, where that waits
+  pub merged_beside : AreWaitersLed s.rows.held → AreInTree s.rows
+      → e.kind ≡ kinds.Merged → {tree : ℕ} → ((r : Row) → r.home ≡ e.home → tree ≡ tree_of s.knobs r)
+      → beside ≡ option_and_then if_waiting (page_in_tree s.rows tree e.bytes)
+  merged_beside led found_by is {tree} in_tree = go _ refl
+    where
+      by : partner s.knobs (rows_of s.rows.held) row ≡ option_and_then (λ q. option_and_then (λ w.
+          if waiting_state w.state && not (same_page q row.page) then Some w else None) (row_at q (rows_of s.rows.held))) (page_in_tree s.rows tree e.bytes)
+      by = rw (in_tree row refl) (partner_is s.knobs s.rows are.order are.by_node led found_by row)
+
+      here : row_at page (rows_of s.rows.held) ≡ Some row
+      here = row_there s are page found
+
+      go : (o : Option GuestPage) → page_in_tree s.rows tree e.bytes ≡ o → beside ≡ option_and_then if_waiting o
+      go None none = grind (arith, seen_beside, by, none)
+      go (Some other) at = more _ refl
+        where
+          more : (q : Option Row) → row_at other (rows_of s.rows.held) ≡ q → beside ≡ if_waiting other
+          more None none = grind (arith, seen_beside, by, at, none, seen_as)
+          more (Some w) there =
+              grind (
+                arith,
+                seen_beside,
+                by,
+                at,
+                there,
+                here,
+                seen_as,
+                same_page_eq other row.page,
+                of_page s are page found,
+                find_passes (λ r. same_page r.page other) (rows_of s.rows.held) w there,
+                same_page_eq w.page other,
+              )

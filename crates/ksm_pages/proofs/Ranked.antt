@@ -1,18 +1,15 @@
 -- The pages in order as the items that are kept for them: what stands before a key, what comes behind it, and in between.
-use Rattle.ksm_pages.proofs.Names.{after_cursor, All, All-filter, All-head, All-tail, ap, arith, Bool, comes_before, count_by, count_none, drop, false, filter, filter_all, find, find_all, get_or, GuestPage, IfSome, if◌then◌else◌}
-use Rattle.ksm_pages.proofs.Names.{is_of, is_some, key_of, last_of, length, length-filter, length-map, List, map, map-append, marked, Named, named_by, nat_lt, nat_tests, None, not, Option, option_map, page_of}
-use Rattle.ksm_pages.proofs.Names.{pages_behind, pages_between, pairs_head, pairs_tail, refl, rules, slice_get, slice_get-get_or, slice_get-map, slice_get_past, Some, suc, sym, take, true, visited}
-use Rattle.ksm_pages.proofs.Names.{with_named, zero, ℕ, [], ◌&&◌, ◌+◌, ◌-◌, ◌<◌, ◌^◌, ◌∙◌, ◌∷◌, ◌≡◌, ◌≤◌}
-use Rattle.std.proofs.lemmas.List.{drop-map, length-drop, length-take-le, nil_from_length, take-map}
-use Rattle.std.proofs.lemmas.List.Kept.{AllPairs-filter}
+use Rattle.ksm_pages.proofs.Names.{[], after_cursor, All, All-filter, All-head, All-tail, AllPairs-filter, ap, arith, Bool, comes_before, count_by, count_none, drop, false, filter, filter_all}
+use Rattle.ksm_pages.proofs.Names.{filter_mapped, find, find_all, find_mapped, get_or, GuestPage, IfSome, if◌then◌else◌, is_of, is_some, Item, key_of, last_of, length, length-drop, length-filter}
+use Rattle.ksm_pages.proofs.Names.{length-map, length-take-le, List, map, map-append, marked, Named, named_by, nat_lt, nat_tests, None, not, Option, option_map, page_of, pages_behind, pages_between}
+use Rattle.ksm_pages.proofs.Names.{pairs_head, pairs_mapped, pairs_tail, refl, rules, slice_get, slice_get-get_or, slice_get-map, slice_get_past, Some, suc, sym, take, true, up_to_few, visited}
+use Rattle.ksm_pages.proofs.Names.{with_named, zero, ℕ, ◌&&◌, ◌+◌, ◌-◌, ◌<◌, ◌^◌, ◌∙◌, ◌∷◌, ◌≡◌, ◌≤◌}
+use Rattle.std.proofs.lemmas.List.{drop-map, nil_from_length, take-map}
 use Rattle.ksm_base.proofs.Edits.{count_more}
 use Rattle.ksm_rmap.proofs.Keys.{before_as_key, behind_as_key, same_as_key}
-use Rattle.ksm_tree.proofs.Alike.{filter_mapped, find_mapped, pairs_mapped}
 use Rattle.ksm_pages.specs.Ordered.{AreAscending as AreInOrder}
 use Rattle.ksm_pages.proofs.Found.{length_with}
-use Rattle.ksm_order.specs.declared.item.Item.{Item}
 use Rattle.ksm_order.specs.Listed.{AreAscending, is_at, is_from, key_at, marked as kept_marked, up_to, with_item, with_mark, without}
-use Rattle.ksm_order.proofs.Parts.{up_to_few}
 
 -- ---------------------------------------------------------------- one page and one item
 
@@ -20,17 +17,11 @@ module _ (page : GuestPage) (few : page.page < 2 ^ 32) where
   pub is_its : (x : Item) → is_of page (named_by x) ≡ is_at (key_of page) x
   is_its x = same_as_key page few x.key
 
-  pub before_its : (x : Item) → comes_before (named_by x).page page ≡ nat_lt x.key (key_of page)
-  before_its x = before_as_key page few x.key
-
-  pub behind_its : (x : Item) → comes_before page (named_by x).page ≡ nat_lt (key_of page) x.key
-  behind_its x = behind_as_key page few x.key
-
   -- with the page put in among others, what is kept has its item
   pub put_its : (value : ℕ) (items : List Item)
       → with_named (record { page = page; key = value; mergeable = true }) (map named_by items)
       ≡ map named_by (with_item (record { key = key_of page; value = value; marked = true }) items)
-  put_its value items = grind (arith, filter_mapped, before_its, behind_its, map-append)
+  put_its value items = grind (arith, filter_mapped, before_as_key, behind_as_key, map-append)
 
 -- ---------------------------------------------------------------- all pages and all items
 
@@ -177,7 +168,7 @@ module _ (items : List Item) {now : List Named} (seen_as : map named_by items �
         let whole = ap (drop passed) visited_is ∙ drop-map page_by passed kept in
         let count = many ∙ counted_marked (key_of page) items in
         ap (filter (λ p. comes_before p page)) (ahead ∙ whole)
-        ∙ filter_mapped page_by (λ p. comes_before p page) (below (key_of page)) _ (λ k d lt. grind (arith, before_its))
+        ∙ filter_mapped page_by (λ p. comes_before p page) (below (key_of page)) _ (λ k d lt. grind (arith, before_as_key))
         ∙ ap (map page_by) (kept_between (key_of page) _ _ (AllPairs-filter Less _ _ rise) ∙ ap (λ n. take (n - passed) (drop passed kept)) (sym count))
         ∙ sym (take-map _ _ _) ∙ ap (take (before - passed)) (sym whole)
 

@@ -1,6 +1,6 @@
 -- What is read of the rows along their order.
-use Rattle.ksm_pages.proofs.Names.{All, All-filter, ap, arith, Bool, count_by, find, find_all, get, GuestPage, held_under, map, mergeable_pages, Named, option_map, refl, Row, rows_of, Some, visited, ◌∙◌, ◌≡◌}
-use Rattle.ksm_tree.proofs.Alike.{count_mapped, filter_mapped, find_mapped, map_mapped}
+use Rattle.ksm_pages.proofs.Names.{All, All-filter, ap, arith, Bool, count_by, count_mapped, filter_mapped, find, find_all, find_mapped, get, GuestPage, held_under, map, map_mapped, mergeable_pages}
+use Rattle.ksm_pages.proofs.Names.{Named, option_map, refl, Row, rows_of, Some, visited, ◌∙◌, ◌≡◌}
 use Rattle.ksm_pages.specs.declared.rows.Rows.TheInside.{Inside}
 use Rattle.ksm_pages.proofs.Filing.{all_held, all_stand, AreRows, page_under}
 

@@ -1,16 +1,15 @@
 -- Listed pages that are put among others in order.
-use Rattle.std.specs.Prelude.{◌||◌, ◌^◌, drop, insert, take}
-use Rattle.ksm_pages.proofs.Names.{All, All-append, ap, AreInOrder, arith, get_or, GuestPage, has_item, length, List, pages_of, same_page, suc, sym}
-use Rattle.ksm_pages.proofs.Names.{ℕ, [], ◌++◌, ◌+◌, ◌<◌, ◌∙◌, ◌∷◌, ◌≡◌, ◌≤◌}
+use Rattle.ksm_pages.proofs.Names.{[], All, All-append, ap, AreInOrder, arith, get_or, get_or_default, GuestPage, has_item, insert, length, length-drop, List, Listed, pages_of, same_page, suc, sym, ℕ}
+use Rattle.ksm_pages.proofs.Names.{◌++◌, ◌+◌, ◌<◌, ◌||◌, ◌∙◌, ◌∷◌, ◌≡◌, ◌≤◌}
+use Rattle.std.specs.Prelude.{drop, take, ◌^◌}
 use Rattle.std.specs.List.{AllWithin}
 use Rattle.std.specs.List.Sorted.{IsNonDecreasingBy, IsPermutation}
 use Rattle.std.proofs.Math.Seq.{take-suc}
-use Rattle.std.proofs.lemmas.List.{get_or-drop, get_or-take, get_or_default, length-drop, length-take, take-append-drop}
+use Rattle.std.proofs.lemmas.List.{get_or-drop, get_or-take, length-take, take-append-drop}
 use Rattle.std.proofs.lemmas.List.Elements.{All-drop, All-take}
 use Rattle.std.proofs.lemmas.List.Sorted.{IsPermutation-map, list_any-IsPermutation}
 use Rattle.ksm_base.proofs.Orders.{pairs_append}
 use Rattle.ksm_order.specs.Places.{IsPlace}
-use Rattle.ksm_pages.specs.declared.restless.Listed.{Listed}
 use Rattle.ksm_pages.specs.Held.{AreSmall, HasGap, IsPutAmong}
 use Rattle.ksm_pages.proofs.Spots.{appended_has, page_by, Up}
 

@@ -1,16 +1,10 @@
 -- Listed pages in order: the pages of them, those that are swept out, and those that come behind a cursor.
-use Rattle.std.specs.Prelude.{◌||◌, ◌%◌, ◌^◌}
-use Rattle.ksm_pages.proofs.Names.{cases_Bool, inl, inr, list_any-append, map-append, suc}
-use Rattle.ksm_pages.proofs.Names.{after_cursor, All, All-map, ap, AreInOrder, arith, Bool, comes_before, Entry, false, filter, get, get_or}
-use Rattle.ksm_pages.proofs.Names.{append-nil, GuestPage, has_item, is_useless, IsInVain, length, List, Named, None, not, not-true, Option, page_of, pages_of}
-use Rattle.ksm_pages.proofs.Names.{refl, rules, same_page, same_page_eq, Slab, Some, Spot, subst, true}
-use Rattle.ksm_pages.proofs.Names.{ℕ, [], ◌++◌, ◌<◌, ◌∙◌, ◌∷◌, ◌≡◌, ◌≤◌, ◌⊎◌}
+use Rattle.ksm_pages.proofs.Names.{[], after_cursor, All, All-map, ap, append-nil, AreInOrder, arith, Bool, cases_Bool, comes_before, Entry, false, filter, get, get_or, get_or_default, GuestPage}
+use Rattle.ksm_pages.proofs.Names.{has_item, inl, inr, is_useless, IsInVain, length, List, list_any-append, Listed, map-append, Named, nat_lt, nat_tests, None, not, not-true, Option, page_of}
+use Rattle.ksm_pages.proofs.Names.{pages_of, refl, rules, same_page, same_page_eq, Slab, Some, Spot, subst, suc, true, ℕ, ◌++◌, ◌<◌, ◌||◌, ◌∙◌, ◌∷◌, ◌≡◌, ◌≤◌, ◌⊎◌}
+use Rattle.std.specs.Prelude.{◌%◌, ◌^◌}
 use Rattle.std.specs.Option.{is_none}
-use Rattle.std.proofs.lemmas.Bool.Decides.{nat_tests}
-use Rattle.std.proofs.lemmas.List.{get_or_default}
-use Rattle.std.specs.Prelude.{nat_lt}
 use Rattle.ksm_order.specs.Places.{IsPlace}
-use Rattle.ksm_pages.specs.declared.restless.Listed.{Listed}
 use Rattle.ksm_pages.specs.Held.{AreSmall, low_spot}
 
 -- the page that is listed

@@ -1,18 +1,17 @@
--- The pages once a call changed the row of one page: they are lawful, and what is seen of them changed so.
-use Rattle.ksm_pages.proofs.Names.{All, All-map, ap, arith, Bool, change_held, cond_both, DupsState, false, frame_of, get_or, GuestPage, Held, held_at, if◌then◌else◌, inl, inr, InTree, Inside, IsAlone, IsKnown, Knobs}
-use Rattle.ksm_pages.proofs.Names.{IsLeft, let_out, lies_on, List, lodgings_of, map, MatchOption, merged_state, None, not, Option, ordered_map, ordered_without, PagesValue, Private, private_state}
-use Rattle.ksm_pages.proofs.Names.{on_row, out_of_tree, refl, Row, row_at, rows_of, rows_out, RowsView, same_page, seen, settled, settled_state, shared_state, Some, sym, tied_dropped, tied_left, tied_mapped, tree_of, true, true≢false, waiting_state, without_held}
-use Rattle.ksm_pages.proofs.Names.{rules, without_page, ℕ, [], ⊤, ◌∙◌, ◌∷◌, ◌==◌, ◌≡◌, ◌⊎◌, changed, relaid, length-map, InPageOrder, AreTied, AreAlone, All-filter}
-use Rattle.std.proofs.Math.ListN.{get_or-map}
-use Rattle.ksm_pages.specs.Paged.{HasRow}
-use Rattle.ksm_tree.specs.Dups.{rows_of as dup_rows}
-use Rattle.ksm_tree.proofs.Alike.{map_mapped}
-use Rattle.ksm_pages.proofs.Changing.{rows_without}
+-- The pages once a call changed the row of one page, or gave it one: they are lawful, and what is seen of them changed so.
+use Rattle.ksm_pages.proofs.Names.{[], All, All-filter, All-map, ap, AreAlone, AreTied, arith, Bool, change_held, changed, cond_both, dup_rows, DupsState, Err, false, frame_of, get_or, get_or-map}
+use Rattle.ksm_pages.proofs.Names.{GuestPage, HasRow, Held, held_at, if◌then◌else◌, inl, InPageOrder, inr, Inside, InTree, is_alone, IsAlone, IsKnown, IsLeft, Knobs, length-map, let_out, lies_on}
+use Rattle.ksm_pages.proofs.Names.{List, lodgings_of, map, map_mapped, MatchOption, merged_state, None, not, Ok, on_row, OnErr, OnOk, Option, ordered_map, ordered_with, ordered_without, out_of_tree}
+use Rattle.ksm_pages.proofs.Names.{PagesValue, PagesView, Private, private_state, refl, relaid, Result, Row, row_at, rows_of, rows_out, RowsView, rules, same_page, seen, settled, settled_state}
+use Rattle.ksm_pages.proofs.Names.{shared_state, Some, sym, tied_dropped, tied_inserted, tied_left, tied_mapped, true, true≢false, waiting_state, with_held, with_row, without_held}
+use Rattle.ksm_pages.proofs.Names.{without_page, ℕ, ⊤, ◌==◌, ◌∙◌, ◌∷◌, ◌≡◌, ◌⊎◌}
+use Rattle.ksm_pages.proofs.Changing.{idle_settled, nothing_held, rows_with, rows_without, settled_again}
 use Rattle.ksm_pages.proofs.Joined.{let_out_alone}
-use Rattle.ksm_pages.proofs.Lodgings.{lodged_gone, seat}
+use Rattle.ksm_pages.proofs.Lodgings.{frame_by, lodged_gone, lodged_one, seat}
 use Rattle.ksm_pages.proofs.Leaving.{alone_found, AreLawful, Become, Comes, comes, held_as, IsLoneIn, known_there, lies, of_dup, of_page, row_seen, row_there, stays_there, turned_so, view_of}
-use Rattle.ksm_pages.proofs.Lone.{IsLone}
-use Rattle.ksm_pages.proofs.Resting.{idle_settled, settled_again}
+use Rattle.ksm_pages.proofs.Lone.{held_rise, IsLone, lone_with}
+use Rattle.ksm_pages.proofs.Found.{find_put, find_put_other}
+use Rattle.ksm_pages.proofs.Partners.{tree_is}
 
 -- ---------------------------------------------------------------- a page that leaves what it is in
 
@@ -161,10 +160,6 @@ module _ (s : Inside) (are : AreLawful s) {p : PagesValue} (seen_as : view_of s 
 
 -- ---------------------------------------------------------------- other knobs
 
-trees_alike : (knobs tuned : Knobs) (row : Row) → not (tuned.merge_across_nodes == 1) ≡ not (knobs.merge_across_nodes == 1)
-    → tree_of tuned row ≡ tree_of knobs row
-trees_alike knobs tuned row same = grind arith
-
 module _ (s : Inside) (are : AreLawful s) (knobs : Knobs) {by_node : Bool} (is : by_node ≡ not (knobs.merge_across_nodes == 1)) (rows : RowsView) where
   abbrev Tuned : Type 0
   Tuned = AreLawful (record s { rows = rows; knobs = knobs })
@@ -178,7 +173,8 @@ module _ (s : Inside) (are : AreLawful s) (knobs : Knobs) {by_node : Bool} (is :
   tuned_same : by_node ≡ s.rows.by_node → rows ≡ s.rows → Tuned
   tuned_same by same = rw same (
     kept_as s.rows are.order are.tied (sym by ∙ is) (λ k d lt alone.
-        rw (trees_alike s.knobs knobs (get_or s.rows.held k d).row (sym is ∙ by ∙ are.by_node)) (are.alone k d lt alone)),
+        let row = (get_or s.rows.held k d).row in
+        rw (← tree_is knobs is row, by, tree_is s.knobs are.by_node row) (are.alone k d lt alone)),
     refl,
   )
 
@@ -210,3 +206,42 @@ module _ (s : Inside) (are : AreLawful s) (knobs : Knobs) {by_node : Bool} (is :
   tuned (inl same) may = tuned_same same.0 same.1
   tuned (inr went) (inr idle) = tuned_out idle went.1
   tuned (inr went) (inl merge) = absurd (grind (arith, are.by_node, merge, is, went.0))
+
+-- the page comes to lie where its row says, and no other page moves
+lodged_put : (of_dup : ℕ → Option ℕ) (held : List Held) (h : Held) → InPageOrder (rows_of held) → held_at h.row.page held ≡ None
+    → frame_of (lodgings_of of_dup (with_held h held)) ≡ lies_on h.row.page (seat of_dup (Some h)) (frame_of (lodgings_of of_dup held))
+lodged_put of_dup held h rise absent = search (rules, lodged_one, find_put, find_put_other, held_rise)
+
+module _ (s : Inside) (are : AreLawful s) {p : PagesValue} (seen_as : view_of s ≡ p) (h : Held)
+    (absent : row_at h.row.page p.rows ≡ None) where
+  away : row_at h.row.page (rows_of s.rows.held) ≡ None
+  away = grind arith
+
+  -- the page lay on no frame
+  pub lay_nowhere : frame_of p.lodgings h.row.page ≡ None
+  lay_nowhere = grind (arith, frame_by, nothing_held, away)
+
+  -- a page that comes with a row that is not merged, and in no tree, leaves the pages lawful, and is seen with that row
+  pub entered : merged_state h.row.state ≡ false → is_alone h.in_tree ≡ false → (rows : RowsView)
+      → Become s.rows rows (with_held h s.rows.held)
+      → Comes s rows s.dups (record (seen p) {
+        rows = with_row h.row p.rows;
+        frame = lies_on h.row.page (seat (of_dup s) (Some h)) (frame_of p.lodgings);
+      })
+  entered apart out rows put =
+      let lain = lodged_put (of_dup s) _ _ are.order (nothing_held h.row.page s.rows.held away) in
+      rw (← seen_as)
+      (comes s are rows put (rows_with h _) {ds = s.dups.dups} {later = s.dups} refl refl (ordered_with _ _ are.order)
+      (tied_inserted _ _ _ are.order away apart are.tied)
+      (lone_with s.knobs _ h _ (λ is. absurd (true≢false (sym is ∙ out))) are.alone) lain)
+
+-- where a page comes to lie on a frame, that frame may be named as the one on which the page lies now
+pub but_there : {new : PagesView} (old : PagesView) (rows : List Row) (page : GuestPage) (o : Option ℕ)
+    → new ≡ record old { rows = rows; frame = lies_on page o old.frame }
+    → (new ≡ record old { rows = rows; frame = new.frame }) × (new.frame ≡ lies_on page (new.frame page) old.frame)
+but_there {new} old rows page o is = grind arith
+
+-- what follows from the promise for Ok, and also from the promise for an error, follows
+pub either_way : {T E P O Q : Type 0} (r : Result T E) → OnOk r P → OnErr r O → (P → Q) → (O → Q) → Q
+either_way (Ok x) holds fails so too = so holds
+either_way (Err e) holds fails so too = too fails

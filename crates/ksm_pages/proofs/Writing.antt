@@ -1,22 +1,17 @@
 -- What each change of one row, found under its key, leaves: rows still, and what is seen of them.
+use Rattle.ksm_pages.proofs.Names.{altered, ap, AreLed, AreListed, arith, Bool, CanMove, change_held, change_none, Entry, false, Fills, find, find_none, get, GuestPage, has_item, Held, held_at}
+use Rattle.ksm_pages.proofs.Names.{held_in, held_of, held_under, holds, IfSome, inl, inr, is_in, is_of, is_restless, is_some, IsAddedTo, IsInVain, IsMoved, IsRows, IsUnder, key_in, length, length-map}
+use Rattle.ksm_pages.proofs.Names.{List, Listing, marked, Named, named_of, nat_tests, None, option_map, pages_ordered, PageState, Private, refl, row_at, rows_of, RowsView, rules, same_page_refl}
+use Rattle.ksm_pages.proofs.Names.{same_Some, shared_state, Slab, Some, state_of, StaysBegun, StaysLed, sym, Tally, true, true≢false, Updates-with_value, Waiting, with_held, with_named, with_value}
+use Rattle.ksm_pages.proofs.Names.{without_held, without_named, ℕ, ◌<◌, ◌^◌, ◌∙◌, ◌≡◌, ◌≢◌, ◌≤◌, ◌⊎◌}
 use Rattle.ksm_pages.proofs.Options.{none_mapped}
-use Rattle.ksm_pages.proofs.Names.{ap, AreListed, arith, Bool, CanMove, change_held, Entry, false, find, get, GuestPage, has_item, Held, held_at, held_in, held_of, holds}
-use Rattle.ksm_pages.proofs.Names.{held_under, IfSome, inl, inr, is_of, is_restless, is_some, IsAddedTo, IsInVain, IsMoved, IsRows, IsUnder, key_in, length}
-use Rattle.ksm_pages.proofs.Names.{length-map, List, Listing, marked, Named, named_of, nat_tests, None, option_map, pages_ordered, PageState, Private, refl, row_at, rows_of}
-use Rattle.ksm_pages.proofs.Names.{RowsView, rules, same_page_refl, same_Some, shared_state, Slab, Some, state_of, sym, Tally, true, true≢false, Updates-with_value, Waiting, with_held}
-use Rattle.ksm_pages.proofs.Names.{with_named, with_value, without_held, without_named, ℕ, ◌<◌, ◌^◌, ◌∙◌, ◌≡◌, ◌≢◌, ◌≤◌, ◌⊎◌, altered}
-use Rattle.slab.specs.Slab.{Updates as Fills}
-use Rattle.ksm_pages.specs.Filed.{StaysBegun, StaysLed}
-use Rattle.ksm_pages.specs.Unstable.{AreLed}
-use Rattle.ksm_pages.specs.Held.{is_in}
 use Rattle.ksm_pages.specs.declared.row.Kind.TheVariants as kinds
 use Rattle.ksm_pages.specs.declared.rows.Rows.TheInside.{Inside}
 use Rattle.ksm_pages.proofs.Changing.{marked_same, row_told, rows_changed, rows_with, rows_without}
-use Rattle.ksm_pages.proofs.Filing.{all_filled, all_held, AreRows, view, view_of, filed_marked, filed_put, filed_taken, held_found, held_nowhere, named_under, one_key, put, rows_rise, taken, unmarked, written}
+use Rattle.ksm_pages.proofs.Filing.{all_filled, all_held, AreRows, filed_marked, filed_put, filed_taken, held_found, held_nowhere, named_under, one_key, put, rows_rise, taken, unmarked, view, view_of}
+use Rattle.ksm_pages.proofs.Filing.{written}
 use Rattle.ksm_pages.proofs.Led.{led_written}
 use Rattle.ksm_pages.proofs.Found.{write_rises}
-use Rattle.ksm_tree.proofs.Alike.{change_none}
-use Rattle.ksm_base.proofs.Edits.{find_none}
 use Rattle.ksm_order.proofs.Ordered.{absent_kept, with_rises, without_rises}
 use Rattle.ksm_pages.proofs.Tallying.{can_move, tally_changed, tally_gone, tally_put}
 

@@ -1,9 +1,6 @@
-use Rattle.ksm_pages.proofs.Names.{arith, length, nat_tests, rules, slice_get_past, ◌-◌, ◌≡◌}
-use Rattle.std.specs.Prelude.{nat_le}
-use Rattle.ksm_pages.specs.declared.restless.Listed.{Listed}
+use Rattle.ksm_pages.proofs.Names.{arith, length, Listed, nat_le, nat_tests, rules, slice_get_past, slice_get_read, ◌-◌, ◌≡◌}
 use Rattle.std.proofs.lemmas.Fn.{always_returns_same}
 use Rattle.std.proofs.lemmas.List.Sorted.{IsNonDecreasingBy-from_all_adjacent}
-use Rattle.std.proofs.lemmas.Option.{slice_get_read}
 use Rattle.ksm_pages.proofs.Sorting.{gap_here, sorted_rise}
 use Rattle.ksm_pages.proofs.restless.gap_for.Goals as goal
 

@@ -1,7 +1,5 @@
-use Rattle.ksm_pages.proofs.Names.{ap, has_item, pages_of, rules, ◌<◌, ◌^◌, ◌∙◌}
-use Rattle.std.proofs.lemmas.List.Elements.{All-append}
+use Rattle.ksm_pages.proofs.Names.{All-append, ap, has_item, Listed, pages_of, rules, ◌<◌, ◌^◌, ◌∙◌}
 use Rattle.std.proofs.lemmas.List.Sorted.{All-permutation, IsNonDecreasingBy-from_sort_by_key}
-use Rattle.ksm_pages.specs.declared.restless.Listed.{Listed}
 use Rattle.ksm_pages.proofs.Sorting.{shuffled_has, sorted_rise}
 use Rattle.ksm_pages.proofs.Spots.{appended_has}
 use Rattle.ksm_pages.proofs.restless.put_all.Goals as goal

@@ -1,6 +1,5 @@
-use Rattle.ksm_pages.proofs.Names.{arith, subst, sym, ◌++◌, ◌≡◌}
+use Rattle.ksm_pages.proofs.Names.{append_assoc, arith, subst, sym, ◌++◌, ◌≡◌}
 use Rattle.std.specs.Prelude.{drop, take}
-use Rattle.std.proofs.lemmas.List.{append_assoc}
 use Rattle.ksm_pages.specs.Held.{IsPutAmong}
 use Rattle.ksm_pages.proofs.Sorting.{put_between}
 use Rattle.ksm_pages.proofs.restless.put_between.Goals as goal

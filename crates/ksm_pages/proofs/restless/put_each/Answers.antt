@@ -1,5 +1,4 @@
-use Rattle.ksm_pages.proofs.Names.{arith, get_or}
-use Rattle.ksm_pages.specs.declared.restless.Listed.{Listed}
+use Rattle.ksm_pages.proofs.Names.{arith, get_or, Listed}
 use Rattle.ksm_pages.proofs.Sorting.{put_here, taken_has}
 use Rattle.ksm_pages.proofs.restless.put_each.Goals as goal
 

@@ -1,10 +1,10 @@
-use Rattle.ksm_pages.proofs.Names.{after_cursor, Entry, false, filter, get, has_item, is_restless, length, Some, true, ℕ, ◌≡◌}
+use Rattle.ksm_pages.proofs.Names.{after_cursor, filter, length}
+use Rattle.ksm_pages.proofs.Gathering.{AreListedUpTo}
 use Rattle.ksm_pages.proofs.rows.gather.Given as goal
 
 -- the pages up to the last are listed
 abbrev pub invariant-loop-named : goal.invariant-loop-named
-invariant-loop-named l =
-    l.restless.known ≡ true → (key : ℕ) (e : Entry) → get l.entries key ≡ Some e → is_restless e ≡ true → after_cursor l.last e.page ≡ false → has_item e.page l.restless.pages ≡ true
+invariant-loop-named l = AreListedUpTo l.entries l.last l.restless
 
 -- how many are behind it
 abbrev pub decreases-loop-named : goal.decreases-loop-named

@@ -1,6 +1,4 @@
-use Rattle.ksm_pages.proofs.Names.{ap, arith, false, nat_tests, same_Some, sym, true, ◌∙◌, ◌≡◌, refl}
-use Rattle.std.proofs.lemmas.Result.{on_ok_weaker}
-use Rattle.ksm_pages.specs.Held.{is_in}
+use Rattle.ksm_pages.proofs.Names.{ap, arith, false, is_in, nat_tests, on_ok_weaker, refl, same_Some, sym, true, ◌∙◌, ◌≡◌}
 use Rattle.ksm_pages.specs.Unstable.{holder, Keeps}
 use Rattle.ksm_pages.proofs.Led.{led_entered, led_kept, led_written}
 use Rattle.ksm_pages.proofs.rows.lead_to.Goals as goal

@@ -1,4 +1,4 @@
-use Rattle.std.proofs.Common.{◌≡◌, Bool, drop, not, ℕ}
+use Rattle.std.proofs.Common.{Bool, drop, not, ℕ, ◌≡◌}
 use Rattle.std.specs.List.{list_any}
 use Rattle.ksm_pages.specs.Unstable.{is_led}
 use Rattle.ksm_pages.proofs.unstable.free_in.Given as goal

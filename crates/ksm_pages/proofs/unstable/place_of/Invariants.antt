@@ -1,4 +1,4 @@
-use Rattle.std.proofs.Common.{◌≡◌, drop}
+use Rattle.std.proofs.Common.{drop, ◌≡◌}
 use Rattle.ksm_pages.specs.Unstable.{digest}
 use Rattle.ksm_pages.proofs.unstable.place_of.Given as goal
 

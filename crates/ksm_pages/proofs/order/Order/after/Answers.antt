@@ -1,5 +1,4 @@
-use Rattle.ksm_pages.proofs.Names.{rules}
-use Rattle.ksm_tree.proofs.Alike.{find_mapped}
+use Rattle.ksm_pages.proofs.Names.{find_mapped, rules}
 use Rattle.ksm_pages.proofs.Ranked.{found_small}
 use Rattle.ksm_pages.proofs.order.Order.after.Goals as goal
 

@@ -1,5 +1,4 @@
-use Rattle.ksm_pages.proofs.Names.{arith, length, length-filter, pages_behind, rules, sym, visited, ◌-◌, ◌∙◌, ◌≡◌}
-use Rattle.std.proofs.lemmas.List.{length-drop}
+use Rattle.ksm_pages.proofs.Names.{arith, length, length-drop, length-filter, pages_behind, rules, sym, visited, ◌-◌, ◌∙◌, ◌≡◌}
 use Rattle.ksm_pages.proofs.Ranked.{get_dropped, small_at, some_at, visited_at, visited_many}
 use Rattle.ksm_pages.proofs.order.Order.ahead.Goals as goal
 use Rattle.ksm_pages.proofs.order.Order.ahead.Goals.{After-count}

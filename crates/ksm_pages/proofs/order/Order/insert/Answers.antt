@@ -1,5 +1,4 @@
-use Rattle.ksm_pages.proofs.Names.{All-append, All-cons, All-filter, ap, arith, find, is_of, length, map, Named, named_by, None, rules, true, with_named, ◌+◌, ◌<◌, ◌^◌, ◌≡◌}
-use Rattle.ksm_order.specs.declared.item.Item.{Item}
+use Rattle.ksm_pages.proofs.Names.{All-append, All-cons, All-filter, ap, arith, find, is_of, Item, length, map, Named, named_by, None, rules, true, with_named, ◌+◌, ◌<◌, ◌^◌, ◌≡◌}
 use Rattle.ksm_order.specs.Listed.{with_item}
 use Rattle.ksm_order.proofs.Places.{with_rises}
 use Rattle.ksm_pages.proofs.Ranked.{found_by, longer_by, put_its}

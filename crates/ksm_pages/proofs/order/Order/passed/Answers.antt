@@ -1,5 +1,4 @@
-use Rattle.ksm_pages.proofs.Names.{ap, arith, drop, filter_all, sym, visited, ◌∙◌}
-use Rattle.ksm_order.proofs.Parts.{up_to_few}
+use Rattle.ksm_pages.proofs.Names.{ap, arith, drop, filter_all, sym, up_to_few, visited, ◌∙◌}
 use Rattle.ksm_pages.proofs.Ranked.{behind_is, visited_many}
 use Rattle.ksm_pages.proofs.order.Order.passed.Goals as goal
 

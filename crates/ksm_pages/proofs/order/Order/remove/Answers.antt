@@ -1,7 +1,4 @@
-use Rattle.ksm_tree.proofs.Alike.{filter_mapped}
-use Rattle.ksm_pages.proofs.Names.{All-filter, ap, arith, find, is_some, length, ◌<◌, ◌^◌, ◌≡◌, true}
-use Rattle.std.proofs.lemmas.List.Kept.{AllPairs-filter}
-use Rattle.ksm_order.specs.declared.item.Item.{Item}
+use Rattle.ksm_pages.proofs.Names.{All-filter, AllPairs-filter, ap, arith, filter_mapped, find, is_some, Item, length, true, ◌<◌, ◌^◌, ◌≡◌}
 use Rattle.ksm_order.specs.Listed.{is_at}
 use Rattle.ksm_pages.proofs.Options.{some_mapped}
 use Rattle.ksm_pages.proofs.Ranked.{found_by, gone_one, is_its}

@@ -1,5 +1,5 @@
-use Rattle.ksm_pages.proofs.Names.{All, ap, ap₂, arith, count_by, counters_from, false, live_count, PagesValue, private_state, rows_of, states-add, subst, sym, tied_counted, true, ◌&&◌, ◌-◌, ◌∙◌, ◌≡◌}
-use Rattle.ksm_tree.specs.Dups.{rows_of as dup_rows}
+use Rattle.ksm_pages.proofs.Names.{All, ap, ap₂, arith, count_by, counters_from, dup_rows, false, live_count, PagesValue, private_state, rows_of, states-add, subst, sym, tied_counted, true, ◌&&◌, ◌-◌}
+use Rattle.ksm_pages.proofs.Names.{◌∙◌, ◌≡◌}
 use Rattle.ksm_pages.proofs.pages.Pages.counters.Goals as goal
 
 pub returns : goal.returns

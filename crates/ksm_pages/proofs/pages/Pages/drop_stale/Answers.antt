@@ -1,6 +1,5 @@
-use Rattle.ksm_pages.proofs.Names.{ap, arith, DupRow, DupsState, elsewhere, filter, frame_of, IsVacant, List, lodging, lodgings_of, PagesValue, rows_of, rows_without, rules, seen, subst, sym}
-use Rattle.ksm_pages.proofs.Names.{tied_pruned, ◌∙◌}
-use Rattle.ksm_tree.specs.Dups.{rows_of as dup_rows}
+use Rattle.ksm_pages.proofs.Names.{ap, arith, dup_rows, DupRow, DupsState, elsewhere, filter, frame_of, IsVacant, List, lodging, lodgings_of, PagesValue, rows_of, rows_without, rules, seen, subst}
+use Rattle.ksm_pages.proofs.Names.{sym, tied_pruned, ◌∙◌}
 use Rattle.ksm_pages.proofs.Dropping.{all_elsewhere, lodged_dropped, lone_dropped, stale_there}
 use Rattle.ksm_pages.proofs.Paging.{any_at}
 use Rattle.ksm_pages.proofs.Leaving.{view_of}

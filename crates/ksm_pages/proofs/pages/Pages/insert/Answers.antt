@@ -1,6 +1,5 @@
-use Rattle.ksm_pages.proofs.Names.{fresh_row, Held, Not, refl, rules, seen, Some}
-use Rattle.ksm_pages.proofs.Entering.{but_there, either_way, entered, lay_nowhere}
-use Rattle.std.proofs.lemmas.Result.{on_ok_weaker}
+use Rattle.ksm_pages.proofs.Names.{fresh_row, Held, Not, on_ok_weaker, refl, rules, seen, Some}
+use Rattle.ksm_pages.proofs.Turning.{but_there, either_way, entered, lay_nowhere}
 use Rattle.ksm_pages.proofs.Changing.{nothing_held}
 use Rattle.ksm_pages.proofs.Leaving.{held_as}
 use Rattle.ksm_pages.proofs.pages.Pages.insert.Goals as goal
@@ -31,6 +30,3 @@ returns-clause-others c =
 
 pub returns-clause-nowhere : goal.returns-clause-nowhere
 returns-clause-nowhere c = lay_nowhere c.self.inside c.self.invariant c.self.view_is (fresh c) c.requires
-
-pub returns-clause-refused : goal.returns-clause-refused
-returns-clause-refused c = search rules

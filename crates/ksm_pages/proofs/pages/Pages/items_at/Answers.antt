@@ -1,5 +1,4 @@
-use Rattle.ksm_pages.proofs.Names.{ap, dup_at, is_some, items_in, items_of, option_map, rows_of, Some, sym, ◌∙◌, ◌≡◌, live_at}
-use Rattle.ksm_tree.proofs.Numbers.{on_err}
+use Rattle.ksm_pages.proofs.Names.{ap, dup_at, is_some, items_in, items_of, live_at, on_err, option_map, rows_of, Some, sym, ◌∙◌, ◌≡◌}
 use Rattle.ksm_pages.proofs.Options.{some_mapped}
 use Rattle.ksm_pages.proofs.Paging.{items_none, items_there}
 use Rattle.ksm_pages.proofs.pages.Pages.items_at.Goals as goal

@@ -1,4 +1,4 @@
-use Rattle.ksm_pages.proofs.Names.{rules, sym, tied_absent, ◌∙◌, true≢false}
+use Rattle.ksm_pages.proofs.Names.{rules, sym, tied_absent, true≢false, ◌∙◌}
 use Rattle.ksm_pages.proofs.Joined.{joins, own_not_merged, own_seat, room_found, told_joined}
 use Rattle.ksm_pages.proofs.Leaving.{alone_found, lies, row_there}
 use Rattle.ksm_pages.proofs.pages.Pages.join.Goals as goal

@@ -1,4 +1,4 @@
-use Rattle.ksm_pages.proofs.Names.{changed, refl, Row, seen, settled, false, arith}
+use Rattle.ksm_pages.proofs.Names.{arith, changed, false, refl, Row, seen, settled}
 use Rattle.ksm_base.specs.Apply.{let_go as as_let_go}
 use Rattle.ksm_pages.proofs.Leaving.{Comes, held_as}
 use Rattle.ksm_pages.proofs.Turning.{own_left, rested}

@@ -1,4 +1,4 @@
-use Rattle.ksm_pages.proofs.Names.{arith, rules, refl, Some, let_go}
+use Rattle.ksm_pages.proofs.Names.{arith, let_go, refl, rules, Some}
 use Rattle.ksm_pages.proofs.Leaving.{held_as}
 use Rattle.ksm_pages.proofs.Turning.{HasLeft, known_left, lay, moved}
 use Rattle.ksm_pages.proofs.pages.Pages.let_go_on.Goals as goal

@@ -1,6 +1,5 @@
-use Rattle.ksm_pages.proofs.Names.{ap, arith, choice_alike, choice_exists, PagesValue, place_count, rows_of, subst, sym, tied_counted, ◌<◌, ◌∙◌}
+use Rattle.ksm_pages.proofs.Names.{ap, arith, choice_alike, choice_exists, dup_rows, PagesValue, place_count, rows_of, subst, sym, tied_counted, ◌<◌, ◌∙◌}
 use Rattle.ksm_base.specs.Visit.{new_place as place_of_new}
-use Rattle.ksm_tree.specs.Dups.{rows_of as dup_rows}
 use Rattle.ksm_pages.proofs.pages.Pages.new_place.Goals as goal
 
 pub choose_place-requires : goal.choose_place-requires

@@ -1,5 +1,4 @@
-use Rattle.ksm_pages.proofs.Names.{arith, refl, Some, rules}
-use Rattle.ksm_pages.specs.Paged.{on_its_own}
+use Rattle.ksm_pages.proofs.Names.{arith, on_its_own, refl, rules, Some}
 use Rattle.ksm_pages.proofs.Leaving.{held_as}
 use Rattle.ksm_pages.proofs.Turning.{HasLeft, known_left, lay, moved}
 use Rattle.ksm_pages.proofs.pages.Pages.resettle.Goals as goal

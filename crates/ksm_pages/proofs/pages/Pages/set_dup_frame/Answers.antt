@@ -1,6 +1,6 @@
 use Rattle.ksm_pages.proofs.Names.{ap, AreDups, arith, Frames, Inside, length, list_any, PagesValue, rules, seen, sym, true, ℕ, ◌<◌, ◌==◌, ◌∙◌, ◌≡◌}
 use Rattle.ksm_pages.proofs.Leaving.{AreLawful, view_of}
-use Rattle.ksm_pages.proofs.Moving.{any_below, items_moved}
+use Rattle.ksm_pages.proofs.Dropping.{any_below, items_moved}
 use Rattle.ksm_pages.proofs.pages.Pages.set_dup_frame.Goals as goal
 
 -- a dup has a frame at its place

@@ -1,5 +1,4 @@
-use Rattle.ksm_pages.proofs.Names.{arith, changed, refl, seen, settled, rules}
-use Rattle.ksm_pages.specs.Paged.{on_its_own}
+use Rattle.ksm_pages.proofs.Names.{arith, changed, on_its_own, refl, rules, seen, settled}
 use Rattle.ksm_pages.proofs.Leaving.{Comes, held_as}
 use Rattle.ksm_pages.proofs.Turning.{own_left, rested}
 use Rattle.ksm_pages.proofs.pages.Pages.stop_waiting.Goals as goal

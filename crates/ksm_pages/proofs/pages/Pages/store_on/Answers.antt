@@ -1,5 +1,4 @@
-use Rattle.ksm_pages.proofs.Names.{arith, refl, relaid, seen, Some, stored}
-use Rattle.ksm_pages.specs.declared.row.InTree.TheVariants.{Not}
+use Rattle.ksm_pages.proofs.Names.{arith, Not, refl, relaid, seen, Some, stored}
 use Rattle.ksm_pages.proofs.Leaving.{Comes, held_as}
 use Rattle.ksm_pages.proofs.Turning.{HasLeft, known_left, lay, moved}
 use Rattle.ksm_pages.proofs.pages.Pages.store_on.Goals as goal

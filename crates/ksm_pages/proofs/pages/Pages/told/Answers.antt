@@ -1,5 +1,4 @@
-use Rattle.ksm_pages.proofs.Names.{arith, held_of, lodging, refl, rules}
-use Rattle.ksm_tree.specs.Dups.{rows_of as dup_rows}
+use Rattle.ksm_pages.proofs.Names.{arith, dup_rows, held_of, lodging, refl, rules}
 use Rattle.ksm_pages.proofs.Lodgings.{frame_by}
 use Rattle.ksm_pages.proofs.Changing.{row_told}
 use Rattle.ksm_pages.proofs.pages.Pages.told.Goals as goal

@@ -1,6 +1,5 @@
-use Rattle.ksm_pages.proofs.Resting.{settled_again}
-use Rattle.ksm_tree.proofs.Alike.{map_alike}
-use Rattle.ksm_pages.proofs.Names.{ap, arith, false, map, on_row, refl, Row, seen, settled, ◌∙◌}
+use Rattle.ksm_pages.proofs.Names.{ap, arith, false, map, map_alike, on_row, refl, Row, seen, settled, ◌∙◌}
+use Rattle.ksm_pages.proofs.Changing.{settled_again}
 use Rattle.ksm_pages.proofs.Leaving.{Comes, held_as}
 use Rattle.ksm_pages.proofs.Turning.{still}
 use Rattle.ksm_pages.proofs.pages.Pages.unshare_all.Goals as goal

@@ -1,5 +1,5 @@
 use Rattle.ksm_pages.proofs.Names.{arith}
-use Rattle.ksm_pages.proofs.Beside.{merged_beside}
+use Rattle.ksm_pages.proofs.Partners.{merged_beside}
 use Rattle.ksm_pages.proofs.pages.Pages.waiting_beside.Goals as goal
 
 pub returns-in_err-other-in-Merged : goal.returns-in_err-other-in-Merged

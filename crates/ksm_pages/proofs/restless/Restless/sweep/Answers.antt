@@ -1,6 +1,4 @@
-use Rattle.ksm_pages.proofs.Names.{AllPairs-filter, filter, filter_same, has_item, pages_of, rules, ◌<◌, ◌^◌, ◌∙◌, ◌≡◌}
-use Rattle.std.proofs.lemmas.List.Elements.{All-filter}
-use Rattle.ksm_pages.specs.declared.restless.Listed.{Listed}
+use Rattle.ksm_pages.proofs.Names.{All-filter, AllPairs-filter, filter, filter_same, has_item, Listed, pages_of, rules, ◌<◌, ◌^◌, ◌∙◌, ◌≡◌}
 use Rattle.ksm_pages.proofs.Spots.{stays, swept_beside, Up}
 use Rattle.ksm_pages.proofs.restless.Restless.sweep.Goals as goal
 

@@ -1,9 +1,6 @@
-use Rattle.std.specs.Fn.{FnOnceReturnsAtMut}
-use Rattle.ksm_pages.specs.Unstable.{AreLed}
-use Rattle.ksm_pages.proofs.Names.{arith, inl, inr, IsAddedTo, is_restless, IsRows, Listing, marked, refl, rules, true, with_value, ◌≡◌, ◌⊎◌}
+use Rattle.ksm_pages.proofs.Names.{AreLed, arith, FnOnceReturnsAtMut, inl, inr, is_restless, IsAddedTo, IsMade, IsRows, Listing, marked, refl, rules, true, with_value, ◌≡◌, ◌⊎◌}
 use Rattle.ksm_pages.proofs.Writing.{can_be, kept_mark, led_so, still, viewed}
 use Rattle.ksm_pages.proofs.Filing.{view_of}
-use Rattle.ksm_pages.specs.Filed.{IsMade}
 use Rattle.ksm_pages.proofs.rows.Rows.change.Goals as goal
 use Rattle.ksm_pages.proofs.rows.Rows.change.Goals.{After-len-rows, else-is-was, then-is-was}
 

@@ -1,5 +1,4 @@
-use Rattle.ksm_pages.proofs.Names.{ap, map, refl, RowsView, rules, ◌∙◌}
-use Rattle.ksm_pages.specs.Held.{out_of_tree}
+use Rattle.ksm_pages.proofs.Names.{ap, map, out_of_tree, refl, RowsView, rules, ◌∙◌}
 use Rattle.ksm_pages.proofs.Led.{none_led}
 use Rattle.ksm_pages.proofs.Settling.{out, out_seen, retained_all}
 use Rattle.ksm_pages.proofs.rows.Rows.clear_tree.Goals as goal

@@ -1,5 +1,4 @@
-use Rattle.ksm_pages.proofs.Names.{ap, arith, Entry, inr, is_some, refl, rules, sym, Updates-with_value, with_value, ◌∙◌}
-use Rattle.ksm_pages.specs.Held.{in_tree_by, is_in, waiting_in}
+use Rattle.ksm_pages.proofs.Names.{ap, arith, Entry, in_tree_by, inr, is_in, is_some, refl, rules, sym, Updates-with_value, waiting_in, with_value, ◌∙◌}
 use Rattle.ksm_pages.proofs.Led.{free_none, led_by_group}
 use Rattle.ksm_pages.proofs.Writing.{can_be, kept_mark, of_page, own_there, row_there, still, viewed, waits_now}
 use Rattle.ksm_pages.proofs.rows.Rows.enter.Goals as goal

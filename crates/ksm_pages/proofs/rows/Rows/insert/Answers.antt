@@ -1,6 +1,4 @@
-use Rattle.ksm_pages.proofs.Names.{arith, Entry, false, get, None, refl, rules, Some, true, ◌≡◌}
-use Rattle.slab.specs.Slab.{Updates as Fills}
-use Rattle.ksm_pages.specs.declared.row.InTree.TheVariants.{Not}
+use Rattle.ksm_pages.proofs.Names.{arith, Entry, false, Fills, get, None, Not, refl, rules, Some, true, ◌≡◌}
 use Rattle.ksm_pages.specs.declared.row.Kind.TheVariants as kinds
 use Rattle.ksm_pages.proofs.Led.{led_out}
 use Rattle.ksm_pages.proofs.Writing.{filled, no_name, rests_now, still_put, viewed_put}

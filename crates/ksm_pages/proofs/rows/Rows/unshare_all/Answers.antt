@@ -1,5 +1,4 @@
-use Rattle.ksm_pages.proofs.Names.{ap, false, map, on_row, refl, RowsView, rules, settled, ◌∙◌}
-use Rattle.ksm_tree.proofs.Alike.{map_mapped}
+use Rattle.ksm_pages.proofs.Names.{ap, false, map, map_mapped, on_row, refl, RowsView, rules, settled, ◌∙◌}
 use Rattle.ksm_pages.proofs.Led.{led_mapped}
 use Rattle.ksm_pages.proofs.Settling.{plain, plain_seen, retained_all}
 use Rattle.ksm_pages.proofs.rows.Rows.unshare_all.Goals as goal

@@ -1,4 +1,4 @@
-use Rattle.std.proofs.Common.{ap, arith, inl, inr, refl, rules, sym, ℕ, List, ◌∙◌, ◌≡◌}
+use Rattle.std.proofs.Common.{ap, arith, inl, inr, List, refl, rules, sym, ℕ, ◌∙◌, ◌≡◌}
 use Rattle.std.proofs.lemmas.Option.{slice_get_read}
 use Rattle.ksm_tree.proofs.Names.{BTreeMap}
 use Rattle.ksm_tree.specs.Numbered.{number_of}

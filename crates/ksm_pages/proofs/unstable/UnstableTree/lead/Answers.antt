@@ -6,7 +6,7 @@ use Rattle.std.specs.Prelude.{bytes_eq, ◌&&◌, ◌==◌}
 use Rattle.ksm_tree.proofs.Names.{BTreeMap}
 use Rattle.ksm_tree.specs.Numbered.{number_of}
 use Rattle.ksm_tree.specs.declared.content.Content.{Content}
-use Rattle.ksm_pages.proofs.Leading.{beside_keeps, beside_leads, put_keeps, put_leads, IsAs, same_tree, untouched}
+use Rattle.ksm_pages.proofs.Leading.{beside_keeps, beside_leads, IsAs, put_keeps, put_leads, same_tree, untouched}
 use Rattle.ksm_pages.specs.Unstable.{is_led, keys_at, place}
 use Rattle.ksm_pages.proofs.unstable.UnstableTree.lead.Goals as goal
 use Rattle.ksm_pages.proofs.unstable.UnstableTree.lead.Goals.{in-Some+in_default-free_in, in_default}
