@@ -1,20 +1,14 @@
--- What is asked of the pages: the place of a page's dup, and the first page after a cursor.
-use Rattle.ksm_pages.proofs.Names.{after_cursor, ap, arith, Bool, comes_before, dup_rows, each_at_page, Entry, false, filter_passes, find, find-append, find_all, find_none, find_nothing, find_passes}
-use Rattle.ksm_pages.proofs.Names.{get_or, GuestPage, held_at, held_of, InPageOrder, Inside, is_next, IsHeld, Kind, List, None, none-some, of_guest, Option, option_map, pages_ordered, PagesValue}
-use Rattle.ksm_pages.proofs.Names.{place_of, Row, row_at, rows_of, same_page_eq, seen, Some, state_of, sym, true, ℕ, ◌∙◌, ◌≡◌, ◌≤◌}
+-- What is asked of the pages: the first page after a cursor.
+use Rattle.ksm_pages.proofs.Names.{after_cursor, ap, arith, Bool, comes_before, each_at_page, false, filter_passes, find, find-append, find_all, find_none, find_nothing, find_passes}
+use Rattle.ksm_pages.proofs.Names.{get_or, GuestPage, InPageOrder, Inside, is_next, IsHeld, List, None, none-some, of_guest, Option, option_map, pages_ordered, PagesValue}
+use Rattle.ksm_pages.proofs.Names.{Row, row_at, rows_of, same_page_eq, seen, Some, sym, true, ℕ, ◌∙◌, ◌≡◌, ◌≤◌}
 use Rattle.ksm_pages.proofs.Options.{mapped_some, none_mapped}
 use Rattle.ksm_pages.proofs.Found.{find_narrower, first_found}
 use Rattle.std.proofs.lemmas.Bool.{false_from_ne_true}
 use Rattle.ksm_order.proofs.Ordered.{found_parts}
-use Rattle.std.specs.Prelude.{IfSome, MatchOption, option_and_then}
+use Rattle.std.specs.Prelude.{IfSome, MatchOption}
 use Rattle.ksm_pages.specs.declared.pages.Held.{Held as Told}
-use Rattle.ksm_pages.proofs.Leaving.{AreLawful, row_seen, view_of}
-
--- the place of the dup of a page is what the state of its entry says
-pub ticket_told : (s : Inside) {p : PagesValue} → view_of s ≡ p → {page known : GuestPage} → known ≡ page → (e : Entry)
-    → held_at known s.rows.held ≡ Some (held_of s.rows.pass e) → {kind : Kind} → e.kind ≡ kind
-    → place_of (state_of s.rows.pass (record e { kind = kind })) (dup_rows s.dups.dups) ≡ option_and_then (λ r. place_of r.state p.dups) (row_at page p.rows)
-ticket_told s {p} seen_as {page} at e found is = grind (arith, row_seen)
+use Rattle.ksm_pages.proofs.Leaving.{AreLawful, view_of}
 
 -- where no row in front of a page passes, and that of the page does, that is the first that passes, if it is there
 pub first_at : (next : Row → Bool) (page : GuestPage) → ((r : Row) → r.page ≡ page → next r ≡ true)

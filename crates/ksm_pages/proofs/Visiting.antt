@@ -30,12 +30,6 @@ finds_row : (s : Inside) {p : PagesValue} → view_of s ≡ p → (page : GuestP
     → (new : PagesView) (what : Find) → FindsAt (seen p) new h.row what → Finds (seen p) new page what
 finds_row s {p} seen_as page found new what is = rw (row_seen s seen_as _ found) is
 
--- a row that no visit may change is found gone
-pub finds_gone : (s : Inside) {p : PagesValue} → view_of s ≡ p → (page : GuestPage) (e : Entry)
-    → held_at page s.rows.held ≡ Some (held_of s.rows.pass e)
-    → is_restless_entry e ≡ false → Finds (seen p) (seen p) page finds.Gone
-finds_gone s seen_as page e found calm = search (rules, finds_row, restless_as)
-
 -- a row that a visit may change has a frame of its own
 pub is_alone : (s : Inside) → AreLawful s → (page : GuestPage) (e : Entry) → held_at page s.rows.held ≡ Some (held_of s.rows.pass e)
     → is_restless_entry e ≡ true → IsAlone page (rows_of s.rows.held)

@@ -122,6 +122,7 @@ impl Pages {
     }
 
     /// The place of the dup into which a page is merged; none where it is not merged.
+    #[tactic(auto, using(crate::proofs::Leaving::row_seen, crate::proofs::Paging::place_numbered))]
     pub fn ticket(&self, page: GuestPage) -> Option<u32>
         ensures { result ≡ option_and_then (λ r. place_of r.state self.now.dups) (row_at page self.now.rows) }
     {

@@ -1,10 +1,7 @@
-use Rattle.ksm_pages.proofs.Names.{arith, dup_rows, held_of, lodging, refl, rules}
+use Rattle.ksm_pages.proofs.Names.{arith, dup_rows, held_of, lodging, refl}
 use Rattle.ksm_pages.proofs.Lodgings.{frame_by}
 use Rattle.ksm_pages.proofs.Changing.{row_told}
 use Rattle.ksm_pages.proofs.pages.Pages.told.Goals as goal
-
-pub returns-in_err-spot : goal.returns-in_err-spot
-returns-in_err-spot c = search (rules, row_told)
 
 pub returns : goal.returns
 returns c =

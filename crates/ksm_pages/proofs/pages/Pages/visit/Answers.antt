@@ -1,16 +1,10 @@
 use Rattle.ksm_pages.proofs.Names.{ap, arith, changed, held_of, inl, inr, on_err, Private, refl, Row, rules, same_page_eq, seen, settled, Some, sym, true, ◌∙◌, ◌≡◌}
-use Rattle.ksm_pages.proofs.Leaving.{Comes, held_as, row_seen, view_of}
+use Rattle.ksm_pages.proofs.Leaving.{Comes, held_as, view_of}
 use Rattle.ksm_pages.proofs.Turning.{own_left, rested}
-use Rattle.ksm_pages.proofs.Visiting.{alone, asked, entered_not, entered_then, entered_waits, enters, enters_for, enters_restless, finds_changed, finds_dup, finds_gone, finds_partner, finds_zero}
+use Rattle.ksm_pages.proofs.Visiting.{alone, asked, entered_not, entered_then, entered_waits, enters, enters_for, enters_restless, finds_changed, finds_dup, finds_partner, finds_zero}
 use Rattle.ksm_pages.proofs.Visiting.{is_alone, lone_none, MayEnter, met, none_told, told_best}
 use Rattle.ksm_pages.proofs.pages.Pages.visit.Goals as goal
 use Rattle.ksm_pages.proofs.pages.Pages.visit.Goals.{After-enter-arg-1, in-Some-in_tree+else-ne, in-Some-in_tree+then-ne+else-waits, in_default-in_tree}
-
-pub returns-in_default-clause-found : goal.returns-in_default-clause-found
-returns-in_default-clause-found c = grind (arith, row_seen)
-
-pub returns-then-not-is_restless-clause-found : goal.returns-then-not-is_restless-clause-found
-returns-then-not-is_restless-clause-found c = search (rules, finds_gone)
 
 pub group_with_best-group-requires : goal.group_with_best-group-requires
 group_with_best-group-requires c =

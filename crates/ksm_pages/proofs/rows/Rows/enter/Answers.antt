@@ -30,7 +30,7 @@ invariant_of-self-2 c =
     let stood = c.index_mut-entry.ensures.value in
     let own = own_there s c.self.invariant.0 there stood c.self.view_is c.requires.own in
     let led = ap is_in c.in_tree_by-entry.ensures ∙ led_by_group c.args.group in (
-      still s c.self.invariant.0 there stood c.self.view_is (later c) (kept_mark s c.self.invariant.0 there stood _ refl)
+      still s c.self.invariant.0 there stood c.self.view_is (later c) (search (rules, kept_mark))
           (refl, λ _ own. grind arith) c.state_alone-old.ensures (sym (waits_now s.pass (later c) own refl led)) c.change.ensures
           (inr (refl, λ may. may)),
       c.in_ok-lead_to.ensures.leads c.index_mut-entry.result.now (later c) (with_value s.entries c.in-Some.key (later c)) stood
@@ -44,6 +44,6 @@ returns-clause-waits c =
     let stood = c.index_mut-entry.ensures.value in
     let own = own_there s c.self.invariant.0 there stood c.self.view_is c.requires.own in
     let led = ap is_in c.in_tree_by-entry.ensures ∙ led_by_group c.args.group in
-    viewed s c.self.invariant.0 there stood c.self.view_is (later c) (kept_mark s c.self.invariant.0 there stood _ refl)
+    viewed s c.self.invariant.0 there stood c.self.view_is (later c) (search (rules, kept_mark))
     (refl, λ _ own. grind arith) (waiting_in (in_tree_by c.args.group))
     (λ _. grind (arith, waits_now s.pass (later c) own refl led, c.in_tree_by-entry.ensures))

@@ -8,7 +8,7 @@ invariant_of-self c =
     let there = c.in-Some.ensures.there in
     let stood = c.index_mut.ensures.value in
     let entry = record c.index_mut.result.now { at = c.args.frame } in (
-      still s c.self.invariant.0 there stood c.self.view_is entry (kept_mark s c.self.invariant.0 there stood _ refl)
+      still s c.self.invariant.0 there stood c.self.view_is entry (search (rules, kept_mark))
           (refl, λ fits. fits) refl refl (search rules) (inr (refl, λ may. may)),
       led_so s c.self.invariant.0 there stood c.self.invariant.1 entry (λ led. (led, refl, refl)),
     )
@@ -19,5 +19,5 @@ returns c =
     let there = c.in-Some.ensures.there in
     let stood = c.index_mut.ensures.value in
     let entry = record c.index_mut.result.now { at = c.args.frame } in
-    viewed s c.self.invariant.0 there stood c.self.view_is entry (kept_mark s c.self.invariant.0 there stood _ refl)
+    viewed s c.self.invariant.0 there stood c.self.view_is entry (search (rules, kept_mark))
     (refl, λ fits. fits) _ (λ _. grind (arith, own_there))

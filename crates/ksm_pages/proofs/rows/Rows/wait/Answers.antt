@@ -17,7 +17,7 @@ invariant_of-self c =
     let stood = c.index_mut-entry.ensures.value in
     let own = own_there s c.self.invariant.0 there stood c.self.view_is c.requires.own in
     let led = led_there s c.self.invariant.0 there stood c.self.view_is c.requires.led in (
-      still s c.self.invariant.0 there stood c.self.view_is (later c) (kept_mark s c.self.invariant.0 there stood _ refl)
+      still s c.self.invariant.0 there stood c.self.view_is (later c) (search (rules, kept_mark))
           (refl, λ _ own. grind arith) c.state_alone-old.ensures
           (sym (waits_now s.pass (later c) own refl led)) c.change.ensures (inr (refl, λ may. may)),
       led_so s c.self.invariant.0 there stood c.self.invariant.1 (later c) (λ led. (led, refl, refl)),
@@ -30,5 +30,5 @@ returns c =
     let stood = c.index_mut-entry.ensures.value in
     let own = own_there s c.self.invariant.0 there stood c.self.view_is c.requires.own in
     let led = led_there s c.self.invariant.0 there stood c.self.view_is c.requires.led in
-    viewed s c.self.invariant.0 there stood c.self.view_is (later c) (kept_mark s c.self.invariant.0 there stood _ refl)
+    viewed s c.self.invariant.0 there stood c.self.view_is (later c) (search (rules, kept_mark))
     (refl, λ _ own. grind arith) _ (λ _. grind (arith, waits_now s.pass (later c) own refl led))
