@@ -14,7 +14,7 @@ use Rattle.ksm_tree.proofs.Numbering.{told_equal}
 use Rattle.ksm_tree.proofs.Rows.{eq_bytes}
 use Rattle.ksm_tree.specs.Numbered.{content_of, content_order, number_of}
 use Rattle.ksm_tree.specs.declared.content.Content.{Content}
-use Rattle.ksm_pages.specs.Unstable.{digest, found_or, holder, if_passes, in_place, is_led, Keeps, keys_at, LeadsTo, other_holder, place, stands_under, turned}
+use Rattle.ksm_pages.specs.Unstable.{digest, found_or, holder, if_passes, in_place, is_led, Keeps, KeepsOthers, keys_at, LeadsTo, other_holder, place, stands_under, turned}
 use Rattle.ksm_pages.specs.declared.row.Entry.{Entry}
 use Rattle.ksm_pages.specs.declared.unstable.TheConstants.{NO_KEY, SPREAD}
 use Rattle.ksm_pages.specs.declared.unstable.UnstableTree.{UnstableTree}
@@ -166,8 +166,7 @@ module _ (old : UnstableTree) (at : ℕ) (keys : List ℕ) (i key : ℕ)
 
 -- the places are as they were, and one content has another number, or none
 module _ (old new : UnstableTree) (same : new.places.items ≡ old.places.items) (tree : ℕ) (bytes : List ℕ)
-    (others : (t : ℕ) (b : List ℕ) → (t == tree && bytes_eq b bytes) ≡ false
-    → number_of t b new.others.entries ≡ number_of t b old.others.entries) where
+    (others : KeepsOthers tree bytes old new) where
   -- the tree leads from each other content as before
   elsewhere_same : (by_node : Bool) (slab : Slab Entry) (t : ℕ) (b : List ℕ) → (t == tree && bytes_eq b bytes) ≡ false
       → holder by_node slab new t b ≡ holder by_node slab old t b

@@ -82,10 +82,6 @@ module _ (slab later : Slab Entry) (g : Entry → Entry) (slots : later.slots �
 
 module _ (by_node : Bool) (slab later : Slab Entry) (key : ℕ) (d e : Entry) (stood : get slab key ≡ Some d)
     (fills : Fills slab later key (Some e)) (old new : UnstableTree) (led : AreLed by_node slab old) where
-  -- another entry than that under the key stood before
-  stood_before : {k : ℕ} {f : Entry} → get later k ≡ Some f → k ≢ key → get slab k ≡ Some f
-  stood_before is apart = sym (fills.others _ apart) ∙ is
-
   -- where an entry came to be in the tree, and that leads to it, and to all others as before, it leads to all that are in it
   pub led_entered : holder by_node slab old (tree_by by_node d.home) d.bytes ≡ None → e.home ≡ d.home → e.bytes ≡ d.bytes
       → is_in e.in_tree ≡ true → nat_lt key GONE ≡ true
@@ -99,7 +95,7 @@ module _ (by_node : Bool) (slab later : Slab Entry) (key : ℕ) (d e : Entry) (s
         (λ i. holder by_node later new (tree_by by_node ((ap (λ (x : Entry). x.home) at ∙ home) i)) ((ap (λ (x : Entry). x.bytes) at ∙ bytes) i))
         ∙ there ∙ ap Some (sym same)
     | inr apart ↦
-        let was = led k f (stood_before is apart) in_f in
+        let was = led k f (sym (fills.others k apart) ∙ is) in_f in
         let kept = keeps (tree_by by_node f.home) f.bytes k was in
         holder_less by_node slab new (tree_by by_node f.home) f.bytes kept later (less (tree_by by_node f.home) f.bytes k was)
         (grind (arith, holder_stands by_node slab new (tree_by by_node f.home) f.bytes kept, fills.others k apart))

@@ -30,11 +30,6 @@ finds_row : (s : Inside) {p : PagesValue} → view_of s ≡ p → (page : GuestP
     → (new : PagesView) (what : Find) → FindsAt (seen p) new h.row what → Finds (seen p) new page what
 finds_row s {p} seen_as page found new what is = rw (row_seen s seen_as _ found) is
 
--- a row that a visit may change has a frame of its own
-pub is_alone : (s : Inside) → AreLawful s → (page : GuestPage) (e : Entry) → held_at page s.rows.held ≡ Some (held_of s.rows.pass e)
-    → is_restless_entry e ≡ true → IsAlone page (rows_of s.rows.held)
-is_alone s are page e found restless = rw (row_there s are page found) (grind (arith, restless_as s.rows.pass e))
-
 -- ---------------------------------------------------------------- a row that is asked
 
 -- a visit may change the row of a page
@@ -75,6 +70,10 @@ module _ {s : Inside} {p : PagesValue} {page : GuestPage} {e : Entry} (it : IsAs
   -- a row that is asked has a frame of its own
   pub alone : shared_state row.state ≡ false
   alone = grind (arith, may)
+
+  -- and so it is seen among the rows
+  pub alone_there : IsAlone page before
+  alone_there = rw there alone
 
   finds_at : (new : PagesView) (what : Find) → FindsAt (seen p) new row what → Finds (seen p) new page what
   finds_at = finds_row s it.seen_as _ it.found

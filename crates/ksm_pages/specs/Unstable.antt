@@ -77,6 +77,11 @@ abbrev pub Keeps : Bool → Slab Entry → UnstableTree → UnstableTree → Typ
 Keeps by_node slab old new =
     (t : ℕ) (b : List ℕ) (key : ℕ) → holder by_node slab old t b ≡ Some key → holder by_node slab new t b ≡ Some key
 
+-- each content but one has the number that it had
+abbrev pub KeepsOthers : ℕ → List ℕ → UnstableTree → UnstableTree → Type 0
+KeepsOthers tree bytes old new = (t : ℕ) (b : List ℕ) → (t == tree && bytes_eq b bytes) ≡ false
+    → number_of t b new.others.entries ≡ number_of t b old.others.entries
+
 -- once the entry under a key has a tree and bytes, from which the tree led to none, the tree leads to it
 abbrev pub LeadsTo : Slab Entry → UnstableTree → UnstableTree → ℕ → List ℕ → ℕ → Type 0
 LeadsTo slab old new tree bytes key = (by_node : Bool) (later : Slab Entry) → holder by_node slab old tree bytes ≡ None

@@ -361,6 +361,7 @@ impl Rows {
     }
 
     /// The row of a page goes, if it has one.
+    #[tactic(auto, using(crate::proofs::Options::some_mapped, crate::proofs::Writing::nothing_gone, crate::proofs::Writing::viewed_gone))]
     pub fn remove(&mut self, spot: Spot)
         ensures { self.new ≡ record self.old { held = without_held spot.page self.old.held } }
     {

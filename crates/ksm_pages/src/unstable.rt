@@ -5,10 +5,10 @@
 //! contents that are dear to find, and a page that waits takes some twenty bytes here.
 
 ghost use Rattle.std.specs.List.{list_any};
-ghost use Rattle.std.specs.Prelude.{◌≡◌, ◌⊎◌, ◌<◌, ℕ, Bool, List, [], None, Some, IfErr, IfSome, OnErr, OnOk, bytes_eq, false};
-ghost use Rattle.std.specs.Prelude.{find, not, slice_index_or, ◌&&◌, ◌==◌};
+ghost use Rattle.std.specs.Prelude.{◌≡◌, ◌⊎◌, ◌<◌, ℕ, Bool, List, [], None, Some, IfErr, IfSome, OnErr, OnOk, false};
+ghost use Rattle.std.specs.Prelude.{find, not, slice_index_or};
 ghost use Rattle.ksm_pages.specs.Held.{tree_by as tree_of_home};
-ghost use Rattle.ksm_pages.specs.Unstable.{Keeps, LeadsTo, holder, is_led, other_holder, place};
+ghost use Rattle.ksm_pages.specs.Unstable.{Keeps, KeepsOthers, LeadsTo, holder, is_led, other_holder, place};
 ghost use Rattle.ksm_pages.specs.Unstable.{stands_under, turned as halves_turned};
 ghost use Rattle.ksm_tree.specs.Numbered.{number_of};
 
@@ -233,8 +233,7 @@ impl UnstableTree {
     fn lead_beside(&mut self, tree: u32, bytes: &PageBytes, key: u32) -> Result<(), Fault>
         ensures places { self.new.places.items ≡ self.old.places.items }
         ensures here { OnOk result (number_of tree bytes.now self.new.others.entries ≡ Some key) }
-        ensures others { (t : ℕ) (b : List ℕ) → (t == tree && bytes_eq b bytes.now) ≡ false
-            → number_of t b self.new.others.entries ≡ number_of t b self.old.others.entries }
+        ensures others { KeepsOthers tree bytes.now self.old self.new }
         ensures kept { OnErr result (self.new.others.entries ≡ self.old.others.entries) }
         ensures memory { IfErr result (λ fault. fault ≡ Fault.Memory) }
     {
@@ -268,8 +267,7 @@ impl UnstableTree {
         ensures places { self.new.places.items ≡ self.old.places.items }
         ensures gone { number_of tree bytes.now self.old.others.entries ≡ Some key
             ⊎ (self.new.others.entries ≡ self.old.others.entries) }
-        ensures others { (t : ℕ) (b : List ℕ) → (t == tree && bytes_eq b bytes.now) ≡ false
-            → number_of t b self.new.others.entries ≡ number_of t b self.old.others.entries }
+        ensures others { KeepsOthers tree bytes.now self.old self.new }
     {
         let content = Content {
             tree,

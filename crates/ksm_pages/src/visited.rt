@@ -1,6 +1,6 @@
 //! What a visit of the scan finds, and what becomes of the page that is visited: it joins a dup, makes one with another
 //! page, becomes Zero, or waits.
-#![tactic(auto, using(crate::proofs::Gathering::restless_as, crate::proofs::Leaving::row_seen, crate::proofs::Visiting::none_best))]
+#![tactic(auto, using(crate::proofs::Leaving::row_seen, crate::proofs::Visiting::none_best))]
 
 ghost use Rattle.std.specs.Prelude.{◌≡◌, true, false, None, Some, Err, All, ◌==◌, ◌&&◌, IfNone, IfOk, IsTrue, OnOk, OnErr, option_map};
 ghost use Rattle.ksm_base.specs.declared.fault.Fault.TheVariants.{Memory};

@@ -1,9 +1,15 @@
 use Rattle.ksm_pages.proofs.Names.{arith, changed, held_of, None, on_row, refl, same_page_refl, seen, Waiting, ◌≡◌}
-use Rattle.ksm_pages.proofs.Leaving.{Comes, held_as}
+use Rattle.ksm_pages.proofs.Gathering.{restless_as}
+use Rattle.ksm_pages.proofs.Leaving.{Comes, held_as, row_seen}
 use Rattle.ksm_pages.proofs.Partners.{held_led, partner_is}
 use Rattle.ksm_pages.proofs.Visiting.{asked, best, finds_waits, IsAsked, lone_none, waits_then}
 use Rattle.ksm_pages.proofs.pages.Pages.glance.Goals as goal
 use Rattle.ksm_pages.proofs.pages.Pages.glance.Goals.{After-wait}
+
+pub returns-then-not-is_restless-clause-gone : goal.returns-then-not-is_restless-clause-gone
+returns-then-not-is_restless-clause-gone c =
+    let found = row_seen c.self.inside c.self.view_is c.args.spot.page c.in-Some.ensures in
+    grind (arith, found, restless_as c.self.inside.rows.pass c.in-Some.entry.now)
 
 pub joins_none-requires : goal.joins_none-requires
 joins_none-requires c =

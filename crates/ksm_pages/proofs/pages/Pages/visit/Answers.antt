@@ -1,10 +1,16 @@
 use Rattle.ksm_pages.proofs.Names.{ap, arith, changed, held_of, inl, inr, on_err, Private, refl, Row, rules, same_page_eq, seen, settled, Some, sym, true, ◌∙◌, ◌≡◌}
-use Rattle.ksm_pages.proofs.Leaving.{Comes, held_as, view_of}
+use Rattle.ksm_pages.proofs.Gathering.{restless_as}
+use Rattle.ksm_pages.proofs.Leaving.{Comes, held_as, row_seen, view_of}
 use Rattle.ksm_pages.proofs.Turning.{own_left, rested}
-use Rattle.ksm_pages.proofs.Visiting.{alone, asked, entered_not, entered_then, entered_waits, enters, enters_for, enters_restless, finds_changed, finds_dup, finds_partner, finds_zero}
-use Rattle.ksm_pages.proofs.Visiting.{is_alone, lone_none, MayEnter, met, none_told, told_best}
+use Rattle.ksm_pages.proofs.Visiting.{alone, alone_there, asked, entered_not, entered_then, entered_waits, enters, enters_for, enters_restless, finds_changed, finds_dup, finds_partner, finds_zero}
+use Rattle.ksm_pages.proofs.Visiting.{lone_none, MayEnter, met, none_told, told_best}
 use Rattle.ksm_pages.proofs.pages.Pages.visit.Goals as goal
 use Rattle.ksm_pages.proofs.pages.Pages.visit.Goals.{After-enter-arg-1, in-Some-in_tree+else-ne, in-Some-in_tree+then-ne+else-waits, in_default-in_tree}
+
+pub returns-then-not-is_restless-clause-found : goal.returns-then-not-is_restless-clause-found
+returns-then-not-is_restless-clause-found c =
+    let found = row_seen c.self.inside c.self.view_is c.args.spot.page c.in-Some.ensures in
+    grind (arith, found, restless_as c.self.inside.rows.pass c.in-Some.entry.now)
 
 pub group_with_best-group-requires : goal.group_with_best-group-requires
 group_with_best-group-requires c =
@@ -27,7 +33,7 @@ found r = record r { unchanged = true; state = Private }
 went : (c : goal.After-change) → Comes c.self.inside c.change.new.self c.self.inside.dups (changed c.args.spot.page found (seen (view_of c.self.inside)))
 went c =
     let s = c.self.inside in
-    let alone = is_alone s c.self.invariant c.args.spot.page c.in-Some.entry.now c.in-Some.ensures (grind arith) in
+    let alone = alone_there (asked s c.self.invariant c.self.view_is c.in-Some.entry.now c.in-Some.ensures (grind arith)) in
     rested (own_left {p = view_of s} c.self.invariant refl alone) c.change.new.self (λ t. t) kept found
     (λ r. refl) refl alone (λ own. grind (arith, own)) (λ lone. lone) (held_as (c.change.ensures _ (search rules)))
 

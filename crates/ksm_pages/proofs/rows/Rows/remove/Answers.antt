@@ -1,17 +1,10 @@
 use Rattle.ksm_pages.proofs.Names.{rules}
 use Rattle.ksm_pages.proofs.Led.{led_out}
-use Rattle.ksm_pages.proofs.Writing.{can_be, nothing_gone, still_gone, viewed_gone}
-use Rattle.ksm_pages.proofs.Options.{some_mapped}
+use Rattle.ksm_pages.proofs.Writing.{can_be, still_gone}
 use Rattle.ksm_pages.proofs.rows.Rows.remove.Goals as goal
-
-pub returns-in_default : goal.returns-in_default
-returns-in_default c = search (rules, nothing_gone)
 
 pub change-requires : goal.change-requires
 change-requires c = search (rules, can_be c.self.inside c.self.invariant.0 c.in-Some.ensures.there)
-
-pub remove-requires : goal.remove-requires
-remove-requires c = search (rules, some_mapped)
 
 pub invariant_of-self : goal.invariant_of-self
 invariant_of-self c =
@@ -20,6 +13,3 @@ invariant_of-self c =
           c.remove-gone.ensures.updates c.state.ensures c.change.ensures)),
       led_out s.by_node s.entries c.remove-gone.new.self s.unstable c.self.invariant.1 c.remove-gone.ensures.updates (λ e is. cc),
     )
-
-pub returns : goal.returns
-returns c = search (rules, viewed_gone)

@@ -2,12 +2,11 @@ use Rattle.std.proofs.Common.{ap, arith, false, length, List, not, rules, slice_
 use Rattle.std.proofs.lemmas.Option.{same_Some, slice_get_read, slice_get_within}
 use Rattle.std.proofs.lemmas.Result.{on_ok_weaker}
 use Rattle.std.specs.List.{list_any}
-use Rattle.std.specs.Prelude.{bytes_eq, ◌&&◌, ◌==◌}
 use Rattle.ksm_tree.proofs.Names.{BTreeMap}
 use Rattle.ksm_tree.specs.Numbered.{number_of}
 use Rattle.ksm_tree.specs.declared.content.Content.{Content}
 use Rattle.ksm_pages.proofs.Leading.{beside_keeps, beside_leads, IsAs, put_keeps, put_leads, same_tree, untouched}
-use Rattle.ksm_pages.specs.Unstable.{is_led, keys_at, place}
+use Rattle.ksm_pages.specs.Unstable.{is_led, KeepsOthers, keys_at, place}
 use Rattle.ksm_pages.proofs.unstable.UnstableTree.lead.Goals as goal
 use Rattle.ksm_pages.proofs.unstable.UnstableTree.lead.Goals.{in-Some+in_default-free_in, in_default}
 
@@ -32,8 +31,7 @@ same c = elim c.match-get_mut.branch [
   | in_default w ↦ same_tree c.match-get_mut.self c.args.self.now w.self-is
 ]
 
-others : (c : goal.After-lead_beside) (t : ℕ) (b : List ℕ) → (t == c.args.tree && bytes_eq b c.args.bytes.now) ≡ false
-    → number_of t b c.lead_beside.new.self.others.entries ≡ number_of t b c.args.self.now.others.entries
+others : (c : goal.After-lead_beside) → KeepsOthers c.args.tree c.args.bytes.now c.args.self.now c.lead_beside.new.self
 others c t b apart =
     c.lead_beside.ensures.others t b apart
     ∙ ap (λ (m : BTreeMap Content ℕ). number_of t b m.entries) (same c).1
