@@ -1,14 +1,14 @@
 -- Each entry in the unstable tree is found there: what one entry that came, went or changed leaves, and what the rows show of it.
-use Rattle.ksm_pages.proofs.Names.{All, ap, AreInTree, AreLed, AreWaitersLed, arith, Bool, bytes_eq-Decides, cases_Bool, Entry, false, Fills, find, find_all, find_none, find_nothing, find_passes, get}
+use Rattle.ksm_pages.proofs.Names.{All, ap, AreInTree, AreLed, AreWaitersLed, arith, Bool, bytes_eq-Decides, Entry, false, Fills, find, find_all, find_none, find_nothing, find_passes, get}
 use Rattle.ksm_pages.proofs.Names.{get_or, has_content, Held, held_of, holds, in_tree_by, inl, inr, is_in, IsFree, List, map, nat_lt, nat_tests, None, number_of, Option, option_map, page_in_tree}
-use Rattle.ksm_pages.proofs.Names.{refl, same_page_eq, same_Some, Slab, Some, StaysLed, sym, tree_by, true, true≢false, waiting_state, ℕ, ◌==◌, ◌∙◌, ◌≡◌, ◌≢◌, ◌⊎◌}
+use Rattle.ksm_pages.proofs.Names.{refl, same_page_eq, same_Some, Slab, Some, StaysLed, sym, tree_by, true, true≢false, waiting_state, ℕ, ◌∙◌, ◌≡◌, ◌≢◌, ◌⊎◌}
 use Rattle.ksm_pages.proofs.Options.{mapped_some}
 use Rattle.ksm_pages.specs.declared.unstable.TheConstants.{GONE}
 use Rattle.ksm_pages.specs.Unstable.{holder, if_passes, in_place, Keeps, keys_at, LeadsTo, stands_under}
 use Rattle.ksm_pages.specs.declared.rows.Rows.TheInside.{Inside}
 use Rattle.ksm_pages.specs.declared.unstable.UnstableTree.{UnstableTree}
 use Rattle.ksm_pages.proofs.Found.{find_narrower}
-use Rattle.ksm_pages.proofs.Filing.{all_held, AreRows, differ_by, each_mapped, one_key, row_found, rows_all, view_of}
+use Rattle.ksm_pages.proofs.Filing.{all_held, AreRows, each_mapped, one_key, row_found, rows_all, view_of}
 
 -- where a test that lets less through is searched for, none is found where none was
 none_less : {X : Type 0} (p q : X → Bool) (xs : List X) → ((y : X) → q y ≡ true → p y ≡ true) → find p xs ≡ None → find q xs ≡ None
@@ -38,7 +38,7 @@ StaysIn was now = (e : Entry) → now ≡ Some e → is_in e.in_tree ≡ true �
 
 -- two numbers are one, or differ
 pub same_or_apart : (m n : ℕ) → (m ≡ n) ⊎ (m ≢ n)
-same_or_apart m n = elim (cases_Bool (m == n)) [ inl same ↦ inl (grind (arith, nat_tests)) | inr other ↦ inr (differ_by other) ]
+same_or_apart m n = grind arith
 
 module _ (by_node : Bool) (slab later : Slab Entry) (u : UnstableTree) (led : AreLed by_node slab u) where
   -- where the tree led to all entries that are in it, it does so later

@@ -36,8 +36,7 @@ found_by page few items = grind (arith, find_mapped, is_its)
 -- what a search of items finds has a key as small as each of them
 pub found_small : (p : Item → Bool) (items : List Item) → All (λ x. x.key < 2 ^ 48) items → (o : Option Item) → o ≡ find p items
     → IfSome o (λ x. x.key < 2 ^ 48)
-found_small p items small None is = tt
-found_small p items small (Some x) is = find_all p (λ y. y.key < 2 ^ 48) items x (sym is) small
+found_small p items small o is = grind (arith, find_all p (λ x. x.key < 2 ^ 48) items)
 
 pub marked_by : (page : GuestPage) → page.page < 2 ^ 32 → (mark : Bool) → (items : List Item)
     → marked page mark (map named_by items) ≡ map named_by (with_mark (key_of page) mark items)

@@ -9,7 +9,7 @@ use Rattle.ksm_pages.proofs.Options.{mapped_some, none_mapped}
 use Rattle.ksm_pages.proofs.Partners.{free_but, free_by, partner_is, tree_is}
 use Rattle.ksm_pages.specs.declared.pages.Find.TheVariants as finds
 use Rattle.ksm_pages.specs.Held.{is_alone as is_alone_in, is_restless as is_restless_entry}
-use Rattle.ksm_pages.specs.Paged.{is_restless}
+use Rattle.ksm_pages.specs.Paged.{is_restless, NoneHas}
 use Rattle.ksm_pages.proofs.Found.{find_changed_other}
 use Rattle.ksm_pages.proofs.Gathering.{restless_as}
 use Rattle.ksm_pages.proofs.Joined.{let_out_alone}
@@ -17,18 +17,10 @@ use Rattle.ksm_pages.proofs.Leaving.{AreLawful, Become, Comes, comes, held_as, I
 use Rattle.ksm_pages.proofs.Changing.{idle_settled}
 use Rattle.ksm_pages.proofs.Lone.{each_held, lone_changed}
 
--- ---------------------------------------------------------------- groups that got other numbers
-
-module _ (s : Inside) {later : DupsState} (kept : later ≡ record s.dups { numbers = later.numbers; most = later.most }) where
-  -- groups that got other numbers leave the pages lawful
-  pub lawful_numbered : AreLawful s → AreLawful (record s { dups = later })
-  lawful_numbered are = search rules
-
--- ---------------------------------------------------------------- one row
-
-finds_row : (s : Inside) {p : PagesValue} → view_of s ≡ p → (page : GuestPage) {h : Held} → held_at page s.rows.held ≡ Some h
-    → (new : PagesView) (what : Find) → FindsAt (seen p) new h.row what → Finds (seen p) new page what
-finds_row s {p} seen_as page found new what is = rw (row_seen s seen_as _ found) is
+-- groups that got other numbers leave the pages lawful
+pub lawful_numbered : (s : Inside) {later : DupsState} → later ≡ record s.dups { numbers = later.numbers; most = later.most }
+    → AreLawful s → AreLawful (record s { dups = later })
+lawful_numbered s kept are = search rules
 
 -- ---------------------------------------------------------------- a row that is asked
 
@@ -38,10 +30,6 @@ pub record IsAsked (s : Inside) (p : PagesValue) (page : GuestPage) (e : Entry) 
   pub seen_as : view_of s ≡ p
   pub found : held_at page s.rows.held ≡ Some (held_of s.rows.pass e)
   pub restless : is_restless_entry e ≡ true
-
--- no dup has the tree and bytes
-abbrev pub NoneHas : ℕ → List ℕ → List Dup → Type 0
-NoneHas tree bytes dups = All (λ d. in_group tree bytes d.row ≡ false) dups
 
 -- where no dup has the tree and bytes, a page may join none
 pub none_best : (tree : ℕ) (bytes : List ℕ) (limit : ℕ) (dups : List Dup) → NoneHas tree bytes dups → best_of tree bytes limit dups ≡ None
@@ -76,7 +64,7 @@ module _ {s : Inside} {p : PagesValue} {page : GuestPage} {e : Entry} (it : IsAs
   alone_there = rw there alone
 
   finds_at : (new : PagesView) (what : Find) → FindsAt (seen p) new row what → Finds (seen p) new page what
-  finds_at = finds_row s it.seen_as _ it.found
+  finds_at new what is = rw (row_seen s it.seen_as _ it.found) is
 
   -- the dup that the row may join
   abbrev pub best : Option Dup

@@ -20,6 +20,7 @@ use Rattle.ksm_pages.specs.declared.pages.Find.TheVariants as finds
 use Rattle.ksm_pages.specs.declared.pages.Held.{Held}
 use Rattle.ksm_pages.specs.Held.{Held as HeldRow, RowsView, is_alone, rows_of}
 use Rattle.ksm_tree.specs.Chains.{in_group}
+use Rattle.ksm_tree.specs.declared.dup.Dup.{Dup}
 use Rattle.ksm_base.specs.declared.row.PageState.{PageState}
 use Rattle.ksm_tree.specs.Bridge.{AreTied}
 use Rattle.ksm_tree.specs.Dups.{DupsState, rows_of as dup_rows}
@@ -225,6 +226,10 @@ frame_seen of_dup Zero own = None
 -- where the pages of the rows lie
 abbrev pub lodgings_of : (ℕ → Option ℕ) → List HeldRow → List Lodging
 lodgings_of of_dup held = map (λ h. record { page = h.row.page; frame = frame_seen of_dup h.row.state h.frame }) held
+
+-- no dup has the tree and bytes
+abbrev pub NoneHas : ℕ → List ℕ → List Dup → Type 0
+NoneHas tree bytes dups = All (λ d. in_group tree bytes d.row ≡ false) dups
 
 -- no dup has the tree and bytes of a row that is said to be alone
 abbrev pub AreAlone : Knobs → List HeldRow → List DupRow → Type 0

@@ -7,10 +7,9 @@ ghost use Rattle.ksm_base.specs.declared.fault.Fault.TheVariants.{Memory};
 ghost use Rattle.ksm_base.specs.declared.row.PageState.TheVariants.{Merged, Private, Zero};
 ghost use Rattle.ksm_base.specs.Rows.{all_zero as has_only_zeroes, merged_into};
 ghost use Rattle.ksm_pages.specs.declared.pages.Find.TheVariants as finds;
-ghost use Rattle.ksm_pages.specs.Paged.{Finds, HasRoom, HasRow, IsAlone, MayPair, changed, is_restless, lies_on, relaid};
+ghost use Rattle.ksm_pages.specs.Paged.{Finds, HasRoom, HasRow, IsAlone, MayPair, NoneHas, changed, is_restless, lies_on, relaid};
 ghost use Rattle.ksm_pages.specs.Paged.{paired as are_paired, seen};
 ghost use Rattle.ksm_pages.specs.Held.{is_alone};
-ghost use Rattle.ksm_tree.specs.Chains.{in_group};
 ghost use Rattle.ksm_tree.specs.Choosing.{best_of, found_at};
 
 use crate::pages::{Find, Glance, Pages};
@@ -44,8 +43,8 @@ fn group_with_best(
     tree: u32,
     limit: u32,
 ) -> (Option<u32>, Option<Best>)
-    requires { is_alone entry.now.in_tree ≡ true → All (λ d. in_group tree entry.now.bytes d.row ≡ false) dups.old.dups }
-    ensures none { IfNone result.0 (All (λ d. in_group tree entry.now.bytes d.row ≡ false) dups.old.dups) }
+    requires { is_alone entry.now.in_tree ≡ true → NoneHas tree entry.now.bytes dups.old.dups }
+    ensures none { IfNone result.0 (NoneHas tree entry.now.bytes dups.old.dups) }
     ensures best { result.1 ≡ option_map found_at (best_of tree entry.now.bytes limit dups.old.dups) }
     ensures kept { dups.new ≡ dups.old }
 {
@@ -61,7 +60,7 @@ fn group_with_best(
 /// Whether it is known of a row to which the unstable tree leads that there is no dup that it may join.
 #[inline(always)]
 fn joins_none(dups: &Dups, entry: &Entry, tree: u32, limit: u32) -> bool
-    requires { is_alone entry.now.in_tree ≡ true → All (λ d. in_group tree entry.now.bytes d.row ≡ false) dups.now.dups }
+    requires { is_alone entry.now.in_tree ≡ true → NoneHas tree entry.now.bytes dups.now.dups }
     ensures { IsTrue result → best_of tree entry.now.bytes limit dups.now.dups ≡ None }
 {
     match entry.in_tree {
