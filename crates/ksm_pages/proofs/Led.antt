@@ -1,6 +1,6 @@
 -- Each entry in the unstable tree is found there: what one entry that came, went or changed leaves, and what the rows show of it.
 use Rattle.ksm_pages.proofs.Names.{All, ap, AreInTree, AreLed, AreWaitersLed, arith, Bool, bytes_eq-Decides, Entry, false, Fills, find, find_all, find_none, find_nothing, find_passes, get}
-use Rattle.ksm_pages.proofs.Names.{get_or, has_content, Held, held_of, holds, in_tree_by, inl, inr, is_in, IsFree, List, map, nat_lt, nat_tests, None, number_of, Option, option_map, page_in_tree}
+use Rattle.ksm_pages.proofs.Names.{get_or, has_content, Held, held_of, holds, inl, inr, is_in, IsFree, List, map, nat_lt, nat_tests, None, number_of, Option, option_map, page_in_tree}
 use Rattle.ksm_pages.proofs.Names.{refl, same_page_eq, same_Some, Slab, Some, StaysLed, sym, tree_by, true, true≢false, waiting_state, ℕ, ◌∙◌, ◌≡◌, ◌≢◌, ◌⊎◌}
 use Rattle.ksm_pages.proofs.Options.{mapped_some}
 use Rattle.ksm_pages.specs.declared.unstable.TheConstants.{GONE}
@@ -110,10 +110,6 @@ module _ (by_node : Bool) (slab later : Slab Entry) (key : ℕ) (d e : Entry) (s
 pub led_kept : (by_node : Bool) (slab : Slab Entry) (old new : UnstableTree) → AreLed by_node slab old → Keeps by_node slab old new
     → AreLed by_node slab new
 led_kept by_node slab old new led keeps k e is in_tree = keeps (tree_by by_node e.home) e.bytes k (led k e is in_tree)
-
--- a row that comes to stand in the tree is in it
-pub led_by_group : (group : Option ℕ) → is_in (in_tree_by group) ≡ true
-led_by_group group = grind arith
 
 -- ---------------------------------------------------------------- what the rows show
 

@@ -1,8 +1,8 @@
 -- What each change of one row, found under its key, leaves: rows still, and what is seen of them.
 use Rattle.ksm_pages.proofs.Names.{altered, ap, AreLed, AreListed, arith, Bool, CanMove, change_held, change_none, Entry, false, Fills, find, find_none, get, GuestPage, has_item, Held, held_at}
 use Rattle.ksm_pages.proofs.Names.{held_in, held_of, held_under, holds, IfSome, inl, inr, is_in, is_of, is_restless, is_some, IsAddedTo, IsInVain, IsMoved, IsRows, IsUnder, key_in, length, length-map}
-use Rattle.ksm_pages.proofs.Names.{List, Listing, marked, Named, named_of, nat_tests, None, option_map, pages_ordered, PageState, Private, refl, row_at, rows_of, RowsView, rules, same_page_refl}
-use Rattle.ksm_pages.proofs.Names.{same_Some, shared_state, Slab, Some, state_of, StaysBegun, StaysLed, sym, Tally, true, true≢false, Updates-with_value, Waiting, with_held, with_named, with_value}
+use Rattle.ksm_pages.proofs.Names.{List, Listing, marked, Named, named_of, None, option_map, pages_ordered, PageState, Private, refl, row_at, rows_of, RowsView, rules, same_page_refl}
+use Rattle.ksm_pages.proofs.Names.{same_Some, shared_state, Slab, Some, state_of, StaysBegun, StaysLed, sym, Tally, true, true≢false, Updates-with_value, with_held, with_named, with_value}
 use Rattle.ksm_pages.proofs.Names.{without_held, without_named, ℕ, ◌<◌, ◌^◌, ◌∙◌, ◌≡◌, ◌≢◌, ◌≤◌, ◌⊎◌}
 use Rattle.ksm_pages.proofs.Options.{none_mapped}
 use Rattle.ksm_pages.specs.declared.row.Kind.TheVariants as kinds
@@ -14,14 +14,6 @@ use Rattle.ksm_pages.proofs.Led.{led_written}
 use Rattle.ksm_pages.proofs.Found.{write_rises}
 use Rattle.ksm_order.proofs.Ordered.{absent_kept, with_rises, without_rises}
 use Rattle.ksm_pages.proofs.Tallying.{can_move, tally_changed, tally_gone, tally_put}
-
--- a row with a frame of its own waits where its number is that of the pass and the unstable tree leads to it
-pub waits_now : (pass : ℕ) (e : Entry) → e.kind ≡ kinds.Own → e.number ≡ pass → is_in e.in_tree ≡ true → state_of pass e ≡ Waiting
-waits_now pass e own now led = grind arith
-
--- a row with a frame of its own and number 0 is Private in any pass from 1 on
-pub rests_now : (pass : ℕ) (e : Entry) → 1 ≤ pass → e.kind ≡ kinds.Own → e.number ≡ 0 → state_of pass e ≡ Private
-rests_now pass e counting own none = grind (arith, nat_tests)
 
 -- a change of a page without a row leaves what is seen of the rows as it is
 pub nothing : (s : Inside) → AreRows s → (page : GuestPage) → None ≡ key_in s.order page → (f : Held → Held) {v : RowsView} → view_of s ≡ v → v ≡ altered page f v

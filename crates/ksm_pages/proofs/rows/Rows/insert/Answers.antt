@@ -1,7 +1,7 @@
-use Rattle.ksm_pages.proofs.Names.{arith, Entry, false, Fills, get, None, Not, refl, rules, Some, true, ◌≡◌}
+use Rattle.ksm_pages.proofs.Names.{arith, Entry, false, Fills, get, None, Not, rules, Some, true, ◌≡◌}
 use Rattle.ksm_pages.specs.declared.row.Kind.TheVariants as kinds
 use Rattle.ksm_pages.proofs.Led.{led_out}
-use Rattle.ksm_pages.proofs.Writing.{filled, no_name, rests_now, still_put, viewed_put}
+use Rattle.ksm_pages.proofs.Writing.{filled, no_name, still_put, viewed_put}
 use Rattle.ksm_pages.proofs.rows.Rows.insert.Goals as goal
 
 pub insert-requires : goal.insert-requires
@@ -33,7 +33,7 @@ invariant_of-self-2 c =
     rw c.in_ok-insert.ensures.added (
       still_put c.self.inside c.self.invariant.0 c.self.view_is c.reserve_one.ensures.rest (came c).0 c.requires.absent
           (came c).1
-          (rests_now _ (fresh c) c.self.invariant.0.counting refl refl) (omega arith) c.add.ensures,
+          (grind arith) (omega arith) c.add.ensures,
       led_out c.self.inside.by_node c.self.inside.entries c.insert_reserved.new.self c.self.inside.unstable c.self.invariant.1 (filled c.self.inside c.self.invariant.0 c.self.view_is c.reserve_one.ensures.rest (came c).0 c.requires.absent (came c).1)
           (λ e is. grind arith),
     )
@@ -62,4 +62,4 @@ pub returns-clause-added : goal.returns-clause-added
 returns-clause-added c =
     let now = viewed_put c.self.inside c.self.invariant.0 c.self.view_is c.reserve_one.ensures.rest (came c).0
     c.requires.absent (came c).1 in
-    grind (arith, now, c.in_ok-insert.ensures.added, rests_now c.self.inside.pass (fresh c) c.self.invariant.0.counting refl refl)
+    grind (arith, now, c.in_ok-insert.ensures.added)

@@ -1,5 +1,5 @@
-use Rattle.ksm_pages.proofs.Names.{arith, Entry, inr, refl, rules, sym}
-use Rattle.ksm_pages.proofs.Writing.{can_be, kept_mark, led_so, led_there, own_there, still, viewed, waits_now}
+use Rattle.ksm_pages.proofs.Names.{arith, Entry, inr, refl, rules}
+use Rattle.ksm_pages.proofs.Writing.{can_be, kept_mark, led_so, led_there, own_there, still, viewed}
 use Rattle.ksm_pages.proofs.rows.Rows.wait.Goals as goal
 use Rattle.ksm_pages.proofs.rows.Rows.wait.Goals.{After-change}
 
@@ -14,12 +14,10 @@ pub invariant_of-self : goal.invariant_of-self
 invariant_of-self c =
     let s = c.self.inside in
     let there = c.in-Some.ensures.there in
-    let stood = c.index_mut-entry.ensures.value in
-    let own = own_there s c.self.invariant.0 there stood c.self.view_is c.requires.own in
-    let led = led_there s c.self.invariant.0 there stood c.self.view_is c.requires.led in (
+    let stood = c.index_mut-entry.ensures.value in (
       still s c.self.invariant.0 there stood c.self.view_is (later c) (search (rules, kept_mark))
           (refl, λ _ own. grind arith) c.state_alone-old.ensures
-          (sym (waits_now s.pass (later c) own refl led)) c.change.ensures (inr (refl, λ may. may)),
+          (grind (arith, own_there, led_there)) c.change.ensures (inr (refl, λ may. may)),
       led_so s c.self.invariant.0 there stood c.self.invariant.1 (later c) (λ led. (led, refl, refl)),
     )
 
@@ -28,7 +26,5 @@ returns c =
     let s = c.self.inside in
     let there = c.in-Some.ensures.there in
     let stood = c.index_mut-entry.ensures.value in
-    let own = own_there s c.self.invariant.0 there stood c.self.view_is c.requires.own in
-    let led = led_there s c.self.invariant.0 there stood c.self.view_is c.requires.led in
     viewed s c.self.invariant.0 there stood c.self.view_is (later c) (search (rules, kept_mark))
-    (refl, λ _ own. grind arith) _ (λ _. grind (arith, waits_now s.pass (later c) own refl led))
+    (refl, λ _ own. grind arith) _ (λ _. grind (arith, own_there, led_there))
