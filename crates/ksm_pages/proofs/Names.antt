@@ -6,7 +6,7 @@ pub use Rattle.ksm_base.proofs.RowCounts.{each_at_page, filter_all}
 pub use Rattle.ksm_base.proofs.Sums.{states-add}
 pub use Rattle.ksm_base.specs.Apply.{fresh_row, let_go, stored}
 pub use Rattle.ksm_base.specs.Counting.{counters_from}
-pub use Rattle.ksm_base.specs.Reading.{items_of, place_of}
+pub use Rattle.ksm_base.specs.Reading.{items_of}
 pub use Rattle.ksm_base.specs.Rows.{all_zero, change_row, change_rows, comes_before, dup_numbered, InPageOrder, InPlaceOrder, item_count, merged_into, merged_state, private_state, row_at, same_page}
 pub use Rattle.ksm_base.specs.Rows.{settled, settled_state, shared_state, waiting_state, with_dup, with_row, without_page}
 pub use Rattle.ksm_base.specs.State.{default_knobs, place_count, tree_of}
@@ -34,7 +34,6 @@ pub use Rattle.ksm_pages.specs.declared.pages.Pages.TheInside.{Inside}
 pub use Rattle.ksm_pages.specs.declared.row.Entry.{Entry}
 pub use Rattle.ksm_pages.specs.declared.row.InTree.{InTree}
 pub use Rattle.ksm_pages.specs.declared.row.InTree.TheVariants.{Not}
-pub use Rattle.ksm_pages.specs.declared.row.Kind.{Kind}
 pub use Rattle.ksm_pages.specs.declared.row.Spot.{Spot}
 pub use Rattle.ksm_pages.specs.declared.tally.Tally.{Tally}
 pub use Rattle.ksm_rmap.proofs.Pages.{pages_ordered}
