@@ -9,10 +9,8 @@ use Rattle.ksm_book.proofs.Names.{not, not_both, one_before, Option, option_map,
 use Rattle.ksm_book.proofs.Names.{Row, row_at, row_visiting, same_page, same_page_eq, same_page_refl, settled, settled_calmer, slice_get_within, Some, sound_changed, subst, sym, takes_over}
 use Rattle.ksm_book.proofs.Names.{true, visited, waiting_state, waits_for, waits_tells, Zero, [], ℕ, ◌&&◌, ◌||◌, ◌∙◌, ◌∷◌, ◌≡◌}
 use Rattle.ksm_base.specs.declared.row.PageState.TheVariants.{Private}
-use Rattle.ksm_book.proofs.Folded.{by_row}
-use Rattle.ksm_book.proofs.Going.{mergeable_kept}
+use Rattle.ksm_book.proofs.Folded.{by_row, Goes, mergeable_kept, page_goes}
 use Rattle.ksm_book.proofs.PagesAhead.{after_later, Before, place_of}
-use Rattle.ksm_book.proofs.Walked.{visits_page}
 use Rattle.std.proofs.lemmas.List.{map-id}
 use Rattle.ksm_base.specs.Visit.{is_no_worse}
 
@@ -239,9 +237,7 @@ calm_stays s page calm = grind arith
 abbrev pub IsAlike : BookState → Deed → GuestPage → Type 0
 IsAlike b deed page =
     let due : Stage = due_visited (b, deed) page in
-    IsSound due.0 × (mergeable_pages due.0.rows ≡ mergeable_pages b.rows)
-    × (page_visited (hidden_from page b, deed) page
-    ≡ (veiled (comes_before page) due.0, due.1))
+    Goes b due.0 × (page_visited (hidden_from page b, deed) page ≡ (veiled (comes_before page) due.0, due.1))
 
 module _ (b : BookState) (s : IsSound b) (deed : Deed) where
   -- that is so where the visit of the row by the definitions does in another book what ours does, and the rows that
@@ -253,10 +249,7 @@ module _ (b : BookState) (s : IsSound b) (deed : Deed) where
   by_visit r restless o sound found same covers near is =
       let at = calmed_at (is_on o r) o r.page ∙ ap (option_map (cover o r)) found
       ∙ ap (λ z. Some (if not z then settled r else r)) (before_irrefl r.page) in (
-        subst (λ (z : Stage). IsSound z.0) is
-            (rw found at (visits_page.sound o deed r.page sound)),
-        subst (λ (z : Stage). mergeable_pages z.0.rows ≡ mergeable_pages b.rows) is
-            (rw found at (visits_page.mergeable o deed r.page sound) ∙ same),
+        subst (λ (z : Stage). Goes b z.0) is (let went = rw found at (page_goes (o, deed) r.page sound) in (went.0, went.1 ∙ same)),
         ap (λ c. page_visited (c, deed) r.page) covers ∙ ap (visited (covered o r, deed)) at
             ∙ visit_alike o r restless near deed ∙ (λ t. (veiled (comes_before r.page) (is t).0, (is t).1)),
       )
@@ -282,7 +275,7 @@ module _ (b : BookState) (s : IsSound b) (deed : Deed) where
       calmly : restless_at page b.rows ≡ false → IsAlike b deed page
       calmly calm =
           let at = calmed_at (λ x. not (comes_before x.page page)) b page in
-          rw (calm_stays (b, deed) page calm) (s, refl, grind (arith, at) ∙ (λ t. (still t, deed)))
+          rw (calm_stays (b, deed) page calm) ((s, refl), grind (arith, at) ∙ (λ t. (still t, deed)))
         where
           still : hidden_from page b ≡ veiled (comes_before page) b
           still = veiled_alike _ b _ (λ k d lt waits.
@@ -297,19 +290,19 @@ module _ (b : BookState) (s : IsSound b) (deed : Deed) where
 
 -- ---------------------------------------------------------------- one visit after another
 
--- pages are those behind a cursor that scans visit, up to the first that passes a test; each that passes is behind them
-pub record Leaves (e : GuestPage → Bool) (c : Option GuestPage) (b : BookState) (pages : List GuestPage) : Type 0 where
+-- pages are those behind a cursor that scans visit, up to the first that fails a test; each that fails is behind them
+pub record Leaves (goes : GuestPage → Bool) (c : Option GuestPage) (b : BookState) (pages : List GuestPage) : Type 0 where
   pub rise : AreAscending pages
-  pub are : (q : GuestPage) → has_item q pages ≡ (after_cursor c q && not (e q) && has_item q (mergeable_pages b.rows))
-  pub behind : (q : GuestPage) → e q ≡ true → after_cursor c q ≡ true
+  pub are : (q : GuestPage) → has_item q pages ≡ (after_cursor c q && goes q && has_item q (mergeable_pages b.rows))
+  pub behind : (q : GuestPage) → goes q ≡ false → after_cursor c q ≡ true
 
-module _ (e : GuestPage → Bool) (up : (p q : GuestPage) → e q ≡ true → e p ≡ false → comes_before p q ≡ true) where
+module _ (goes : GuestPage → Bool) (up : (p q : GuestPage) → goes q ≡ false → goes p ≡ true → comes_before p q ≡ true) where
   module _ (c : Option GuestPage) (b : BookState) (page : GuestPage) (pages : List GuestPage)
-      (l : Leaves e c b (page ∷ pages)) where
+      (l : Leaves goes c b (page ∷ pages)) where
     further : (q : GuestPage) → has_item q pages ≡ true → comes_before page q ≡ true
     further = all_has (Before page) pages (pairs_head Before page pages l.rise)
 
-    here : (after_cursor c page ≡ true) × (e page ≡ false)
+    here : (after_cursor c page ≡ true) × (goes page ≡ true)
     here = grind (arith, l.are page, same_page_refl)
 
     -- of the pages that scans visit those behind the cursor are those from the first on
@@ -329,24 +322,24 @@ module _ (e : GuestPage → Bool) (up : (p q : GuestPage) → e q ≡ true → e
       before_irrefl,
     )
 
-    leaves_rest : (n : BookState) → mergeable_pages n.rows ≡ mergeable_pages b.rows → Leaves e (Some page) n pages
+    leaves_rest : (n : BookState) → mergeable_pages n.rows ≡ mergeable_pages b.rows → Leaves goes (Some page) n pages
     leaves_rest n same = record {
       rise = pairs_tail Before page pages l.rise;
       are = λ q. grind (arith, l.are q, here, further q, before_irrefl, same_page_eq, after_later);
-      behind = λ q is. up page q is here.1;
+      behind = λ q over. up page q over here.1;
     }
 
   -- our visits of these pages are those of the definitions in the book where the rows behind the cursor are veiled;
-  -- after them only those are whose pages pass the test
+  -- after them only those are whose pages fail the test
   pub along : (pages : List GuestPage) (c : Option GuestPage) (s : Stage) → IsSound s.0
-      → Leaves e c s.0 pages
+      → Leaves goes c s.0 pages
       → pages_visited (veiled (after_cursor c) s.0, s.1) pages
-      ≡ (veiled e (due_visits s pages).0, (due_visits s pages).1)
+      ≡ (veiled (λ q. not (goes q)) (due_visits s pages).0, (due_visits s pages).1)
   along [] c s sound l =
-      λ t. (veiled_same (after_cursor c) s.0 e sound (λ q has. grind (arith, l.are q, l.behind q)) t, s.1)
+      λ t. (veiled_same (after_cursor c) s.0 (λ q. not (goes q)) sound (λ q has. grind (arith, l.are q, l.behind q)) t, s.1)
   along (page ∷ pages) c s sound l =
       let first = one_due s.0 sound s.1 page in
       (λ t. pages_visited (veiled_same (after_cursor c) s.0 _ sound (from_first c s.0 page pages l) t, s.1)
       (page ∷ pages))
-      ∙ ap (λ z. pages_visited z pages) first.2
-      ∙ along pages (Some page) (due_visited s page) first.0 (leaves_rest c s.0 page pages l _ first.1)
+      ∙ ap (λ z. pages_visited z pages) first.1
+      ∙ along pages (Some page) (due_visited s page) first.0.0 (leaves_rest c s.0 page pages l _ first.0.1)

@@ -6,10 +6,8 @@ use Rattle.ksm_book.proofs.Names.{restless_at, Row, row_visited, state_of, subst
 use Rattle.ksm_book.proofs.Names.{IsLaid, IsSound, ℕ, ◌∙◌, ◌∷◌, ◌≡◌}
 use Rattle.ksm_base.specs.declared.row.PageState.TheVariants.{Private}
 use Rattle.ksm_pages.specs.Paged.{Finds}
-use Rattle.ksm_book.proofs.DueKept.{own_due, row_undue}
-use Rattle.ksm_book.proofs.DueAlike.{at_own_page}
-use Rattle.ksm_book.proofs.PageVisits.{finds_it, shared_comes}
-use Rattle.ksm_book.proofs.RowVisits.{filled_by, Meets, page_is, restless_own, there_is}
+use Rattle.ksm_book.proofs.DueKept.{calm_undue, own_due, row_undue}
+use Rattle.ksm_book.proofs.RowVisits.{filled_by, finds_it, Meets, page_is, restless_own, shared_comes, there_is}
 use Rattle.ksm_book.proofs.Singles.{book}
 use Rattle.ksm_pages.proofs.Joined.{own_not_merged}
 use Rattle.ksm_pages.specs.declared.pages.Find.TheVariants as finds
@@ -42,13 +40,12 @@ module _ {p : PagesView} {k : KeeperView} {cursor : Option GuestPage} {passes : 
     gone_due q gone lawful told is =
         let same : q ≡ p = grind arith in
         let calm : restless_at gone p.rows ≡ false = grind arith in
-        let rests : IsDueNoMore gone (state_of p cursor passes) (state_of q cursor passes) =
-        rw same (λ pages was k d lt restless out. was k d lt restless (grind (arith, at_own_page gone p.rows lawful.0.rows_rise k d lt))) in
-        subst (λ (x : BookView). IsDueNoMore gone x.state (state_of q cursor passes)) told rests
+        subst (λ (x : BookView). IsDueNoMore gone x.state (state_of q cursor passes)) told
+        (rw same (calm_undue (state_of p cursor passes) gone lawful.0.rows_rise calm))
 
     module _ {page : GuestPage} where
       -- once its row was visited a page is due no longer, but where its bytes had changed
-      visited_undue : {P : BookState → Row → Type 0} (at : Meets P p k cursor passes v page) → is_restless at.row ≡ true
+      visited_undue : {f : Find} {q : PagesView} (at : Meets f p q k cursor passes v page) → is_restless at.row ≡ true
           → (best_dup p.knobs p.rows p.dups at.row ≡ None → at.row.unchanged ≡ true) → (c : BookState)
           → c ≡ row_visited (state_of p cursor passes) at.row → IsDueNoMore page v.state c
       visited_undue at restless same c is pages was =
@@ -56,11 +53,11 @@ module _ {p : PagesView} {k : KeeperView} {cursor : Option GuestPage} {passes : 
           rw is (row_undue _ at.sound at.row (there_is at) restless pages (rw (page_is at) due) same)
 
       -- a page found to wait is due no longer
-      pub waits_due : {q : PagesView} → Meets (λ _ r. FindsAt p q r finds.Waits) p k cursor passes v page → IsDueNoMore page v.state (state_of q cursor passes)
+      pub waits_due : {q : PagesView} → Meets finds.Waits p q k cursor passes v page → IsDueNoMore page v.state (state_of q cursor passes)
       waits_due {q} at = visited_undue at at.so.0 (λ _. at.so.2) (state_of q cursor passes) (grind (arith, at.so))
 
       -- a page that meets no earlier one is to wait in the stead of the other
-      pub partner_takes : {q : PagesView} (other : GuestPage) → Meets (λ _ r. FindsAt p q r (Partner other)) p k cursor passes v page
+      pub partner_takes : {q : PagesView} (other : GuestPage) → Meets (Partner other) p q k cursor passes v page
           → comes_before other page ≡ false → TakesOver (state_of p cursor passes) page other
       partner_takes other at none =
           let met = filled_by _ at.so.4 in
@@ -77,7 +74,7 @@ module _ {p : PagesView} {k : KeeperView} {cursor : Option GuestPage} {passes : 
           }
 
       -- a page whose bytes had changed stays due
-      pub changed_keeps : {q : PagesView} → Meets (λ _ r. FindsAt p q r finds.Changed) p k cursor passes v page → (due : List GuestPage)
+      pub changed_keeps : {q : PagesView} → Meets finds.Changed p q k cursor passes v page → (due : List GuestPage)
           → has_item page due ≡ true → AreDue v.state due → AreDue (state_of q cursor passes) due
       changed_keeps at due there was =
           rw at.so.3
@@ -91,8 +88,8 @@ module _ {p : PagesView} {k : KeeperView} {cursor : Option GuestPage} {passes : 
       (page : GuestPage) (is : shares page f ≡ true) (lawful : IsSound (state_of p cursor passes) × IsLaid p k)
       (told : book p k cursor passes ≡ view_of v) (found : Finds p q page f)
       (did : VisitsPage (book q k cursor passes) (view_of w) page) where
-    at : Meets (λ _ r. FindsAt p q r f) p k cursor passes (view_of v) page
-    at = finds_it f (λ gone. true≢false (sym is ∙ ap (shares page) gone)) lawful told q page refl found
+    at : Meets f p q k cursor passes (view_of v) page
+    at = finds_it f (λ gone. true≢false (sym is ∙ ap (shares page) gone)) lawful told q refl found
 
     by : (is_restless at.row ≡ true) × (q ≡ p) × (takes_over (state_of p cursor passes) at.row ≡ false)
         × (best_dup p.knobs p.rows p.dups at.row ≡ None → at.row.unchanged ≡ true)
@@ -101,6 +98,6 @@ module _ {p : PagesView} {k : KeeperView} {cursor : Option GuestPage} {passes : 
     -- where the row was visited in the book as it was, that is the visit of what is due, and the page is due no longer
     pub shared_due : Comes v w (λ s. due_visited s page) × IsDueNoMore page v.state w.state
     shared_due = (
-      λ from s before. grind (arith, by, at.found, at.is, shared_comes v w at by.0 q by.1 did from s before),
+      λ from s before. grind (arith, by, at.found, at.is, shared_comes v w at by.0 by.1 did from s before),
       visited_undue at by.0 by.3 w.state (grind (arith, by, at.found, at.is)),
     )

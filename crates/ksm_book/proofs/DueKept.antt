@@ -1,17 +1,19 @@
 -- Passes that visit only the pages that are due: what waits on is left as it is, and what is due stays so.
-use Rattle.ksm_book.proofs.Names.{All, All-cons, All-head, All-tail, all_changed, all_with_dup, ap, AreDue, arith, best_dup, BookState, Bool, bytes_eq, bytes_eq-Decides, cases_Bool}
-use Rattle.ksm_book.proofs.Names.{change_row, change_rows, cond_both, count_by, count_mapped, due_visited, dup_of_row, DupRow, eqb-true, false, find_all, find_none, find_nothing}
-use Rattle.ksm_book.proofs.Names.{find_passes, freed, get_or, GuestPage, handled, has, has_item, inl, InPageOrder, inr, is_best, is_for_zero, is_restless, IsSound, item_count, Knobs, List}
-use Rattle.ksm_book.proofs.Names.{list_all-from_AllPass, made_dup, may_join, Merged, merged_into, merged_state, nat_le, nat_lt, nat_tests, None, not, not_an_item, one_of_each_page, Option}
-use Rattle.ksm_book.proofs.Names.{page, paired, partner, refl, Row, row_at, row_visited, same_page, same_page_refl, same_page_sym, settled, Some, sym, takes_over, tree_of, true}
-use Rattle.ksm_book.proofs.Names.{true≢false, Waiting, waiting_state, waits_for, waits_on, waits_tells, WaitsFor, with_dup, Zero, [], ℕ, ◌&&◌, ◌+◌, ◌==◌, ◌||◌, ◌∙◌, ◌∷◌, ◌≡◌}
-use Rattle.ksm_book.proofs.DueAlike.{by_counts, calm_stays, freed_found, freed_sound, one_waits}
-use Rattle.ksm_book.proofs.ByPage.{row_of_page}
+use Rattle.ksm_book.proofs.Names.{All, All-cons, All-head, All-tail, all_changed, all_with_dup, ap, AreDue, arith, best_dup, BookState, Bool, bytes_eq, bytes_eq-Decides, cases_Bool, change_row}
+use Rattle.ksm_book.proofs.Names.{change_rows, cond_both, count_by, count_mapped, Deed, due_visited, dup_of_row, DupRow, eqb-true, false, find_all, find_mapped, find_none, find_nothing}
+use Rattle.ksm_book.proofs.Names.{find_passes, freed, get_or, GuestPage, handled, has, has_item, inl, InPageOrder, inr, is_best, is_for_zero, is_restless, IsDueNoMore, IsSound, IsStill}
+use Rattle.ksm_book.proofs.Names.{item_count, Knobs, List, list_all-from_AllPass, made_dup, may_join, Merged, merged_into, merged_state, nat_le, nat_lt, nat_tests, None, not, not_an_item}
+use Rattle.ksm_book.proofs.Names.{one_of_each_page, Option, page, page_visited, paired, partner, refl, restless_at, Row, row_at, row_done, row_visited, same_page, same_page_refl, same_page_sym}
+use Rattle.ksm_book.proofs.Names.{settled, Some, sym, takes_over, tree_of, true, true≢false, Waiting, waiting_state, waits_for, waits_on, waits_tells, WaitsFor, with_dup, Zero, [], ℕ, ◌&&◌, ◌+◌}
+use Rattle.ksm_book.proofs.Names.{◌==◌, ◌||◌, ◌∙◌, ◌∷◌, ◌≡◌}
+use Rattle.ksm_book.proofs.DueAlike.{at_own_page, by_counts, calm_stays, freed_found, freed_sound, one_waits}
+use Rattle.ksm_book.proofs.ByPage.{at_changed, row_of_page}
 use Rattle.ksm_book.proofs.Folded.{by_row, then_idle}
 use Rattle.ksm_book.proofs.RowVisits.{restless_own}
 use Rattle.ksm_book.proofs.Singles.{change_still}
 use Rattle.ksm_book.proofs.Walked.{Rests}
 use Rattle.ksm_pages.proofs.Joined.{own_not_merged}
+use Rattle.ksm_base.specs.declared.row.PageState.TheVariants.{Private}
 
 -- ---------------------------------------------------------------- the dups that a row may join
 
@@ -238,6 +240,33 @@ module _ (b : BookState) (sound : IsSound b) (row : Row) (found : row_at row.pag
     -- once a row was visited its page is due no longer, but where its bytes had changed
     pub row_undue : (best_dup b.knobs b.rows b.dups row ≡ None → row.unchanged ≡ true) → AreDue (row_visited b row) pages
     row_undue same = grind (arith, handled_due _ refl same, restless_own row restless)
+
+-- a page is not due whose row, if it has one, no visit may change
+pub calm_undue : (b : BookState) (page : GuestPage) → InPageOrder b.rows → restless_at page b.rows ≡ false → IsDueNoMore page b b
+calm_undue b page rise calm pages was k d lt restless out =
+    was k d lt restless (grind (arith, at_own_page page b.rows rise k d lt))
+
+-- where the visit of a page changes nothing but which rows wait, the page is due no longer
+pub still_undue : (b : BookState) (deed : Deed) (page : GuestPage) → IsSound b → IsStill (b, deed) (page_visited (b, deed) page)
+    → IsDueNoMore page b (page_visited (b, deed) page).0
+still_undue b deed page sound =
+    by_row (λ p. IsStill (b, deed) (page_visited (b, deed) p) → IsDueNoMore p b (page_visited (b, deed) p).0) page b.rows
+    (λ calm _. let same : page_visited (b, deed) page ≡ (b, deed) = grind arith in
+    rw same (calm_undue b page sound.rows_rise calm))
+    (λ r found restless still pages was. rw (found, restless)
+    (row_undue b sound r found restless pages was (stayed r found restless (rw (found, restless) at still))))
+  where
+    stayed : (r : Row) → row_at r.page b.rows ≡ Some r → is_restless r ≡ true → IsStill (b, deed) (row_done (b, deed) r)
+        → best_dup b.knobs b.rows b.dups r ≡ None → r.unchanged ≡ true
+    stayed r found restless still none =
+        let mark : Row → Row = λ s. record s { unchanged = true; state = Private } in
+        let at = λ (rows : List Row). find_mapped settled (λ s. same_page s.page r.page) (λ s. same_page s.page r.page) rows
+        (λ k d lt. refl) in
+        elim (cases_Bool r.unchanged) [
+          | inl kept ↦ kept
+          | inr changed ↦
+              grind (arith, ap (row_at r.page) still.rows, at b.rows, at (change_row r.page mark b.rows), at_changed r.page mark b.rows r (λ s. refl) found)
+        ]
 
 -- ---------------------------------------------------------------- a page that is not due
 

@@ -1,16 +1,16 @@
 -- A pass over what is due comes to what the pass of the definitions comes to.
-use Rattle.ksm_book.proofs.Names.{after_cursor, All, AllPairs-filter, ap, AreAscending, AreDue, arith, BookState, BookValue, Bool, comes_before, Deed, due_visited, due_visits}
-use Rattle.ksm_book.proofs.Names.{false, GuestPage, has_item, hidden_from, if◌then◌else◌, is_none, IsSound, IsStill, List, mergeable_pages, None, not, Option, page, pages_ahead}
-use Rattle.ksm_book.proofs.Names.{pages_visited, part_before, part_visited, pass_begun, Reached, ReachedBefore, refl, restless_at, Some, StaysBefore, StopsInPart, subst, sym, true}
-use Rattle.ksm_book.proofs.Names.{true≢false, view_of, with_none_waiting, [], ◌&&◌, ◌∙◌, ◌≡◌}
-use Rattle.ksm_book.specs.Scanned.{ahead_before, ahead_up_to, StaysStill, up_to}
+use Rattle.ksm_book.proofs.Names.{after_cursor, ahead_before, ahead_up_to, All, AllPairs-filter, ap, AreDue, arith, BookState, BookValue, Bool, Comes, comes_before, Deed}
+use Rattle.ksm_book.proofs.Names.{due_visited, due_visits, each_at_page, false, filter, FindsFirst, get_or, GuestPage, has_item, hidden_from, if◌then◌else◌, InPageOrder, is_none, IsSound}
+use Rattle.ksm_book.proofs.Names.{IsStill, List, mergeable_pages, None, not, one_before, Option, page, page_visited, pages_ahead, pages_visited, part_before, part_visited, pass_begun, Reached}
+use Rattle.ksm_book.proofs.Names.{ReachedBefore, refl, restless_at, same_page_eq, Some, StaysBefore, StaysStill, StopsInPart, subst, sym, true, view_of, with_none_waiting, []}
+use Rattle.ksm_book.proofs.Names.{◌∙◌, ◌≡◌}
 use Rattle.ksm_book.proofs.DueAlike.{all_has, along, calm_stays, one_due, unveiled, veiled}
-use Rattle.ksm_book.proofs.DueKept.{undue_rests}
-use Rattle.ksm_book.specs.Due.{FindsFirst}
+use Rattle.ksm_book.proofs.DueKept.{still_undue, undue_rests}
 use Rattle.ksm_book.proofs.Folded.{ascending_ahead, every_page}
 use Rattle.ksm_book.proofs.PagesAhead.{Before, has_filter}
-use Rattle.ksm_book.proofs.Reached.{agrees, changed_comes, comes_as}
-use Rattle.ksm_book.proofs.Scanned.{begun_ahead}
+use Rattle.ksm_book.proofs.Reached.{agrees, begins, changed_comes, comes_as, comes_to, first}
+use Rattle.ksm_book.proofs.Scanned.{begun_ahead, restless_mergeable}
+use Rattle.ksm_pages.specs.Ahead.{FindsNext}
 use Rattle.ksm_book.proofs.Walked.{before_it, is_ahead, IsVisit, IsWalking, resting, Rests}
 
 -- ---------------------------------------------------------------- the walk
@@ -18,18 +18,17 @@ use Rattle.ksm_book.proofs.Walked.{before_it, is_ahead, IsVisit, IsWalking, rest
 -- the visit of a page that is due is one that a walk may make
 pub visits_due : IsVisit due_visited
 visits_due = record {
-  sound = λ b deed page sound. (one_due b sound deed page).0;
-  mergeable = λ b deed page sound. (one_due b sound deed page).1;
+  goes = λ b deed page sound. (one_due b sound deed page).0;
   calm = λ b page calm deed. calm_stays (b, deed) page calm;
 }
 
 -- a walk has reached a book in which some pages are due
 module _ {old mid : BookValue} {last : Option GuestPage} (due : List GuestPage)
-    (w : IsWalking due_visited None old mid last) (are : AreDue mid.state due) where
+    (w : IsWalking due_visited None old mid last false) (are : AreDue mid.state due) where
   -- where none of them behind the page reached passes a test, visits of pages there that pass it do nothing
   pub rests_due : (test : GuestPage → Bool) → All (λ p. after_cursor last p ≡ true → test p ≡ false) due → (q : GuestPage)
       → after_cursor last q ≡ true → test q ≡ true → Rests due_visited mid.state q
-  rests_due test none q after passes = undue_rests mid.state due w.sound are q
+  rests_due test none q after passes = undue_rests mid.state due w.goes.0 are q
       (grind (arith, all_has (λ p. after_cursor last p ≡ true → test p ≡ false) due none q))
 
 -- ---------------------------------------------------------------- the visits of the definitions
@@ -40,43 +39,31 @@ module _ (b : BookState) (deed : Deed) (sound : IsSound b) (start : b.cursor ≡
   abbrev all : List GuestPage
   all = pages_ahead b
 
-  rises : AreAscending all
-  rises = ascending_ahead b sound.rows_rise
+  -- whether a page comes before the one at which visits stop, if there is one
+  abbrev goes_to : Option GuestPage → GuestPage → Bool
+  goes_to None q = true
+  goes_to (Some page) q = comes_before q page
 
-  -- the visits of the pages that fail a test which goes up, where the others are veiled
-  alike : (e : GuestPage → Bool) → ((p q : GuestPage) → e q ≡ true → e p ≡ false → comes_before p q ≡ true)
-      → (pages : List GuestPage) → AreAscending pages
-      → ((q : GuestPage) → has_item q pages ≡ (not (e q) && has_item q all))
-      → pages_visited (pass_begun b, deed) pages
-      ≡ (veiled e (due_visits (b, deed) pages).0, (due_visits (b, deed) pages).1)
-  alike e up pages rise are =
+  -- the visits of those that come before a stop, where the others are veiled
+  alike : (stop : Option GuestPage) → let due = due_visits (b, deed) (filter (goes_to stop) all) in
+      pages_visited (pass_begun b, deed) (filter (goes_to stop) all) ≡ (veiled (λ q. not (goes_to stop q)) due.0, due.1)
+  alike stop =
       let mergeable : all ≡ mergeable_pages b.rows = rw start (every_page b.rows) in
-      ap (λ z. pages_visited (if is_none z then with_none_waiting b else b, deed) pages) start
-      ∙ along e up pages None (b, deed) sound
-      (record { rise = rise; are = λ q. grind (arith, are q, mergeable); behind = λ q is. refl })
+      ap (λ z. pages_visited (if is_none z then with_none_waiting b else b, deed) (filter (goes_to stop) all)) start
+      ∙ along (goes_to stop) (λ p q over goes. grind arith) (filter (goes_to stop) all) None (b, deed) sound (record {
+        rise = AllPairs-filter Before (goes_to stop) all (ascending_ahead b sound.rows_rise);
+        are = λ q. grind (arith, has_filter, mergeable);
+        behind = λ q is. refl;
+      })
 
   -- the visits of all pages that are due are those of the whole pass
   pub whole_part : due_visits (b, deed) (ahead_up_to None b) ≡ part_visited None (b, deed)
-  whole_part =
-      let pages = ahead_up_to None b in
-      grind (
-        arith,
-        begun_ahead b,
-        unveiled (due_visits (b, deed) pages).0,
-        alike (λ _. false) (λ p q is _. absurd (true≢false (sym is))) pages (AllPairs-filter Before (up_to None) all rises)
-            (λ q. has_filter (up_to None) q all),
-      )
+  whole_part = grind (arith, begun_ahead b, unveiled (due_visits (b, deed) (ahead_up_to None b)).0, alike None)
 
   -- the visits of the pages before one, once no row from there on waits
-  before_part : (page : GuestPage) → (
-    hidden_from page (due_visits (b, deed) (ahead_before page b)).0,
-    (due_visits (b, deed) (ahead_before page b)).1,
-  ) ≡ part_before page (b, deed)
-  before_part page =
-      let low : GuestPage → Bool = λ p. comes_before p page in
-      rw (begun_ahead b)
-      (sym (alike (λ p. not (comes_before p page)) (λ p q is fails. grind arith) (ahead_before page b)
-      (AllPairs-filter Before low all rises) (λ q. grind (arith, has_filter))))
+  before_part : (page : GuestPage) → let due = due_visits (b, deed) (ahead_before page b) in
+      (hidden_from page due.0, due.1) ≡ part_before page (b, deed)
+  before_part page = rw (begun_ahead b) (sym (alike (Some page)))
 
 -- a pass begins at a book
 module _ (old : BookValue) (sound : IsSound old.state) (start : old.state.cursor ≡ None) where
@@ -90,7 +77,7 @@ module _ (old : BookValue) (sound : IsSound old.state) (start : old.state.cursor
 
 -- where the first page that is due was not visited, and no row from there on waits any more, the pass stopped before it
 pub part_stops : {old mid : BookValue} (next new : BookValue) {last : Option GuestPage} (due : List GuestPage)
-    (w : IsWalking due_visited None old mid last) → AreDue mid.state due → (page : GuestPage) → FindsFirst last due (Some page)
+    (w : IsWalking due_visited None old mid last false) → AreDue mid.state due → (page : GuestPage) → FindsFirst last due (Some page)
     → old.state.cursor ≡ None → StaysBefore page mid next → restless_at page mid.state.rows ≡ true
     → view_of new ≡ record (view_of next) { state = hidden_from page next.state } → StopsInPart old new None page
 part_stops {old} next new due w are page first start stays restless hides =
@@ -103,3 +90,21 @@ part_stops {old} next new due w are page first start stays restless hides =
           subst (λ (b : BookState). Reached from new (b, (due_visits s (ahead_before page s.0)).1)) there.0
           (changed_comes next new (hidden_from page) hides from (next.state, (due_visits s (ahead_before page s.0)).1) (refl, there.1)));
     }
+
+-- ---------------------------------------------------------------- what is due as a walk goes on
+
+-- the pages behind a page that was visited are due, if those behind the page reached were, and only which rows wait changed
+pub due_walks : (mid new : BookValue) (reached : Option GuestPage) (page : GuestPage) (all : List GuestPage) → IsSound mid.state
+    → FindsNext reached mid.state.rows (Some page) → Comes mid new (λ s. page_visited s page) → StaysStill mid (λ s. page_visited s page)
+    → AreDue mid.state (filter (after_cursor reached) all) → AreDue new.state (filter (after_cursor (Some page)) all)
+due_walks mid new reached page all sound found comes still was = rw (comes_to mid new (λ s. page_visited s page) comes)
+    (still_undue mid.state _ page sound (still mid (first mid) (begins mid)) _ (λ k d lt restless out.
+    was k d lt restless (grind (arith, has_filter, found.1 k d lt restless, one_before, same_page_eq))))
+
+-- as a walk begins before all pages, those that scans visit are due
+pub due_begins : (b : BookState) → InPageOrder b.rows → AreDue b (filter (after_cursor None) (mergeable_pages b.rows))
+due_begins b rise k d lt restless out =
+    let page = (get_or b.rows k d).page in
+    let there : has_item page (mergeable_pages b.rows) ≡ true =
+    restless_mergeable page b.rows (grind (arith, each_at_page b.rows rise k d lt)) in
+    absurd (grind (arith, has_filter))

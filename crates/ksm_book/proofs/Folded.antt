@@ -1,17 +1,18 @@
 -- The visits of a pass are a fold over its pages, only restless pages count, and a quiet pass is repeated by those behind it.
-use Rattle.ksm_book.proofs.Names.{Stage, row_done}
-use Rattle.ksm_book.proofs.Names.{after_cursor, AllPairs-filter, and_right, ap, append-nil, AreAscending, arith, begun, BookState, cases_Bool, comes_before, Deed, drop, drop_more, each_at_page, false, filter}
-use Rattle.ksm_book.proofs.Names.{filter_all, find_all, find_passes, get_or_from_slice_get, GuestPage, idle, inl, InPageOrder, inr, is_none, is_restless, IsStill, last_of, List, map}
-use Rattle.ksm_book.proofs.Names.{map_mapped, mergeable_pages, next_row, next_visited, None, not-true, Option, option_map, page_visited, pages_ahead, pages_visited, pairs_mapped, pass_ended_at_last}
-use Rattle.ksm_book.proofs.Names.{refl, restless_at, restless_row, Row, row_at, rowwise_visits, settled, slice_get, slice_get-get_or, slice_get_within, Some, subst, suc, sym, take, take-append-drop}
-use Rattle.ksm_book.proofs.Names.{then_doing, true, visit, visit_begun, visit_of, visits, visits_beside, zero, ℕ, [], ⊤, ◌++◌, ◌+◌, ◌∙◌, ◌∷◌, ◌≡◌}
-use Rattle.ksm_book.proofs.Going.{begun_goes, elsewhere, Goes, goes_same, mergeable_kept, visited_goes}
+use Rattle.ksm_book.proofs.Names.{after_cursor, AllPairs-filter, and_right, ap, append-nil, AreAscending, arith, begun, best_dup, BookState, Bool, cases_Bool, change_rows, comes_before, Deed}
+use Rattle.ksm_book.proofs.Names.{drop, drop_more, DupRow, each_at_page, false, filter, filter_all, filter_mapped, find_all, find_passes, get_or, get_or_from_slice_get, GuestPage, handled, idle}
+use Rattle.ksm_book.proofs.Names.{inl, InPageOrder, inr, is_none, is_restless, IsSound, IsStill, last_of, List, map, map_mapped, mergeable_pages, next_row, next_visited, None, Option, option_map}
+use Rattle.ksm_book.proofs.Names.{page_visited, pages_ahead, pages_visited, paired, pairs_mapped, partner, pass_ended_at_last, refl, restless_at, restless_row, Row, row_at, row_done, row_visited}
+use Rattle.ksm_book.proofs.Names.{rowwise_visits, same_page, settled, slice_get, slice_get-get_or, slice_get_within, Some, sound_row_visited, Stage, subst, suc, sym, take, take-append-drop}
+use Rattle.ksm_book.proofs.Names.{then_doing, true, visit, visit_begun, visit_of, visits, visits_beside, Zero, zero, [], ℕ, ⊤, ◌++◌, ◌+◌, ◌∙◌, ◌∷◌, ◌≡◌}
 use Rattle.ksm_book.proofs.PagesAhead.{Before, behind_first}
 use Rattle.ksm_pages.proofs.Options.{mapped_some, none_mapped}
 use Rattle.ksm_pages.proofs.Ranked.{last_of_take}
 use Rattle.std.proofs.Math.Seq.{take-suc}
 use Rattle.std.proofs.lemmas.List.Sums.{fold-append}
-use Rattle.ksm_book.proofs.ByPage.{found_page}
+use Rattle.ksm_book.proofs.ByPage.{found_page, row_of_page}
+use Rattle.ksm_base.specs.declared.row.PageState.TheVariants.{Private}
+use Rattle.ksm_base.proofs.SoundScan.{sound_visit_begun}
 
 -- ---------------------------------------------------------------- the page that is visited next
 
@@ -59,6 +60,48 @@ settled_twice rows = grind (arith, map_mapped)
 pub every_page : (rows : List Row) → filter (after_cursor None) (mergeable_pages rows) ≡ mergeable_pages rows
 every_page rows = filter_all (after_cursor None) _ (λ k d lt. refl)
 
+-- ---------------------------------------------------------------- what visits keep
+
+-- the same book with the cursor elsewhere, and with another count of passes
+abbrev pub elsewhere : Option GuestPage → ℕ → BookState → BookState
+elsewhere cursor passes b = record b { cursor = cursor; passes = passes }
+
+-- where a change keeps each row's page and whether scans visit it, scans visit the same pages
+pub mergeable_kept : (change : Row → Row)
+    → ((r : Row) → ((change r).page ≡ r.page) × ((change r).mergeable ≡ r.mergeable))
+    → (rows : List Row) → mergeable_pages (map change rows) ≡ mergeable_pages rows
+mergeable_kept change keeps rows = grind (
+  arith,
+  filter_mapped change (λ r. r.mergeable) (λ r. r.mergeable) rows (λ i d lt. (keeps (get_or rows i d)).1),
+  map_mapped,
+)
+
+-- so they do after the visit of a row
+module _ (b : BookState) (row : Row) where
+  turned_keeps : (test : Row → Bool) (f : Row → Row) → ((r : Row) → ((f r).page ≡ r.page) × ((f r).mergeable ≡ r.mergeable))
+      → mergeable_pages (change_rows test f b.rows) ≡ mergeable_pages b.rows
+  turned_keeps test f keeps = mergeable_kept _ (grind arith) b.rows
+
+  paired_keeps : (w : Option Row) → mergeable_pages (paired w b row).rows ≡ mergeable_pages b.rows
+  paired_keeps (Some w) = turned_keeps _ _ (λ r. (refl, refl))
+  paired_keeps None = turned_keeps _ _ (λ r. (refl, refl))
+
+  handled_keeps : (d : Option DupRow) → mergeable_pages (handled d b row).rows ≡ mergeable_pages b.rows
+  handled_keeps (Some d) = turned_keeps _ _ (λ r. (refl, refl))
+  handled_keeps None = grind (
+    arith,
+    turned_keeps (λ r. same_page r.page row.page) (λ r. record r { state = Zero }) (λ r. (refl, refl)),
+    paired_keeps (partner b.knobs b.rows row),
+    turned_keeps (λ r. same_page r.page row.page) (λ r. record r { unchanged = true; state = Private }) (λ r. (refl, refl)),
+  )
+
+  row_keeps : mergeable_pages (row_visited b row).rows ≡ mergeable_pages b.rows
+  row_keeps = grind (arith, handled_keeps (best_dup b.knobs b.rows b.dups row))
+
+-- a book is sound then, and scans visit the same pages as in another
+abbrev pub Goes : BookState → BookState → Type 0
+Goes old new = IsSound new × (mergeable_pages new.rows ≡ mergeable_pages old.rows)
+
 -- ---------------------------------------------------------------- visits with what they do to the frames
 
 -- what is so of a page whose row no visit may change, and of that of each row that one may, is so of each page
@@ -102,18 +145,18 @@ beside_state (suc n) s = by (begun (visits_beside n s)) _ ∙ ap visit (beside_s
 pub visits_mergeable : (n : ℕ) (s : Stage) → mergeable_pages (visits_beside n s).0.rows ≡ mergeable_pages s.0.rows
 visits_mergeable n s = rw (beside_state n s) (grind (arith, (rowwise_visits n s.0).rows, mergeable_kept))
 
--- what the visit of a page keeps of the rows
-page_goes : (s : Stage) (page : GuestPage) → InPageOrder s.0.rows → Goes s.0.rows (page_visited s page).0.rows
-page_goes s page rise = by_row (λ p. Goes s.0.rows (page_visited s p).0.rows) page s.0.rows
-    (λ calm. grind (arith, goes_same {rows = s.0.rows}))
-    (λ r found restless. rw (found, restless) (visited_goes s.0 r rise found (grind (arith, not-true))))
+-- the visit of a page keeps a book sound, and which pages scans visit
+pub page_goes : (s : Stage) (page : GuestPage) → IsSound s.0 → Goes s.0 (page_visited s page).0
+page_goes s page sound = by_row (λ p. Goes s.0 (page_visited s p).0) page s.0.rows (grind arith)
+    (λ r found restless.
+    rw (found, restless) (sound_row_visited s.0 r (grind (arith, row_of_page)) sound, row_keeps s.0 r))
 
--- visits of pages keep the rows in page order and which pages scans visit, and make no page restless
-pub pages_go : (pages : List GuestPage) (s : Stage) → InPageOrder s.0.rows → Goes s.0.rows (pages_visited s pages).0.rows
-pages_go [] s rise = goes_same
-pages_go (page ∷ pages) s rise =
-    let first = page_goes s page rise in grind
-    (arith, first, pages_go pages (page_visited s page) (first.order rise))
+-- so do the visits of pages
+pub pages_go : (pages : List GuestPage) (s : Stage) → IsSound s.0 → Goes s.0 (pages_visited s pages).0
+pages_go [] s sound = (sound, refl)
+pages_go (page ∷ pages) s sound =
+    let first = page_goes s page sound in
+    let more = pages_go pages (page_visited s page) first.0 in (more.0, more.1 ∙ first.1)
 
 -- the visit of the next row is that of its page
 next_is_page : (s : Stage) (row : Row) → InPageOrder s.0.rows → next_row s.0.cursor s.0.rows ≡ Some row
@@ -142,7 +185,7 @@ pub pages_stay : (pages : List GuestPage) (s : Stage)
 pages_stay pages s = grind (arith, pages_alike s.0.cursor s.0.passes pages s)
 
 -- visits that begin from a state
-module _ (s : Stage) (rise : InPageOrder s.0.rows) where
+module _ (s : Stage) where
   -- the pages ahead once a visit begins
   abbrev pub ahead : List GuestPage
   ahead = pages_ahead (visit_begun s.0)
@@ -151,10 +194,6 @@ module _ (s : Stage) (rise : InPageOrder s.0.rows) where
   abbrev pub after : List GuestPage → Stage
   after pages = pages_visited (begun s) pages
 
-  -- the pages ahead once a visit begins ascend
-  pub ascending : AreAscending ahead
-  ascending = grind (arith, ascending_ahead, begun_goes)
-
   -- the first n pages ahead were visited, with the cursor at the last
   abbrev pub stood : ℕ → Stage
   stood n = (
@@ -162,53 +201,60 @@ module _ (s : Stage) (rise : InPageOrder s.0.rows) where
     (after (take n ahead)).1,
   )
 
-  -- the rows are in order then
-  order_then : (n : ℕ) → Goes (visit_begun s.0).rows (stood n).0.rows
-  order_then n = pages_go (take n ahead) (begun s) ((begun_goes s.0).order rise)
+  module _ (sound : IsSound s.0) where
+    -- the book is sound once a visit begins
+    pub begun_sound : IsSound (visit_begun s.0)
+    begun_sound = sound_visit_begun s.0 sound
 
-  -- and the others are ahead
-  pub ahead_then : (n : ℕ) → pages_ahead (stood n).0 ≡ drop n ahead
-  ahead_then n =
-      let order = (begun_goes s.0).order rise in
-      ap (filter (after_cursor (stood n).0.cursor)) (order_then n).mergeable
-      ∙ behind_done (take n ahead) (drop n ahead) _ _ (ascending_mergeable _ order) (sym (take-append-drop n ahead))
+    -- the pages ahead once a visit begins ascend
+    pub ascending : AreAscending ahead
+    ascending = ascending_ahead (visit_begun s.0) begun_sound.rows_rise
 
-  -- one visit more is that of the next page
-  one_more : (n : ℕ) (page : GuestPage) → slice_get ahead n ≡ Some page → begun (visits_beside n s) ≡ stood n
-      → visits_beside (suc n) s ≡ (pass_ended_at_last (stood (suc n)).0, (stood (suc n)).1)
-  one_more n page at from =
-      let t = stood n in
-      let lt = slice_get_within ahead n page at in
-      let here = get_or_from_slice_get ahead n page page at in
-      let next = some_next t.0 (ahead_then n ∙ drop_more ahead n page lt ∙ ap (λ p. p ∷ drop (n + 1) ahead) here) in
-      let visit = subst (λ p. page_visited t p ≡ row_done t next.0) next.2
-      (next_is_page t next.0 ((order_then n).order ((begun_goes s.0).order rise)) next.1) in
-      let more = take-suc ahead n page lt ∙ ap (λ p. take n ahead ++ p ∷ []) here in
-      grind (
-        arith,
-        from,
-        visit,
-        more,
-        page_alike t.0.cursor t.0.passes (after (take n ahead)) page,
-        fold-append page_visited (begun s) (take n ahead) (page ∷ []),
-        last_of_take ahead n (visit_begun s.0).cursor at,
-        pages_stay (take n ahead) (begun s),
-        pages_stay (take (suc n) ahead) (begun s),
-      )
+    goes_then : (n : ℕ) → Goes (visit_begun s.0) (after (take n ahead)).0
+    goes_then n = pages_go (take n ahead) (begun s) begun_sound
 
-  -- the visit behind those of the first n pages ahead begins where these have led
-  pub begun_folded : (n : ℕ) (page : GuestPage) → slice_get ahead n ≡ Some page
-      → begun (visits_beside n s) ≡ stood n
-  begun_folded zero page at = refl
-  begun_folded (suc n) page at =
-      let lt = slice_get_within ahead (suc n) page at in
-      let there = slice_get-get_or ahead n page (omega arith) in
-      let made = one_more n _ there (begun_folded n _ there) in
-      let cut = ahead_then (suc n) ∙ drop_more ahead (suc n) page lt in
-      let last = last_of_take ahead n (visit_begun s.0).cursor there in
-      grind (arith, made, last, pass_goes_on (stood (suc n)).0 _ _ cut)
+    -- once the first n pages ahead were visited, the others are ahead
+    pub ahead_then : (n : ℕ) → pages_ahead (stood n).0 ≡ drop n ahead
+    ahead_then n =
+        ap (filter (after_cursor (stood n).0.cursor)) (goes_then n).1
+        ∙ behind_done (take n ahead) (drop n ahead) _ _ (ascending_mergeable _ begun_sound.rows_rise) (sym (take-append-drop n ahead))
 
-  -- as many visits as lead up to a page ahead are those of the pages up to it; the pass ends if it is the last
-  pub visits_folded : (n : ℕ) (page : GuestPage) → slice_get ahead n ≡ Some page
-      → visits_beside (suc n) s ≡ (pass_ended_at_last (stood (suc n)).0, (stood (suc n)).1)
-  visits_folded n page at = one_more n page at (begun_folded n page at)
+    -- one visit more is that of the next page
+    one_more : (n : ℕ) (page : GuestPage) → slice_get ahead n ≡ Some page → begun (visits_beside n s) ≡ stood n
+        → visits_beside (suc n) s ≡ (pass_ended_at_last (stood (suc n)).0, (stood (suc n)).1)
+    one_more n page at from =
+        let t = stood n in
+        let lt = slice_get_within ahead n page at in
+        let here = get_or_from_slice_get ahead n page page at in
+        let next = some_next t.0 (ahead_then n ∙ drop_more ahead n page lt ∙ ap (λ p. p ∷ drop (n + 1) ahead) here) in
+        let visit = subst (λ p. page_visited t p ≡ row_done t next.0) next.2
+        (next_is_page t next.0 (goes_then n).0.rows_rise next.1) in
+        let more = take-suc ahead n page lt ∙ ap (λ p. take n ahead ++ p ∷ []) here in
+        grind (
+          arith,
+          from,
+          visit,
+          more,
+          page_alike t.0.cursor t.0.passes (after (take n ahead)) page,
+          fold-append page_visited (begun s) (take n ahead) (page ∷ []),
+          last_of_take ahead n (visit_begun s.0).cursor at,
+          pages_stay (take n ahead) (begun s),
+          pages_stay (take (suc n) ahead) (begun s),
+        )
+
+    -- the visit behind those of the first n pages ahead begins where these have led
+    pub begun_folded : (n : ℕ) (page : GuestPage) → slice_get ahead n ≡ Some page
+        → begun (visits_beside n s) ≡ stood n
+    begun_folded zero page at = refl
+    begun_folded (suc n) page at =
+        let lt = slice_get_within ahead (suc n) page at in
+        let there = slice_get-get_or ahead n page (omega arith) in
+        let made = one_more n _ there (begun_folded n _ there) in
+        let cut = ahead_then (suc n) ∙ drop_more ahead (suc n) page lt in
+        let last = last_of_take ahead n (visit_begun s.0).cursor there in
+        grind (arith, made, last, pass_goes_on (stood (suc n)).0 _ _ cut)
+
+    -- as many visits as lead up to a page ahead are those of the pages up to it; the pass ends if it is the last
+    pub visits_folded : (n : ℕ) (page : GuestPage) → slice_get ahead n ≡ Some page
+        → visits_beside (suc n) s ≡ (pass_ended_at_last (stood (suc n)).0, (stood (suc n)).1)
+    visits_folded n page at = one_more n page at (begun_folded n page at)

@@ -58,8 +58,8 @@ pub use Rattle.ksm_base.specs.declared.shape.Shape.{Shape}
 pub use Rattle.ksm_book.specs.Carried.{CarriedOut, IsCarried, scanning, UnmergesTo}
 pub use Rattle.ksm_book.specs.Commands.{Deed, dup_frame, emptying, Finds, FindsHeld, FindsNone, frame_number, handling, idle, instead, leaving, Mapped, mounting, Moves, pairing}
 pub use Rattle.ksm_book.specs.Commands.{Performs, Provides, pruning, Resettles, ResettlesEach, rewriting, row_visiting, then_doing, withdrawing}
-pub use Rattle.ksm_book.specs.Due.{AreDue, comes_later, due_visited, due_visits, DueView, freed, hidden_from, IsDueNoMore, takes_over, waits_on}
-pub use Rattle.ksm_book.specs.DuePass.{part_before, part_visited, ReachedBefore, StaysBefore, StopsInPart, TakesOver, with_rows}
+pub use Rattle.ksm_book.specs.Due.{AreDue, comes_later, due_visited, due_visits, DueView, FindsFirst, freed, hidden_from, IsDueNoMore, part_before, part_visited, ReachedBefore, StaysBefore}
+pub use Rattle.ksm_book.specs.Due.{StopsInPart, takes_over, TakesOver, TellsDue, waits_on, with_rows}
 pub use Rattle.ksm_book.specs.Folded.{begun, IsStill, next_visited, page_visited, pages_ahead, pages_visited, restless_at, restless_row, row_done, Stage, visited, visits_beside}
 pub use Rattle.ksm_tree.specs.NumberSets.{has, Marks}
 pub use Rattle.ksm_book.specs.FrameSets.{AreSets, MayLeave}
@@ -68,7 +68,7 @@ pub use Rattle.ksm_book.specs.Laid.{HasRemounted, Houses, IsLaid, lying, MayMove
 pub use Rattle.ksm_book.specs.Mounted.{HasLost, HasMoved, MayMount, once_mounted}
 pub use Rattle.ksm_book.specs.Placement.{Agrees, DupFits, FitsBase, in_hand, is_frame, IsInLife, IsServed, life_or, node_of, place_frame, Placed, RowFits, uses}
 pub use Rattle.ksm_book.specs.Promised.{dup_frames, FindsPlace, is_in_use, IsOutlived, LieOn, own_frames, StandsOn}
-pub use Rattle.ksm_book.specs.Scanned.{Comes, HasStayed, is_nowhere, IsForZero, last_visited, MayJoin, MeetsPage, Reached, up_to, VisitsPage}
+pub use Rattle.ksm_book.specs.Scanned.{ahead_before, ahead_up_to, Comes, FindsStill, FindsUpTo, HasVisited, is_nowhere, is_quiet, last_visited, passes_ended, Reached, StaysStill, up_to, VisitsPage}
 pub use Rattle.ksm_book.specs.Steps.{Allocates, AllocatesOn, along, dying_from, dying_kind, dying_on, free_kind, given_by, Gives, IsLowestFree, loads, Log, MakesSteps, needed_after, puts}
 pub use Rattle.ksm_book.specs.Steps.{NoneOf, replayed, stepped, steps_of}
 pub use Rattle.ksm_book.specs.Unmerged.{HasLeft, is_shared_of, left_by, MayNotLeave, Unshares}

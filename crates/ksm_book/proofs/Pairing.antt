@@ -1,9 +1,9 @@
 -- A visited page makes a dup with the page that waits for it: what the keeper may do, and what becomes of the book.
-use Rattle.ksm_book.proofs.Names.{Add, All, All-contains_itself, arith, BookState, BookView, Bool, change_row, Contains, Contains-append_right, count_none, did, dup_of_row, DupRow}
-use Rattle.ksm_book.proofs.Names.{each_at_page, eq-eqb, false, find_all, find_changed_other, find_passes, frames_of, GuestPage, IfSome, if◌then◌else◌, InPageOrder, IsFree, IsLaid, IsVacant}
-use Rattle.ksm_book.proofs.Names.{joined_count, KeeperView, leaving, lies_on, list_any, MakesSteps, May, MayLeave, MayPair, MeetsPage, Merged, merged_into}
-use Rattle.ksm_book.proofs.Names.{new_place, new_place_free, next_is_new, Option, ordered_change, PagesView, partner, place_count, Publish, refl, Row, row_at}
-use Rattle.ksm_book.proofs.Names.{shared_state, Some, state_of, Sub, subst, sym, true, waits_for, waits_tells, WaitsFor, with_dup, Withdraw, withdrawing, ℕ, [], ◌+◌, ◌<◌, ◌==◌, ◌∙◌, ◌∷◌, ◌≡◌}
+use Rattle.ksm_book.proofs.Names.{Add, All, All-contains_itself, arith, BookState, BookView, Bool, change_row, Contains, Contains-append_right, count_none, did, dup_of_row, DupRow, each_at_page}
+use Rattle.ksm_book.proofs.Names.{eq-eqb, false, find_all, find_changed_other, find_passes, frames_of, GuestPage, IfSome, if◌then◌else◌, InPageOrder, IsFree, IsLaid, IsVacant, joined_count}
+use Rattle.ksm_book.proofs.Names.{KeeperView, leaving, lies_on, list_any, MakesSteps, May, MayLeave, MayPair, Merged, merged_into, new_place, new_place_free, next_is_new, Option, ordered_change}
+use Rattle.ksm_book.proofs.Names.{PagesView, Partner, partner, place_count, Publish, refl, Row, row_at, shared_state, Some, state_of, Sub, subst, sym, true, waits_for, waits_tells, WaitsFor}
+use Rattle.ksm_book.proofs.Names.{with_dup, Withdraw, withdrawing, [], ℕ, ◌+◌, ◌<◌, ◌==◌, ◌∙◌, ◌∷◌, ◌≡◌}
 use Rattle.ksm_pages.specs.Paged.{HasRow, paired as are_paired}
 use Rattle.ksm_pages.proofs.Paired.{both_changed}
 use Rattle.ksm_book.proofs.Made.{made_one, made_then}
@@ -14,14 +14,14 @@ use Rattle.ksm_book.proofs.Promised.{finds_place}
 
 -- a visited page meets another one as its partner, and is to make a dup with it at the place for a new dup
 module _ {other : GuestPage} {p : PagesView} {k : KeeperView} {cursor : Option GuestPage} {passes : ℕ} {v : BookView} {page one : GuestPage} {place : ℕ}
-    (at : Meets (λ b. MeetsPage b other) p k cursor passes v page) (is : one ≡ other)
+    (at : Meets (Partner other) p p k cursor passes v page) (is : one ≡ other)
     (chosen : place ≡ new_place (place_count p.shape) p.rows p.dups) where
   abbrev row : Row
   row = at.row
 
   -- the partner of the visited page
   pub met : (w : Row) × (partner p.knobs p.rows row ≡ Some w) × (other ≡ w.page)
-  met = filled_by _ at.so.1
+  met = filled_by _ at.so.4
 
   abbrev w : Row
   w = met.0
@@ -53,7 +53,7 @@ module _ {other : GuestPage} {p : PagesView} {k : KeeperView} {cursor : Option G
   pub room : new_place (place_count p.shape) p.rows p.dups < place_count p.shape
   room = finds_place b _ at.sound _ at.laid.placed row
       (find_all _ (Contains p.rows) p.rows row at.found (All-contains_itself p.rows))
-      (restless_own row at.so.0.restless)
+      (restless_own row at.so.0)
 
   inside : place < frames_of p.shape
   inside = rw chosen room
@@ -140,7 +140,7 @@ module _ {other : GuestPage} {p : PagesView} {k : KeeperView} {cursor : Option G
         pub pair_leads : Leads v q l cursor passes page
         pair_leads =
             let made = made_then clears (made_then (made_one k1 k2 (Publish place f) 0 shown) steps) in
-            leads at q l at.so.0.restless
+            leads at q l at.so.0
             (rw q_is
             (laid_joined first_laid first_rise _ row _ row_still item_at f lies refl change (λ r. refl) refl (sym tells.bytes)
             l steps)) (rw goes (grind (arith, met.1))) (grind (arith, at_page, at.found, at.so, met.1, alone, q_is))

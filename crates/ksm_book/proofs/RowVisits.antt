@@ -1,19 +1,22 @@
 -- The visit of a row, by what is found: what becomes of the book, and what is done to the frames.
-use Rattle.ksm_book.proofs.Names.{Add, All, All-contains_itself, arith, Best, best_dup, best_dup_has_room, BookState, BookView, change_row, Contains, DupRow}
-use Rattle.ksm_book.proofs.Names.{each_at_page, false, find_all, find_passes, GuestPage, HasRoom, IfSome, is_best, is_restless, IsDupOf}
-use Rattle.ksm_book.proofs.Names.{IsForZero, IsJoined, IsLaid, IsSound, item_count, KeeperStep, KeeperView, leaving, lies_on, lying, MakesSteps, MatchOption, May, MayJoin, MayLeave, Merged}
-use Rattle.ksm_book.proofs.Names.{merged_into, merged_state, MOST_REFERENCES, None, Option, PagesView, Performs, Placed, refl, Row, row_at, row_visited}
-use Rattle.ksm_book.proofs.Names.{row_visiting, shared_state, Some, sound_row_visited, state_of, Sub, subst, sym, true, VisitsPage, Zero, ℕ, [], ◌-◌, ◌∷◌, ◌≡◌, ◌≤◌}
+use Rattle.ksm_book.proofs.Names.{Add, All, All-contains_itself, arith, Best, best_dup, best_dup_has_room, BookValue, BookView, change_row, Comes, Contains, Dup, DupRow, each_at_page}
+use Rattle.ksm_book.proofs.Names.{false, Find, find_all, find_passes, FindsAt, FindsStill, Frames, GuestPage, HasRoom, idle, IfSome, is_best, is_restless, IsDupOf, IsJoined, IsLaid, IsSound}
+use Rattle.ksm_book.proofs.Names.{item_count, KeeperStep, KeeperView, leaving, lies_on, List, lying, MakesSteps, map, map_mapped, MatchOption, May, MayLeave, Merged, merged_into, merged_state}
+use Rattle.ksm_book.proofs.Names.{MOST_REFERENCES, None, Option, page_visited, PagesView, Performs, Placed, refl, Row, row_at, row_visited, row_visiting, same_page, settled, shared_state, Some}
+use Rattle.ksm_book.proofs.Names.{sound_row_visited, state_of, StaysStill, Sub, subst, sym, true, view_of, VisitsPage, Waiting, Zero, [], ℕ, ◌-◌, ◌∷◌, ◌≡◌, ◌≤◌}
 use Rattle.frame_table.specs.Kept.{Did}
-use Rattle.ksm_pages.specs.Paged.{HasRow, ItemsLieOn}
 use Rattle.ksm_book.proofs.ByPage.{found_page, row_of_page}
 use Rattle.ksm_book.proofs.Keeping.{left_placed, left_spends, may_leave}
-use Rattle.ksm_book.proofs.Laying.{laid_rows}
 use Rattle.ksm_book.proofs.Made.{made_one, made_then}
 use Rattle.ksm_book.proofs.Moves.{swapped}
 use Rattle.ksm_book.proofs.Sharing.{laid_joined, may_join as join_may, may_part, state_of_item}
 use Rattle.ksm_book.proofs.Singles.{book}
 use Rattle.ksm_book.proofs.Standing.{Lives, lives}
+use Rattle.ksm_pages.specs.declared.pages.Find.TheVariants as finds
+use Rattle.ksm_base.specs.declared.row.PageState.TheVariants.{Private}
+use Rattle.ksm_book.proofs.Folded.{then_idle}
+use Rattle.ksm_pages.specs.Paged.{changed as row_changed, Finds, ItemsLieOn}
+use Rattle.ksm_book.proofs.Laying.{laid_changed, laid_rows, LodgesAs}
 
 -- where something is told of what an option holds, it holds something, of which that is so
 pub filled_by : {X : Type 0} (P : X → Type 0) {o : Option X} → MatchOption o (true ≡ false) P → (x : X) × (o ≡ Some x) × P x
@@ -29,21 +32,18 @@ restless_own row is = grind arith
 pub made_by : {v w : KeeperView} {e : KeeperStep} → Did v e w → MakesSteps v w (e ∷ [])
 made_by {v} {w} {e} did = made_one v w e _ did.1
 
--- a book, seen as v, lies lawfully, and something is so of the row of a page
-pub record Meets (P : BookState → Row → Type 0) (p : PagesView) (k : KeeperView) (cursor : Option GuestPage) (passes : ℕ) (v : BookView)
+-- a visit found something of the row of a page, and changed what is seen of the pages, in a book that lies lawfully
+pub record Meets (f : Find) (p q : PagesView) (k : KeeperView) (cursor : Option GuestPage) (passes : ℕ) (v : BookView)
     (page : GuestPage) : Type 0 where
   -- the pages, the keeper, the cursor and the passes are the book seen
   pub is : book p k cursor passes ≡ v
-  -- the book is sound
+  -- the book is sound, and rows and dups lie lawfully
   pub sound : IsSound (state_of p cursor passes)
-  -- rows and dups lie lawfully
   pub laid : IsLaid p k
-  -- the row of the page
+  -- the row that is found at the page
   pub row : Row
-  -- the row is found at the page
   pub found : row_at page p.rows ≡ Some row
-  -- the property holds of the book and the row
-  pub so : P (state_of p cursor passes) row
+  pub so : FindsAt p q row f
 
 -- the visit of a page in the book seen as v leads to this book
 pub record Leads (v : BookView) (q : PagesView) (l : KeeperView) (cursor : Option GuestPage) (passes : ℕ) (page : GuestPage) : Type 0 where
@@ -53,12 +53,19 @@ pub record Leads (v : BookView) (q : PagesView) (l : KeeperView) (cursor : Optio
   pub visits : VisitsPage v (book q l cursor passes) page
 
 module _ {p : PagesView} {k : KeeperView} {cursor : Option GuestPage} {passes : ℕ} {v : BookView} {page : GuestPage} where
-  -- where something is so of a page's row in a sound book that lies lawfully, as callers see it, the row is met with it
-  pub meets : (P : BookState → Row → Type 0) → IsSound (state_of p cursor passes) × IsLaid p k → book p k cursor passes ≡ v
-      → HasRow page v.state.rows (P v.state) → Meets P p k cursor passes v page
-  meets P lawful same told = grind arith
+  -- a row of which a visit finds something, as callers see it, and changes nothing, is met with it
+  pub meets : {f : Find} → IsSound (state_of p cursor passes) × IsLaid p k → book p k cursor passes ≡ v → FindsStill v page f
+      → Meets f p p k cursor passes v page
+  meets {f} lawful same told =
+      let at = filled_by _ (subst (λ (w : BookView). FindsStill w page f) (sym same) told) in
+      record { is = same; sound = lawful.0; laid = lawful.1; row = at.0; found = at.1; so = at.2 }
 
-  module _ {P : BookState → Row → Type 0} (at : Meets P p k cursor passes v page) where
+  -- a row of which a visit found something is met with it
+  pub finds_it : (f : Find) → (f ≡ finds.Gone → ⊥) → IsSound (state_of p cursor passes) × IsLaid p k → book p k cursor passes ≡ v
+      → (q : PagesView) {found : Find} → found ≡ f → Finds p q page found → Meets f p q k cursor passes v page
+  finds_it f some lawful same q is told = grind arith
+
+  module _ {f : Find} {q : PagesView} (at : Meets f p q k cursor passes v page) where
     -- the row that is met is of the page
     pub page_is : at.row.page ≡ page
     page_is = found_page _ _ _ at.found
@@ -68,10 +75,10 @@ module _ {p : PagesView} {k : KeeperView} {cursor : Option GuestPage} {passes : 
     there_is = grind (arith, page_is)
 
     -- where the row met was visited and rows and dups lie lawfully then, the visit leads to the book as it is then
-    pub leads : (q : PagesView) (l : KeeperView) → is_restless at.row ≡ true → IsLaid q l
-        → state_of q cursor passes ≡ row_visited (state_of p cursor passes) at.row
-        → Performs (lying p k) (lying q l) (row_visiting (state_of p cursor passes) p.frame at.row) → Leads v q l cursor passes page
-    leads q l restless laid state does = record {
+    pub leads : (n : PagesView) (l : KeeperView) → is_restless at.row ≡ true → IsLaid n l
+        → state_of n cursor passes ≡ row_visited (state_of p cursor passes) at.row
+        → Performs (lying p k) (lying n l) (row_visiting (state_of p cursor passes) p.frame at.row) → Leads v n l cursor passes page
+    leads n l restless laid state does = record {
       lawful = (
         subst IsSound (sym state) (sound_row_visited _ _ (grind (arith, row_of_page, there_is)) at.sound),
         laid,
@@ -81,7 +88,7 @@ module _ {p : PagesView} {k : KeeperView} {cursor : Option GuestPage} {passes : 
 
   -- ---------------------------------------------------------------- a page joins a dup
 
-  module _ (best : Best) (at : Meets (λ b. MayJoin b best) p k cursor passes v page) (g : ℕ)
+  module _ (best : Best) (at : Meets (Dup best) p p k cursor passes v page) (g : ℕ)
       (lies : All (λ d. d.place ≡ best.place → ItemsLieOn d.number g p) p.dups) where
     abbrev row : Row
     row = at.row
@@ -176,7 +183,7 @@ module _ {p : PagesView} {k : KeeperView} {cursor : Option GuestPage} {passes : 
 
   -- ---------------------------------------------------------------- a page becomes Zero
 
-  module _ (at : Meets IsForZero p k cursor passes v page) where
+  module _ (at : Meets finds.Zero p p k cursor passes v page) where
     abbrev zeroed : Row → Row
     zeroed r = record r { state = Zero }
 
@@ -193,6 +200,55 @@ module _ {p : PagesView} {k : KeeperView} {cursor : Option GuestPage} {passes : 
         → q ≡ record p { rows = change_row page zeroed p.rows; frame = lies_on page None p.frame } → Leads v q l cursor passes page
     zero_leads q {l} was made goes =
         let leaves = subst (λ o. MakesSteps k l (leaving o)) was made in
-        leads at q l at.so.restless
+        leads at q l at.so.0
         (rw goes (laid_rows at.laid l (rw leaves.after) (left_spends _ leaves) (left_placed _ leaves zero_hand)))
         (grind (arith, goes, page_is at, at.so)) (grind (arith, goes, page_is at, at.so))
+
+-- ---------------------------------------------------------------- what is found of a page, and what becomes of the book
+
+waiting_settles : (page : GuestPage) (rows : List Row) → All (λ r. same_page r.page page ≡ true → shared_state r.state ≡ false) rows
+    → map settled (change_row page (λ r. record r { state = Waiting }) rows) ≡ map settled rows
+waiting_settles page rows alone = grind (arith, map_mapped)
+
+-- the visit of a row that is found to wait makes the row Waiting, and does nothing to the frames
+waits_is : (p q : PagesView) (cursor : Option GuestPage) (passes : ℕ) (row : Row) (frame : Frames) → FindsAt p q row finds.Waits
+    → let b = state_of p cursor passes in
+    (row_visited b row ≡ record b { rows = change_row row.page (λ r. record r { state = Waiting }) p.rows })
+    × (row_visiting b frame row ≡ idle frame)
+waits_is p q cursor passes row frame so = grind arith
+
+module _ {p : PagesView} {k : KeeperView} {cursor : Option GuestPage} {passes : ℕ} where
+  -- where a search changed nothing and the page's row was visited then, the visit of the page was reached
+  pub shared_comes : (v w : BookValue) {f : Find} {q : PagesView} {page : GuestPage}
+      (at : Meets f p q k cursor passes (view_of v) page) → is_restless at.row ≡ true → q ≡ p
+      → VisitsPage (book q k cursor passes) (view_of w) page → Comes v w (λ s. page_visited s page)
+  shared_comes v w at restless same did = grind (arith, restless, made_then)
+
+  -- whatever a visit found, the book is sound then, and its rows and dups lie lawfully
+  module _ {q : PagesView} (page : GuestPage) (lawful : IsSound (state_of p cursor passes) × IsLaid p k) where
+    -- the visit changes the row of a page on its frame
+    row_lawful : {f : Find} {v : BookView} (at : Meets f p q k cursor passes v page) → is_restless at.row ≡ true → (c : Row → Row)
+        → ((r : Row) → (c r).page ≡ r.page) → LodgesAs (c at.row) at.row
+        → row_visited (state_of p cursor passes) at.row ≡ record (state_of p cursor passes) { rows = change_row at.row.page c p.rows }
+        → q ≡ row_changed at.row.page c p → IsSound (state_of q cursor passes) × IsLaid q k
+    row_lawful at restless c keeps lodges becomes goes = rw goes (
+      rw (← becomes) (sound_row_visited _ at.row (grind (arith, row_of_page _ p.rows at.row at.sound.rows_rise (there_is at))) at.sound),
+      laid_changed at.laid _ _ c at.sound.rows_rise (there_is at) keeps lodges,
+    )
+
+    pub found_lawful : (found : Find) → Finds p q page found → IsSound (state_of q cursor passes) × IsLaid q k
+    found_lawful finds.Waits told =
+        let at = finds_it finds.Waits (λ e. cc) lawful refl q refl told in
+        row_lawful at at.so.0 _ (λ r. refl) (grind arith) (waits_is p q cursor passes at.row p.frame at.so).0 at.so.5
+    found_lawful finds.Changed told =
+        let at = finds_it finds.Changed (λ e. cc) lawful refl q refl told in
+        row_lawful at at.so.0 (λ r. record r { unchanged = true; state = Private }) (λ r. refl) (grind arith) (grind arith) at.so.3
+    found_lawful _ told = let same : q ≡ p = grind arith in rw same lawful
+
+  -- the visit of a page that is to wait changes nothing but which rows wait
+  pub waits_quiet : {q : PagesView} (now : BookValue) {page : GuestPage}
+      → Meets finds.Waits p q k cursor passes (view_of now) page → StaysStill now (λ s. page_visited s page)
+  waits_quiet {q} now at from s before =
+      let settles = waiting_settles at.row.page p.rows
+      (λ i d lt same. rw (row_of_page _ _ _ at.sound.rows_rise (there_is at) i d lt same) (restless_own at.row at.so.0)) in
+      grind (arith, before.0, settles, then_idle, waits_is p q cursor passes at.row s.1.frame at.so)

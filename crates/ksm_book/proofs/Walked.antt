@@ -1,18 +1,14 @@
 -- A walk from one page that is visited to the next comes to the visits of all pages ahead, where visits of those passed over do nothing.
-use Rattle.ksm_book.proofs.Names.{Stage}
+use Rattle.ksm_book.proofs.Names.{after_cursor, ahead_before, ahead_up_to, All, All-cons, All-filter, All-head, All-tail, ap, AreAscending, arith, BookState, BookValue, Bool, cases_Bool}
+use Rattle.ksm_book.proofs.Names.{Comes, comes_before, Deed, false, filter, filter_none, filter_passes, find_all, get_or, get_or_from_slice_get, GuestPage, has_item, if◌then◌else◌}
+use Rattle.ksm_book.proofs.Names.{inl, inr, is_restless, IsSound, IsStill, List, mergeable_pages, nat_lt, None, not, one_before, Option, page_visited, pages_ahead}
+use Rattle.ksm_book.proofs.Names.{pairs_head, pairs_tail, Reached, refl, restless_at, Row, same_page, same_page_eq, slice_get_within, Some, Stage, StaysStill, subst, suc, sym, take, true}
+use Rattle.ksm_book.proofs.Names.{true≢false, up_to, [], ℕ, ◌*◌, ◌++◌, ◌+◌, ◌-◌, ◌<◌, ◌^◌, ◌∙◌, ◌∷◌, ◌≡◌}
 use Rattle.std.proofs.lemmas.List.Sums.{fold-append}
 use Rattle.std.proofs.Math.Seq.{take-suc}
 use Rattle.std.specs.Prelude.{fold}
-use Rattle.ksm_book.proofs.Names.{after_cursor, All, All-cons, All-filter, All-head, All-tail, ap, AreAscending, AreDue, arith, BookState, BookValue, Bool, cases_Bool, Comes, comes_before, Deed}
-use Rattle.ksm_book.proofs.Names.{each_at_page, false, filter, filter_none, filter_passes, find_all, get_or, get_or_from_slice_get, GuestPage, has_item, if◌then◌else◌, inl, InPageOrder, inr}
-use Rattle.ksm_book.proofs.Names.{is_restless, IsDueNoMore, IsSound, IsStill, List, mergeable_pages, nat_lt, None, not, one_before, Option, page_visited, pages_ahead, pairs_head, pairs_tail, Reached}
-use Rattle.ksm_book.proofs.Names.{refl, restless_at, Row, same_page, same_page_eq, slice_get_within, Some, sound_row_visited, subst, suc, sym, take, true, true≢false, up_to, ℕ}
-use Rattle.ksm_book.proofs.Names.{[], ◌*◌, ◌++◌, ◌+◌, ◌-◌, ◌<◌, ◌^◌, ◌∙◌, ◌∷◌, ◌≡◌}
-use Rattle.ksm_pages.specs.Ahead.{FindsNext}
-use Rattle.ksm_book.specs.Scanned.{ahead_before, ahead_up_to, StaysStill}
 use Rattle.ksm_book.proofs.Along.{FitsPage}
-use Rattle.ksm_book.proofs.ByPage.{row_of_page}
-use Rattle.ksm_book.proofs.Folded.{ascending_ahead, by_row, pages_go, still_on}
+use Rattle.ksm_book.proofs.Folded.{ascending_ahead, by_row, Goes, page_goes, still_on}
 use Rattle.ksm_book.proofs.PagesAhead.{after_later, Before, has_filter, place_of, place_splits}
 use Rattle.ksm_book.proofs.Reached.{Agree, agrees, comes_to}
 use Rattle.ksm_book.proofs.Scanned.{restless_mergeable}
@@ -27,9 +23,7 @@ Rests visit b page = (deed : Deed) → visit (b, deed) page ≡ (b, deed)
 
 -- a visit keeps a book sound, and which pages scans visit; and does nothing where the page has no row that a visit may change
 pub record IsVisit (visit : Visit) : Type 0 where
-  pub sound : (b : BookState) (deed : Deed) (page : GuestPage) → IsSound b → IsSound (visit (b, deed) page).0
-  pub mergeable : (b : BookState) (deed : Deed) (page : GuestPage) → IsSound b
-      → mergeable_pages (visit (b, deed) page).0.rows ≡ mergeable_pages b.rows
+  pub goes : (b : BookState) (deed : Deed) (page : GuestPage) → IsSound b → Goes b (visit (b, deed) page).0
   pub calm : (b : BookState) (page : GuestPage) → restless_at page b.rows ≡ false → Rests visit b page
 
 -- the pages ahead that are not behind a cursor were visited
@@ -105,15 +99,15 @@ module _ (visit : Visit) where
 
 -- ---------------------------------------------------------------- a walk
 
--- a walk up to the last page has reached a page
-pub record IsWalking (visit : Visit) (last : Option GuestPage) (old now : BookValue) (reached : Option GuestPage) : Type 0 where
-  -- the book was sound, and is so
+-- a walk up to the last page has reached a page, and is told to be quiet or not
+pub record IsWalking (visit : Visit) (last : Option GuestPage) (old now : BookValue) (reached : Option GuestPage) (quiet : Bool) : Type 0 where
+  -- the book was sound, and is so, and scans visit the same pages
   pub began : IsSound old.state
-  pub sound : IsSound now.state
-  -- scans visit the same pages
-  pub mergeable : mergeable_pages now.state.rows ≡ mergeable_pages old.state.rows
+  pub goes : Goes old.state now.state
   -- the pages ahead up to there were visited
   pub comes : Comes old now (walked_to visit reached)
+  -- where it is quiet that changed nothing but which rows wait
+  pub still : quiet ≡ true → StaysStill old (walked_to visit reached)
   -- it is not before the cursor
   pub behind : (p : GuestPage) → after_cursor reached p ≡ true → after_cursor old.state.cursor p ≡ true
   -- nor behind the last page
@@ -127,24 +121,20 @@ none_walked visit s =
     ap (fold visit s) (filter_none (λ p. not (after_cursor s.0.cursor p)) (filter (after_cursor s.0.cursor) pages)
     (grind (arith, filter_passes (after_cursor s.0.cursor) pages)))
 
-module _ (visit : Visit) (v : BookValue) (reached : Option GuestPage) (at : reached ≡ v.state.cursor) where
-  -- a walk begins at the book's cursor
-  pub begins_walk : (last : Option GuestPage) → IsSound v.state → IsWalking visit last v v reached
-  begins_walk last sound = record {
-    began = sound;
-    sound = sound;
-    mergeable = refl;
-    comes = λ from s before. grind (arith, none_walked visit s);
-    behind = λ p is. grind arith;
-    within = λ p is out. absurd (true≢false (sym is ∙ (λ i. after_cursor (sym at i) p) ∙ out));
-  }
+-- a walk begins at the book's cursor
+pub begins_walk : (visit : Visit) (v : BookValue) (reached : Option GuestPage) → reached ≡ v.state.cursor → (last : Option GuestPage) (quiet : Bool)
+    → IsSound v.state → IsWalking visit last v v reached quiet
+begins_walk visit v reached at last quiet sound = record {
+  began = sound;
+  goes = (sound, refl);
+  comes = λ from s before. grind (arith, none_walked visit s);
+  still = λ _ from s before. grind (arith, none_walked visit s);
+  behind = λ p is. grind arith;
+  within = λ p is out. grind arith;
+}
 
-  -- and has changed nothing then
-  pub begins_still : StaysStill v (walked_to visit reached)
-  begins_still from s before = grind (arith, none_walked visit s)
-
-module _ {visit : Visit} (is : IsVisit visit) {last : Option GuestPage} {old mid : BookValue} {reached : Option GuestPage}
-    (w : IsWalking visit last old mid reached) where
+module _ {visit : Visit} (is : IsVisit visit) {last : Option GuestPage} {old mid : BookValue} {reached : Option GuestPage} {quiet : Bool}
+    (w : IsWalking visit last old mid reached quiet) where
   abbrev pages : List GuestPage
   pages = pages_ahead old.state
 
@@ -164,7 +154,7 @@ module _ {visit : Visit} (is : IsVisit visit) {last : Option GuestPage} {old mid
     -- where a visit may change its row, it is one of those ahead
     pub is_ahead : restless_at page mid.state.rows ≡ true → has_item page pages ≡ true
     is_ahead restless =
-        grind (arith, has_filter, restless_mergeable page mid.state.rows restless, w.mergeable, w.behind page behind)
+        grind (arith, has_filter, restless_mergeable page mid.state.rows restless, w.goes.1, w.behind page behind)
 
     -- the pages ahead before it were visited
     pub before_it : Agree old (walked_to visit reached) (λ s. fold visit s (ahead_before page s.0))
@@ -176,35 +166,28 @@ module _ {visit : Visit} (is : IsVisit visit) {last : Option GuestPage} {old mid
     step = agrees old (λ from deed there. next visit reached mid.state (old.state, deed) pages rises
         (w.comes from _ there).0 page behind between (λ off. is.calm mid.state page (grind (arith, is_ahead))))
 
-    -- the walk has reached that page once it was visited
-    pub walks_on : up_to last page ≡ true → {new : BookValue} → Comes mid new (λ s. visit s page)
-        → IsWalking visit last old new (Some page)
-    walks_on inside {new} visits =
-        let state = comes_to mid new (λ s. visit s page) visits in
+    -- the walk has reached that page once it was visited; it is quiet if it was so, and the visit changed nothing but which rows wait
+    pub walks_on : up_to last page ≡ true → {new : BookValue} {calm : Bool} → Comes mid new (λ s. visit s page)
+        → (calm ≡ true → (quiet ≡ true) × StaysStill mid (λ s. visit s page)) → IsWalking visit last old new (Some page) calm
+    walks_on inside {new} visits stays =
+        let went = is.goes mid.state _ page w.goes.0 in
         record {
           began = w.began;
-          sound = rw state (is.sound mid.state _ page w.sound);
-          mergeable = rw state (is.mergeable mid.state _ page w.sound ∙ w.mergeable);
+          goes = rw (comes_to mid new (λ s. visit s page) visits) (went.0, went.1 ∙ w.goes.1);
           comes = λ from s before.
               subst (Reached from new) (sym (step.same from s before)) (visits from _ (w.comes from s before));
+          still = λ calm from s before. subst (IsStill s) (sym (step.same from s before))
+              (still_on s _ _ (w.still (stays calm).0 from s before) ((stays calm).1 from _ (w.comes from s before)));
           behind = λ p after. w.behind p (after_later reached page p behind after);
           within = λ p _ out. grind (arith, up_to);
         }
-
-    -- and nothing has changed but which rows wait, if the visit changed no more
-    pub still_walks : StaysStill old (walked_to visit reached) → StaysStill mid (λ s. visit s page)
-        → StaysStill old (walked_to visit (Some page))
-    still_walks still visits from s before = subst (IsStill s) (sym (step.same from s before))
-        (still_on s _ _ (still from s before) (visits from _ (w.comes from s before)))
 
 -- ---------------------------------------------------------------- visits of the definitions
 
 -- the visit of a page by the definitions is one that a walk may make
 pub visits_page : IsVisit page_visited
 visits_page = record {
-  sound = λ b deed page sound. by_row (λ p. IsSound (page_visited (b, deed) p).0) page b.rows (grind arith)
-      (λ r found restless. rw (found, restless) (sound_row_visited b r (grind (arith, row_of_page)) sound));
-  mergeable = λ b deed page sound. (pages_go (page ∷ []) (b, deed) sound.rows_rise).mergeable;
+  goes = λ b deed page. page_goes (b, deed) page;
   calm = λ b page calm deed. grind arith;
 }
 
@@ -222,23 +205,6 @@ pub rests_where : (b : BookState) (reached : Option GuestPage) (test : GuestPage
     → after_cursor reached q ≡ true → test q ≡ true → Rests page_visited b q
 rests_where b reached test none q after inside = visits_page.calm b q
     (grind (arith, all_restless (λ p. after_cursor reached p ≡ true → test p ≡ false) b.rows none q))
-
--- ---------------------------------------------------------------- what is due
-
--- the pages behind a page that was visited are due, if those behind the page reached were, and it is due no more
-pub due_walks : (b : BookState) (reached : Option GuestPage) (page : GuestPage) (all : List GuestPage) (new : BookState)
-    → FindsNext reached b.rows (Some page) → IsDueNoMore page b new
-    → AreDue b (filter (after_cursor reached) all) → AreDue new (filter (after_cursor (Some page)) all)
-due_walks b reached page all new found no_more was = no_more _ (λ k d lt restless out.
-    was k d lt restless (grind (arith, has_filter, found.1 k d lt restless, one_before, same_page_eq)))
-
--- as a walk begins before all pages, those that scans visit are due
-pub due_begins : (b : BookState) → InPageOrder b.rows → AreDue b (filter (after_cursor None) (mergeable_pages b.rows))
-due_begins b rise k d lt restless out =
-    let page = (get_or b.rows k d).page in
-    let there : has_item page (mergeable_pages b.rows) ≡ true =
-    restless_mergeable page b.rows (grind (arith, each_at_page b.rows rise k d lt)) in
-    absurd (grind (arith, has_filter))
 
 -- ---------------------------------------------------------------- how far a walk can go
 

@@ -13,4 +13,3 @@ pub mod Worked
 pub mod Folded
 pub mod Due
 pub mod Scanned
-pub mod DuePass

@@ -1,11 +1,11 @@
 -- What a scan asks of the book's inside, and what its parts come to (own).
-use Rattle.std.specs.Prelude.{◌≡◌, ℕ, ◌+◌, ◌-◌, ◌^◌, ◌<◌, ◌≤◌, Bool, true, false, not, ◌==◌, All, List, filter, min, Option, Some, None, MatchOption}
+use Rattle.std.specs.Prelude.{◌≡◌, ℕ, ◌+◌, ◌-◌, ◌^◌, ◌<◌, ◌≤◌, Bool, true, false, not, ◌==◌, All, List, filter, min, Option, Some, None}
 use Rattle.ksm_base.specs.declared.page.GuestPage.{GuestPage}
 use Rattle.ksm_base.specs.declared.row.Row.{Row}
-use Rattle.ksm_base.specs.Rows.{comes_before, row_at}
-use Rattle.ksm_base.specs.Visit.{after_cursor, best_dup, is_for_zero, partner, row_visited}
-use Rattle.ksm_tree.specs.declared.dup.Best.{Best}
-use Rattle.ksm_pages.specs.Paged.{is_restless}
+use Rattle.ksm_base.specs.Rows.{comes_before}
+use Rattle.ksm_base.specs.Visit.{after_cursor, row_visited}
+use Rattle.ksm_pages.specs.Paged.{FindsAt, HasRow, PagesView, is_restless}
+use Rattle.ksm_pages.specs.declared.pages.Find.{Find}
 use Rattle.ksm_base.specs.State.{BookState}
 use Rattle.ksm_rmap.specs.Items.{has_item}
 use Rattle.ksm_book.specs.Commands.{Performs, row_visiting}
@@ -29,27 +29,20 @@ Comes old new change = (from : BookValue) (s : Stage) → Reached from old s →
 abbrev pub StaysStill : BookValue → (Stage → Stage) → Type 0
 StaysStill old change = (from : BookValue) (s : Stage) → Reached from old s → IsStill s (change s)
 
--- a row that a visit may change has this for the best dup that it may join
-abbrev pub MayJoin : BookState → Best → Row → Type 0
-MayJoin b best r =
-    (is_restless r ≡ true)
-    × MatchOption (best_dup b.knobs b.rows b.dups r) (true ≡ false)
-    (λ d. (best.number ≡ d.number) × (best.place ≡ d.place))
+-- what is seen of the pages of a book
+abbrev pub pages_seen : BookView → PagesView
+pages_seen v = record {
+  shape = v.state.shape;
+  rows = v.state.rows;
+  frame = v.frame;
+  dups = v.state.dups;
+  knobs = v.state.knobs;
+  next = v.state.next;
+}
 
--- it may join no dup, its bytes have stayed, and they are zeroes that merge with the zero page, or not
-pub record HasStayed (b : BookState) (is_zero : Bool) (r : Row) : Type 0 where
-  pub restless : is_restless r ≡ true
-  pub none : best_dup b.knobs b.rows b.dups r ≡ None
-  pub unchanged : r.unchanged ≡ true
-  pub zeroes : is_for_zero b.knobs r ≡ is_zero
-
--- it is to become Zero
-abbrev pub IsForZero : BookState → Row → Type 0
-IsForZero b r = HasStayed b true r
-
--- it is to make a dup with this page
-abbrev pub MeetsPage : BookState → GuestPage → Row → Type 0
-MeetsPage b page r = HasStayed b false r × MatchOption (partner b.knobs b.rows r) (true ≡ false) (λ w. page ≡ w.page)
+-- a visit finds this of the row of a page, and changes nothing by that
+abbrev pub FindsStill : BookView → GuestPage → Find → Type 0
+FindsStill v page found = HasRow page v.state.rows (λ r. FindsAt (pages_seen v) (pages_seen v) r found)
 
 -- these visits were made
 pub record HasVisited (old new : BookValue) (visits : Stage → Stage) (quiet : Bool) : Type 0 where
@@ -61,7 +54,7 @@ pub record HasVisited (old new : BookValue) (visits : Stage → Stage) (quiet : 
 -- the row of a page was visited
 abbrev pub VisitsPage : BookView → BookView → GuestPage → Type 0
 VisitsPage v w page =
-    MatchOption (row_at page v.state.rows) (true ≡ false)
+    HasRow page v.state.rows
     (λ r. (w.state ≡ row_visited v.state r) × Performs (mapped v) (mapped w) (row_visiting v.state v.frame r))
 
 -- the page does not come behind the last one; where there is no last one, none does

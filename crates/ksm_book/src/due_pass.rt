@@ -9,8 +9,8 @@ ghost use Rattle.std.specs.Prelude.{◌≡◌, true, None, IfErr, IfOk, OnErr, O
 ghost use Rattle.ksm_base.specs.Rows.{change_row, settled};
 ghost use Rattle.ksm_rmap.specs.Items.{has_item};
 ghost use Rattle.ksm_pages.specs.Paged.{IsAlone};
-ghost use Rattle.ksm_book.specs.Due.{AreDue, due_visited, hidden_from, TellsDue};
-ghost use Rattle.ksm_book.specs.DuePass.{StaysBefore, StopsInPart, TakesOver, part_visited, with_rows};
+ghost use Rattle.ksm_book.specs.Due.{AreDue, due_visited, hidden_from, part_visited, StaysBefore, StopsInPart, TakesOver};
+ghost use Rattle.ksm_book.specs.Due.{TellsDue, with_rows};
 ghost use Rattle.ksm_book.specs.Folded.{restless_at};
 ghost use Rattle.ksm_book.specs.Scanned.{Comes, HasVisited};
 ghost use Rattle.ksm_book.specs.Whole.{view_of};

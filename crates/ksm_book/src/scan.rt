@@ -8,8 +8,7 @@ ghost use Rattle.std.specs.Prelude.{◌≡◌, ◌&&◌, ◌≤◌, [], true, No
 ghost use Rattle.ksm_base.specs.Visit.{pass_begun, pass_ended_at_last};
 ghost use Rattle.ksm_pages.specs.Ahead.{EndsAt, mergeable_pages};
 ghost use Rattle.ksm_book.specs.Carried.{CarriesOut};
-ghost use Rattle.ksm_book.specs.Due.{AreDue, TellsDue};
-ghost use Rattle.ksm_book.specs.DuePass.{StopsInPart, part_visited};
+ghost use Rattle.ksm_book.specs.Due.{AreDue, StopsInPart, TellsDue, part_visited};
 ghost use Rattle.ksm_book.specs.Folded.{pages_ahead, pages_visited};
 ghost use Rattle.ksm_book.specs.Scanned.{Comes, FindsUpTo, GoesOn, HasVisited, StopsBefore, StopsShort};
 ghost use Rattle.ksm_book.specs.Scanned.{ahead_up_to, is_nowhere, is_quiet, last_visited};

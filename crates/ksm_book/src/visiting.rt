@@ -1,12 +1,10 @@
 //! The visit of a page: it joins a dup, becomes Zero, makes a dup with the page that waits for it, waits, or changes.
 
 ghost use Rattle.std.specs.Prelude.{◌≡◌, true, OnOk, OnErr, IfOk};
-ghost use Rattle.ksm_book.specs.Due.{IsDueNoMore};
 ghost use Rattle.ksm_book.specs.Folded.{page_visited, restless_at};
-ghost use Rattle.ksm_book.specs.Scanned.{Comes, IsForZero, MayJoin, MeetsPage, StaysStill, VisitsPage};
+ghost use Rattle.ksm_book.specs.Scanned.{Comes, FindsStill, StaysStill, VisitsPage};
 ghost use Rattle.ksm_book.specs.Scanned.{is_quiet};
 ghost use Rattle.ksm_book.specs.Whole.{view_of};
-ghost use Rattle.ksm_pages.specs.Paged.{HasRow};
 
 use crate::frames::{clear, release_if};
 use crate::state::State;
@@ -40,8 +38,6 @@ impl State {
         ensures comes { OnOk result (Comes self.old self.new (λ s. page_visited s spot.page)) }
         ensures quiet { IfOk result (λ visited. is_quiet visited ≡ true
             → StaysStill self.old (λ s. page_visited s spot.page)) }
-        ensures due { IfOk result (λ visited. is_quiet visited ≡ true
-            → IsDueNoMore spot.page self.old.state self.new.state) }
         ensures refused { OnErr result (Comes self.old self.new (λ s. s)) }
         ensures refused_row { OnErr result (restless_at spot.page self.new.state.rows ≡ true) }
     {
@@ -60,8 +56,6 @@ impl State {
         ensures comes { OnOk result (Comes self.old self.new (λ s. page_visited s spot.page)) }
         ensures quiet { IfOk result (λ visited. is_quiet visited ≡ true
             → StaysStill self.old (λ s. page_visited s spot.page)) }
-        ensures due { IfOk result (λ visited. is_quiet visited ≡ true
-            → IsDueNoMore spot.page self.old.state self.new.state) }
         ensures refused { OnErr result (Comes self.old self.new (λ s. s)) }
         ensures refused_row { OnErr result (restless_at spot.page self.new.state.rows ≡ true) }
     {
@@ -88,7 +82,7 @@ impl State {
     // A page joins the best dup that it may join.
     pub(crate) fn join(&mut self, table: &FrameTable, spot: Spot, best: Best) -> Result<(), Fault>
         requires own { self.old.keeper.table ≡ table.now }
-        requires row { HasRow spot.page self.old.state.rows (MayJoin self.old.state best) }
+        requires found { FindsStill (view_of self.old) spot.page (Find.Dup best) }
         ensures own { self.new.keeper.table ≡ self.old.keeper.table }
         ensures visited { OnOk result (VisitsPage (view_of self.old) (view_of self.new) spot.page) }
         ensures refused { OnErr result (self.new ≡ self.old) }
@@ -103,7 +97,7 @@ impl State {
     // A page of zeroes becomes Zero.
     pub(crate) fn become_zero(&mut self, table: &FrameTable, spot: Spot)
         requires own { self.old.keeper.table ≡ table.now }
-        requires row { HasRow spot.page self.old.state.rows (IsForZero self.old.state) }
+        requires found { FindsStill (view_of self.old) spot.page Find.Zero }
         ensures own { self.new.keeper.table ≡ self.old.keeper.table }
         ensures visited { VisitsPage (view_of self.old) (view_of self.new) spot.page }
     {
@@ -119,7 +113,7 @@ impl State {
         spot: Spot,
     ) -> Result<(), Fault>
         requires own { self.old.keeper.table ≡ table.now }
-        requires row { HasRow spot.page self.old.state.rows (MeetsPage self.old.state other) }
+        requires found { FindsStill (view_of self.old) spot.page (Find.Partner other) }
         ensures own { self.new.keeper.table ≡ self.old.keeper.table }
         ensures visited { OnOk result (VisitsPage (view_of self.old) (view_of self.new) spot.page) }
         ensures refused { OnErr result (self.new ≡ self.old) }

@@ -1,5 +1,4 @@
-use Rattle.ksm_book.proofs.Names.{ap, arith, DueView, option_map, sym, ◌∙◌, ◌≡◌}
-use Rattle.ksm_book.specs.Due.{FindsFirst}
+use Rattle.ksm_book.proofs.Names.{ap, arith, DueView, FindsFirst, option_map, sym, ◌∙◌, ◌≡◌}
 use Rattle.ksm_book.proofs.Dues.{first_found, none_added, pages_in}
 use Rattle.ksm_book.proofs.due.Due.after.Goals as goal
 use Rattle.ksm_book.proofs.due.Due.after.Goals.{After-after}

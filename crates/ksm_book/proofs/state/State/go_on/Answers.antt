@@ -1,7 +1,5 @@
-use Rattle.ksm_book.proofs.Names.{Stage}
-use Rattle.ksm_book.proofs.Names.{ap, arith, begun, BookValue, Comes, has_item, InPageOrder, last_of, last_visited, length, None, pages_ahead, part_before}
-use Rattle.ksm_book.proofs.Names.{part_visited, pass_ended_at_last, Some, sym, true, visit_begun, visits_beside, ◌*◌, ◌<◌, ◌∙◌, ◌≡◌, ◌≤◌}
-use Rattle.ksm_book.specs.Scanned.{ahead_before, passes_ended}
+use Rattle.ksm_book.proofs.Names.{ahead_before, ap, arith, begun, BookValue, Comes, has_item, last_of, last_visited, length, None, pages_ahead, part_before, part_visited, pass_ended_at_last}
+use Rattle.ksm_book.proofs.Names.{passes_ended, Some, Stage, sym, true, visit_begun, visits_beside, ◌*◌, ◌<◌, ◌∙◌, ◌≡◌, ◌≤◌}
 use Rattle.ksm_book.proofs.Scanned.{begun_ahead, begun_still, page_made, passes_made, some_ahead, stopped_fewer, stopped_made}
 use Rattle.ksm_book.proofs.Reached.{agrees, comes_as, comes_own, comes_to, first}
 use Rattle.std.proofs.Math.Nat.{div-mul-le_self, le-div_iff_mul-le, one-le-mul}
@@ -30,7 +28,7 @@ returns-in-Err-clause-stopped c =
     let w = c.visit_part.new.self in
     let page = c.in-Err.page in
     let stopped = c.in-Err.ensures.stopped in
-    let rise : InPageOrder v.state.rows = c.lies_lawfully.ensures.sound.rows_rise in
+    let sound = c.lies_lawfully.ensures.sound in
     let same = ahead_is v c.close_pass-ahead.new.self c.close_pass-ahead.ensures.comes in
     let there : has_item page (pages_ahead (visit_begun v.state)) ≡ true = rw (← same) stopped.ahead in
     let comes : Comes v w (λ s. part_before page (closed s)) =
@@ -39,12 +37,12 @@ returns-in-Err-clause-stopped c =
     let last : c.between-made.result.1 ≡ last_of w.state.cursor (ahead_before page w.state) = grind arith in
     record {
       fewer = rw (many, comes_to v w (λ s. part_before page (closed s)) comes)
-          (stopped_fewer (first v) rise page there c.close_pass-ahead.result c.requires.most
+          (stopped_fewer (first v) sound page there c.close_pass-ahead.result c.requires.most
           (rw same at c.close_pass-ahead.ensures.ahead) (rw (← c.last.ensures) stopped.within));
       comes = comes_as c.set_cursor-in-Err.new.self (agrees v
           {f = λ s. (record (part_before page (closed s)).0 { cursor = c.between-made.result.1 }, (part_before page (closed s)).1)}
           {g = λ s. begun (visits_beside c.between-made.result.0 s)}
-          (λ from deed is. rw (last, many, (comes from _ is).0) (stopped_made (v.state, deed) rise page there)))
+          (λ from deed is. rw (last, many, (comes from _ is).0) (stopped_made (v.state, deed) sound page there)))
           (λ from s before. c.set_cursor-in-Err.ensures from _ (comes from s before));
     }
 
@@ -65,7 +63,7 @@ returns-in-At-clause-made c =
       comes = comes_as c.set_cursor.new.self (agrees v
           {f = λ s. (record (part_visited (Some page) (closed s)).0 { cursor = Some page }, (part_visited (Some page) (closed s)).1)}
           {g = visits_beside c.args.most}
-          (λ _ deed _. page_made (v.state, deed) c.lies_lawfully.ensures.sound.rows_rise c.args.most page c.requires.most ends))
+          (λ _ deed _. page_made (v.state, deed) c.lies_lawfully.ensures.sound c.args.most page c.requires.most ends))
           (λ from s before. c.set_cursor.ensures from _ (visited.comes from _ (c.close_pass-ahead.ensures.comes from s before)));
     }
 
@@ -113,7 +111,7 @@ returns-after-whole-clause-made c =
           {f = λ s. (passes_ended times (part_visited None (closed s)).0, (part_visited None (closed s)).1)}
           {g = visits_beside (times * c.in-End.made)}
           (λ from deed is.
-          passes_made (v.state, deed) c.lies_lawfully.ensures.sound.rows_rise c.requires.some times told.0
+          passes_made (v.state, deed) c.lies_lawfully.ensures.sound c.requires.some times told.0
           (λ more. (
             (told.2 more).1,
             begun_still (pass_ended_at_last v.state) deed _

@@ -1,8 +1,6 @@
-use Rattle.ksm_book.proofs.Names.{arith, BookValue, find, is_next, None, option_map, Row, row_at, rules, Some, subst, ◌≡◌}
+use Rattle.ksm_book.proofs.Names.{ap, arith, BookValue, every_row, find, find_passes, is_next, None, option_map, Row, row_at, rules, Some, subst, view_of, with_rows, ◌≡◌}
 use Rattle.ksm_book.proofs.Hiding.{hide, hiding_end, hiding_more, hiding_over}
 use Rattle.ksm_book.proofs.Along.{along_none}
-use Rattle.ksm_book.specs.DuePass.{with_rows}
-use Rattle.ksm_book.proofs.Names.{ap, every_row, find_passes, view_of}
 use Rattle.ksm_book.proofs.Walked.{less_room}
 use Rattle.ksm_book.proofs.state.State.hide_from.Goals as goal
 use Rattle.ksm_book.proofs.state.State.hide_from.Goals.{else-not-held, then-not-held+then-not-comes_before}

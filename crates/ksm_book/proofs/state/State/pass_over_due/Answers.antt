@@ -1,5 +1,4 @@
-use Rattle.ksm_book.proofs.Names.{AreDue, arith, comes_before, None, subst}
-use Rattle.ksm_book.specs.Scanned.{up_to}
+use Rattle.ksm_book.proofs.Names.{AreDue, arith, comes_before, None, subst, up_to}
 use Rattle.ksm_book.proofs.DuePasses.{part_stops, rests_due, visits_due, whole_part, whole_still}
 use Rattle.ksm_book.proofs.Reached.{agrees, comes_as, comes_own}
 use Rattle.ksm_book.proofs.Walked.{begins_walk, less_room, walk_ends, walks_on}
@@ -8,7 +7,7 @@ use Rattle.ksm_book.proofs.state.State.pass_over_due.Goals as goal
 
 pub loop-spot-init : goal.loop-spot-init
 loop-spot-init c = (
-  begins_walk _ c.args.self.now _ (sym c.requires.start) _ c.lies_lawfully.ensures.sound,
+  begins_walk _ c.args.self.now _ (sym c.requires.start) _ _ c.lies_lawfully.ensures.sound,
   c.requires.due,
   c.requires.ready,
 )
@@ -24,7 +23,7 @@ loop-spot-preserved c =
     let walking = c.loop-spot.invariant.0 in
     let first = c.in-Some.ensures in (
       walks_on visits_due walking _ first.1 (rests_due _ walking c.loop-spot.invariant.1 (λ q. comes_before q _) first.2) refl
-          c.in-Ok.ensures.comes,
+          c.in-Ok.ensures.comes (λ calm. absurd cc),
       c.in-Ok.ensures.due,
       c.visit_due.ensures.ready,
     )

@@ -1,5 +1,4 @@
-use Rattle.ksm_book.proofs.Names.{arith, BookValue, Comes, false, list_any, list_any_none, None, none_counted, refl, Some, subst, sym, true, ◌+◌, ◌∙◌, ◌≡◌, ◌≤◌}
-use Rattle.ksm_book.specs.Due.{TellsDue}
+use Rattle.ksm_book.proofs.Names.{arith, BookValue, Comes, false, list_any, list_any_none, None, none_counted, refl, Some, subst, sym, TellsDue, true, ◌+◌, ◌∙◌, ◌≡◌, ◌≤◌}
 use Rattle.ksm_base.specs.declared.fault.Fault.TheVariants.{Memory}
 use Rattle.ksm_book.specs.contracts.state.State.{the_view}
 use Rattle.ksm_book.proofs.Folded.{beside_on, visits_mergeable}

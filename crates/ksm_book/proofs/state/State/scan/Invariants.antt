@@ -1,5 +1,4 @@
-use Rattle.ksm_book.proofs.Names.{Comes, visits_beside, ◌-◌, ◌≤◌}
-use Rattle.ksm_book.specs.Due.{TellsDue}
+use Rattle.ksm_book.proofs.Names.{Comes, TellsDue, visits_beside, ◌-◌, ◌≤◌}
 use Rattle.ksm_book.proofs.state.State.scan.Given as goal
 
 abbrev pub invariant-loop-done : goal.invariant-loop-done

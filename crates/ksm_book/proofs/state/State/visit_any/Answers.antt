@@ -1,9 +1,6 @@
-use Rattle.ksm_book.proofs.Names.{ap, seen, subst, view_of}
-use Rattle.ksm_pages.specs.Paged.{Finds}
-use Rattle.ksm_book.proofs.DueFound.{gone_due, waits_due}
-use Rattle.ksm_book.proofs.PageVisits.{finds_it, found_lawful, shared_comes, waits_quiet}
+use Rattle.ksm_book.proofs.Names.{ap, view_of}
+use Rattle.ksm_book.proofs.RowVisits.{finds_it, found_lawful, shared_comes, waits_quiet}
 use Rattle.ksm_book.proofs.state.State.visit_any.Goals as goal
-use Rattle.ksm_book.proofs.state.State.visit_any.Goals.{In_ok-found}
 
 pub invariant_of-self-in-Waits : goal.invariant_of-self-in-Waits
 invariant_of-self-in-Waits c = found_lawful _ c.self.invariant _ c.in_ok-found.ensures.found
@@ -19,27 +16,19 @@ invariant_of-self-in-Partner c = found_lawful _ c.self.invariant _ c.in_ok-found
 
 pub returns-in-Waits-clause-quiet : goal.returns-in-Waits-clause-quiet
 returns-in-Waits-clause-quiet c = λ _. waits_quiet _
-    (finds_it _ (λ e. cc) c.self.invariant (ap view_of c.self.view_is) _ _ c.in-Waits.is c.in_ok-found.ensures.found)
+    (finds_it _ (λ e. cc) c.self.invariant (ap view_of c.self.view_is) _ c.in-Waits.is c.in_ok-found.ensures.found)
 
 pub returns-in_ok-join-in-Dup-clause-comes : goal.returns-in_ok-join-in-Dup-clause-comes
 returns-in_ok-join-in-Dup-clause-comes c =
-    let met = finds_it _ (λ e. cc) c.self.invariant (ap view_of c.self.view_is) _ _ c.in-Dup.is c.in_ok-found.ensures.found in
-    shared_comes c.args.self.now c.join.new.self met met.so.0 _ met.so.2 c.in_ok-join-in-Dup.ensures.visited
+    let met = finds_it _ (λ e. cc) c.self.invariant (ap view_of c.self.view_is) _ c.in-Dup.is c.in_ok-found.ensures.found in
+    shared_comes c.args.self.now c.join.new.self met met.so.0 met.so.2 c.in_ok-join-in-Dup.ensures.visited
 
 pub returns-in-Zero-clause-comes : goal.returns-in-Zero-clause-comes
 returns-in-Zero-clause-comes c =
-    let met = finds_it _ (λ e. cc) c.self.invariant (ap view_of c.self.view_is) _ _ c.in-Zero.is c.in_ok-found.ensures.found in
-    shared_comes c.args.self.now c.become_zero.new.self met met.so.0 _ met.so.4 c.become_zero.ensures.visited
+    let met = finds_it _ (λ e. cc) c.self.invariant (ap view_of c.self.view_is) _ c.in-Zero.is c.in_ok-found.ensures.found in
+    shared_comes c.args.self.now c.become_zero.new.self met met.so.0 met.so.4 c.become_zero.ensures.visited
 
 pub returns-in_ok-pair-in-Partner-clause-comes : goal.returns-in_ok-pair-in-Partner-clause-comes
 returns-in_ok-pair-in-Partner-clause-comes c =
-    let met = finds_it _ (λ e. cc) c.self.invariant (ap view_of c.self.view_is) _ _ c.in-Partner.is c.in_ok-found.ensures.found in
-    shared_comes c.args.self.now c.pair.new.self met met.so.0 _ met.so.5 c.in_ok-pair-in-Partner.ensures.visited
-
-pub returns-in-Gone-clause-due : goal.returns-in-Gone-clause-due
-returns-in-Gone-clause-due c = λ _. gone_due _ _ c.self.invariant (ap view_of c.self.view_is)
-    (subst (Finds (seen c.self.inside.pages) (seen c.visit.new.self) c.args.spot.page) c.in-Gone.is c.in_ok-found.ensures.found)
-
-pub returns-in-Waits-clause-due : goal.returns-in-Waits-clause-due
-returns-in-Waits-clause-due c = λ _. waits_due
-    (finds_it _ (λ e. cc) c.self.invariant (ap view_of c.self.view_is) _ _ c.in-Waits.is c.in_ok-found.ensures.found)
+    let met = finds_it _ (λ e. cc) c.self.invariant (ap view_of c.self.view_is) _ c.in-Partner.is c.in_ok-found.ensures.found in
+    shared_comes c.args.self.now c.pair.new.self met met.so.0 met.so.5 c.in_ok-pair-in-Partner.ensures.visited

@@ -5,7 +5,7 @@ use Rattle.ksm_pages.specs.declared.pages.Find.TheVariants as finds
 use Rattle.ksm_tree.proofs.Numbers.{on_err}
 use Rattle.ksm_book.specs.contracts.state.State.{the_view}
 use Rattle.ksm_book.proofs.DueFound.{changed_keeps, gone_due, partner_takes, shared_due, shares, waits_due}
-use Rattle.ksm_book.proofs.PageVisits.{finds_it, found_lawful}
+use Rattle.ksm_book.proofs.RowVisits.{finds_it, found_lawful}
 use Rattle.ksm_book.proofs.state.State.visit_due.Goals as goal
 use Rattle.ksm_book.proofs.DueKept.{more_due}
 use Rattle.ksm_book.proofs.Folded.{then_idle}
@@ -29,7 +29,7 @@ rests c (inl gone) = (
   gone_due (seen c.visit.new.self) _ c.self.invariant (ap view_of c.self.view_is) (grind (arith, gone, c.in_ok-visit.ensures.found)),
 )
 rests c (inr waits) =
-    let at = finds_it _ (λ e. cc) c.self.invariant (ap view_of c.self.view_is) _ _ waits c.in_ok-visit.ensures.found in (
+    let at = finds_it _ (λ e. cc) c.self.invariant (ap view_of c.self.view_is) _ waits c.in_ok-visit.ensures.found in (
       λ from b before. grind (arith, before, at.is, at.found, at.so, then_idle),
       waits_due at,
     )
@@ -57,7 +57,7 @@ take_over-requires-clause-takes c =
       c.in-Partner.is,
       c.in_ok-visit.ensures.found,
       partner_takes c.in-Partner.other
-          (finds_it _ (λ e. cc) c.self.invariant (ap view_of c.self.view_is) _ _ c.in-Partner.is c.in_ok-visit.ensures.found) (sym c.comes_before.ensures ∙ c.if-comes_before.false),
+          (finds_it _ (λ e. cc) c.self.invariant (ap view_of c.self.view_is) _ c.in-Partner.is c.in_ok-visit.ensures.found) (sym c.comes_before.ensures ∙ c.if-comes_before.false),
     )
 
 pub returns-in_err-take_over-in-Partner-2-clause-refused : goal.returns-in_err-take_over-in-Partner-2-clause-refused
@@ -73,7 +73,7 @@ returns-in-Partner-2-clause-comes c = λ from s before. c.in_ok-take_over-in-Par
 
 pub returns-in-Changed-clause-due : goal.returns-in-Changed-clause-due
 returns-in-Changed-clause-due c =
-    changed_keeps (finds_it _ (λ e. cc) c.self.invariant (ap view_of c.self.view_is) _ _ c.in-Changed.is c.in_ok-visit.ensures.found)
+    changed_keeps (finds_it _ (λ e. cc) c.self.invariant (ap view_of c.self.view_is) _ c.in-Changed.is c.in_ok-visit.ensures.found)
     _ c.requires.is_due c.requires.due
 
 -- the page was visited as one that is due, which it is no longer

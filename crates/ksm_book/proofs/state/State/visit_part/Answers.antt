@@ -1,9 +1,8 @@
-use Rattle.ksm_book.proofs.Names.{ap, AreDue, arith, DueView, part_visited, pass_begun, StopsInPart, subst, sym, ◌∙◌}
+use Rattle.ksm_book.proofs.Names.{ap, AreDue, arith, DueView, HasVisited, part_visited, pass_begun, StopsInPart, subst, sym, ◌∙◌}
 use Rattle.ksm_book.proofs.DueKept.{more_due}
 use Rattle.ksm_book.proofs.Folded.{still_on}
 use Rattle.ksm_book.proofs.Reached.{comes_own, comes_to}
 use Rattle.ksm_book.proofs.Scanned.{begins_still, begun_ahead}
-use Rattle.ksm_book.specs.Scanned.{HasVisited}
 use Rattle.ksm_book.proofs.state.State.visit_part.Goals as goal
 use Rattle.ksm_book.proofs.state.State.visit_part.Goals.{In_ok-quiet}
 

@@ -1,9 +1,9 @@
-use Rattle.ksm_book.proofs.Names.{and_parts, arith, BookValue, comes_before, GuestPage, IsDueNoMore, IsStill, None, Option, subst, sym, true, ◌∙◌, ◌≡◌}
+use Rattle.ksm_book.proofs.Names.{and_parts, arith, comes_before, FindsUpTo, GuestPage, is_quiet, IsStill, None, Option, subst, sym, true, up_to, ◌∙◌, ◌≡◌}
 use Rattle.std.proofs.Common.{rules}
-use Rattle.ksm_book.specs.Scanned.{FindsUpTo, is_quiet, up_to}
 use Rattle.ksm_book.proofs.PagesAhead.{has_filter}
 use Rattle.ksm_book.proofs.Reached.{comes_as, comes_own, comes_to}
-use Rattle.ksm_book.proofs.Walked.{before_it, begins_still, begins_walk, due_begins, due_walks, is_ahead, less_room, rests_where, still_walks, visits_page, walk_ends, walks_on}
+use Rattle.ksm_book.proofs.DuePasses.{due_begins, due_walks}
+use Rattle.ksm_book.proofs.Walked.{before_it, begins_walk, is_ahead, less_room, rests_where, visits_page, walk_ends, walks_on}
 use Rattle.ksm_book.proofs.state.State.visit_up_to.Goals as goal
 
 pub loop-spot-init : goal.loop-spot-init
@@ -11,7 +11,7 @@ loop-spot-init c =
     let v = c.args.self.now in
     let at = c.cursor-reached.ensures in
     let sound = c.lies_lawfully.ensures.sound in
-    (begins_walk _ v _ at _ sound, λ _. begins_still _ v _ at, λ _ none. rw (at ∙ none) (due_begins v.state sound.rows_rise))
+    (begins_walk _ v _ at _ _ sound, λ _ none. rw (at ∙ none) (due_begins v.state sound.rows_rise))
 
 pub loop-spot-smaller : goal.loop-spot-smaller
 loop-spot-smaller c = less_room _ _ (search rules, search rules) c.in-Some.ensures.next.1.0
@@ -29,13 +29,11 @@ loop-spot-preserved c =
     let kept = c.in-Some.ensures.kept in
     let rests = rests_where _ _ (λ q. comes_before q page) next.1.1 in
     let both = λ (quiet : c.and-made.result.quiet ≡ true).
-    and_parts c.loop-spot.made.quiet (is_quiet c.in-Ok.visited) (sym c.and-made.ensures ∙ quiet) in (
-      walks_on visits_page walking page next.1.0 rests next.0
-          (rw kept at c.in-Ok.ensures.comes),
-      λ quiet. still_walks visits_page walking page next.1.0 rests (c.loop-spot.invariant.1 (both quiet).0)
-          (rw kept at (c.in-Ok.ensures.quiet (both quiet).1)),
-      λ quiet none. due_walks c.loop-spot.self.state _ _ _ c.visit.new.self.state next.1
-          (subst (λ (v : BookValue). IsDueNoMore page v.state c.visit.new.self.state) kept (c.in-Ok.ensures.due (both quiet).1)) (c.loop-spot.invariant.2 (both quiet).0 none),
+    and_parts c.loop-spot.made.quiet (is_quiet c.in-Ok.visited) (sym c.and-made.ensures ∙ quiet) in
+    let comes = rw kept at c.in-Ok.ensures.comes in
+    let still = λ (quiet : c.and-made.result.quiet ≡ true). rw kept at (c.in-Ok.ensures.quiet (both quiet).1) in (
+      walks_on visits_page walking page next.1.0 rests next.0 comes (λ quiet. ((both quiet).0, still quiet)),
+      λ quiet none. due_walks c.loop-spot.self c.visit.new.self _ page _ walking.goes.0 next.1 comes (still quiet) (c.loop-spot.invariant.1 (both quiet).0 none),
     )
 
 pub returns-in-Err-clause-stopped : goal.returns-in-Err-clause-stopped
@@ -59,7 +57,7 @@ returns-clause-visited c =
     let ends = walk_ends visits_page walking (rests_where _ _ (up_to c.args.last) c.in_default.ensures.next) in
     rw (c.drop_over.ensures ∙ c.in_default.ensures.kept) (record {
       comes = comes_as c.loop-spot.self ends walking.comes;
-      still = λ quiet from s before. subst (IsStill s) (ends.same from s before) (c.loop-spot.invariant.1 quiet from s before);
+      still = λ quiet from s before. subst (IsStill s) (ends.same from s before) (walking.still quiet from s before);
     })
 
 pub returns-clause-due : goal.returns-clause-due
@@ -67,4 +65,4 @@ returns-clause-due c = λ quiet start none.
     let left = subst (λ (o : Option GuestPage). FindsUpTo o c.loop-spot.reached c.loop-spot.self.state.rows None) none c.in_default.ensures.next in
     rw (c.drop_over.ensures ∙ c.in_default.ensures.kept)
     (λ k d lt restless out.
-    c.loop-spot.invariant.2 quiet start k d lt restless (grind (arith, has_filter, left k d lt restless)))
+    c.loop-spot.invariant.1 quiet start k d lt restless (grind (arith, has_filter, left k d lt restless)))

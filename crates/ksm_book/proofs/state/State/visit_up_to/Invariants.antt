@@ -1,12 +1,10 @@
 use Rattle.ksm_book.proofs.Names.{after_cursor, AreDue, filter, mergeable_pages, None, page_visited, true, ◌≡◌}
-use Rattle.ksm_book.specs.Scanned.{StaysStill}
-use Rattle.ksm_book.proofs.Walked.{IsWalking, room_behind, walked_to}
+use Rattle.ksm_book.proofs.Walked.{IsWalking, room_behind}
 use Rattle.ksm_book.proofs.state.State.visit_up_to.Given as goal
 
 abbrev pub invariant-loop-spot : goal.invariant-loop-spot
 invariant-loop-spot l =
-    IsWalking page_visited l.fn.last l.fn.self l.self l.reached
-    × (l.made.quiet ≡ true → StaysStill l.fn.self (walked_to page_visited l.reached))
+    IsWalking page_visited l.fn.last l.fn.self l.self l.reached l.made.quiet
     × (l.made.quiet ≡ true → l.fn.self.state.cursor ≡ None
     → AreDue l.self.state (filter (after_cursor l.reached) (mergeable_pages l.fn.self.state.rows)))
 
