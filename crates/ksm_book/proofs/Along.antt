@@ -128,8 +128,6 @@ module _ {asked : Row → Bool} {f : Row → Row} (keeps : (r : Row) → (f r).p
 pub along_none : (asked : Row → Bool) (f : Row → Row) (rows : List Row) → IsAlong asked f rows rows None
 along_none asked f rows = grind (arith, change_none (passed asked None) f rows)
 
--- ---------------------------------------------------------------- how far the cursor is
-
 -- how many pages there may be up to the cursor
 abbrev pub position : Option GuestPage → ℕ
 position None = 0

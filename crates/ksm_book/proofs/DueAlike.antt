@@ -192,8 +192,6 @@ module _ (b : BookState) (r : Row) where
         let frames = dup_frame_kept is_on b deed.frame in
         grind (arith, best_kept is_on b r, handled_alike, partner_alike, frames, place_kept is_on b)
 
--- ---------------------------------------------------------------- a row takes over
-
 -- in a sound book the rows that wait for a row are of one page
 pub one_waits : (b : BookState) (r w : Row) → IsSound b → partner b.knobs b.rows r ≡ Some w
     → All (λ x. waits_for b.knobs r x ≡ true → x.page ≡ w.page) b.rows
@@ -270,25 +268,13 @@ module _ (b : BookState) (s : IsSound b) (deed : Deed) where
   ]
 
   pub one_due : (page : GuestPage) → IsAlike b deed page
-  one_due page = by_row (IsAlike b deed) page b.rows calmly row_due
+  one_due page = by_row (IsAlike b deed) page b.rows (λ calm.
+      let at = calmed_at (λ x. not (comes_before x.page page)) b page in
+      rw (calm_stays (b, deed) page calm) ((s, refl), grind (arith, at) ∙ (λ t. (still calm t, deed)))) row_due
     where
-      calmly : restless_at page b.rows ≡ false → IsAlike b deed page
-      calmly calm =
-          let at = calmed_at (λ x. not (comes_before x.page page)) b page in
-          rw (calm_stays (b, deed) page calm) ((s, refl), grind (arith, at) ∙ (λ t. (still t, deed)))
-        where
-          still : hidden_from page b ≡ veiled (comes_before page) b
-          still = veiled_alike _ b _ (λ k d lt waits.
-              grind (
-                arith,
-                at_own_page page b.rows s.rows_rise k d lt,
-                s.mergeable k d lt,
-                one_before,
-                not_both,
-                before_irrefl,
-              ))
-
--- ---------------------------------------------------------------- one visit after another
+      still : restless_at page b.rows ≡ false → hidden_from page b ≡ veiled (comes_before page) b
+      still calm = veiled_alike _ b _ (λ k d lt waits.
+          grind (arith, at_own_page page b.rows s.rows_rise k d lt, s.mergeable k d lt, one_before, not_both, before_irrefl))
 
 -- pages are those behind a cursor that scans visit, up to the first that fails a test; each that fails is behind them
 pub record Leaves (goes : GuestPage → Bool) (c : Option GuestPage) (b : BookState) (pages : List GuestPage) : Type 0 where

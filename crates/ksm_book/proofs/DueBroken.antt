@@ -92,8 +92,6 @@ module _ (b : BookState) (page : GuestPage) (old new : List GuestPage) (was : Ar
       grind (arith, count_without_page (λ r. merged_into e.number r.state) page b.rows row sound.rows_rise found))
       old new was (λ p is. grind (arith, told p)))
 
--- ---------------------------------------------------------------- a page comes
-
 -- where the page was added to what is due
 module _ (b : BookState) (page : GuestPage) (old new : List GuestPage)
     (added : (p : GuestPage) → has_item p new ≡ (same_page page p || has_item p old)) (was : AreDue b old) where
@@ -113,8 +111,6 @@ module _ (b : BookState) (page : GuestPage) (old new : List GuestPage)
       grind (arith, none i x lt_x, count_with_row (λ s. merged_into number s.state) fresh b.rows absent))
       (added_due k d lt restless out))
 
--- ---------------------------------------------------------------- a command that opens no dup and changes no row
-
 -- where fewer dups are there, what is due stays so
 pub fewer_due : (b : BookState) (keeps : DupRow → Bool) (pages : List GuestPage) → AreDue b pages
     → AreDue (record b { dups = filter keeps b.dups }) pages
@@ -129,8 +125,6 @@ pub stays_due : (v w : BookView) (command : Command) (answer : Answer) (pages : 
     → AreDue v.state pages → IsCarried v w command answer → AreDue w.state pages
 stays_due v w command (Ok reply) pages stays due carried = rw carried.state (stays reply carried.answer)
 stays_due v w command (Err fault) pages stays due carried = rw carried.state due
-
--- ---------------------------------------------------------------- a page with a frame of its own is stored to
 
 -- where the page is due, if its row waits, what is due stays so
 pub stored_due : (b : BookState) (page : GuestPage) (bytes : List ℕ) (pages : List GuestPage) → InPageOrder b.rows

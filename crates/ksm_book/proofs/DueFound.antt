@@ -7,12 +7,10 @@ use Rattle.ksm_book.proofs.Names.{IsLaid, IsSound, ℕ, ◌∙◌, ◌∷◌, �
 use Rattle.ksm_base.specs.declared.row.PageState.TheVariants.{Private}
 use Rattle.ksm_pages.specs.Paged.{Finds}
 use Rattle.ksm_book.proofs.DueKept.{calm_undue, own_due, row_undue}
-use Rattle.ksm_book.proofs.RowVisits.{filled_by, finds_it, Meets, page_is, restless_own, shared_comes, there_is}
+use Rattle.ksm_book.proofs.RowVisits.{filled_by, finds_it, Meets, page_is, restless_own, shared_visited, there_is}
 use Rattle.ksm_book.proofs.Singles.{book}
 use Rattle.ksm_pages.proofs.Joined.{own_not_merged}
 use Rattle.ksm_pages.specs.declared.pages.Find.TheVariants as finds
-
--- ---------------------------------------------------------------- a page that shares a frame from now on
 
 -- by what was found, the page shares a frame once it was visited
 abbrev pub shares : GuestPage → Find → Bool
@@ -98,6 +96,6 @@ module _ {p : PagesView} {k : KeeperView} {cursor : Option GuestPage} {passes : 
     -- where the row was visited in the book as it was, that is the visit of what is due, and the page is due no longer
     pub shared_due : Comes v w (λ s. due_visited s page) × IsDueNoMore page v.state w.state
     shared_due = (
-      λ from s before. grind (arith, by, at.found, at.is, shared_comes v w at by.0 by.1 did from s before),
+      λ from s before. grind (arith, by, at.found, at.is, (shared_visited v w at by.0 by.1 did).comes from s before),
       visited_undue at by.0 by.3 w.state (grind (arith, by, at.found, at.is)),
     )

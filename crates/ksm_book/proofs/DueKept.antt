@@ -3,7 +3,7 @@ use Rattle.ksm_book.proofs.Names.{All, All-cons, All-head, All-tail, all_changed
 use Rattle.ksm_book.proofs.Names.{change_rows, cond_both, count_by, count_mapped, Deed, due_visited, dup_of_row, DupRow, eqb-true, false, find_all, find_mapped, find_none, find_nothing}
 use Rattle.ksm_book.proofs.Names.{find_passes, freed, get_or, GuestPage, handled, has, has_item, inl, InPageOrder, inr, is_best, is_for_zero, is_restless, IsDueNoMore, IsSound, IsStill}
 use Rattle.ksm_book.proofs.Names.{item_count, Knobs, List, list_all-from_AllPass, made_dup, may_join, Merged, merged_into, merged_state, nat_le, nat_lt, nat_tests, None, not, not_an_item}
-use Rattle.ksm_book.proofs.Names.{one_of_each_page, Option, page, page_visited, paired, partner, refl, restless_at, Row, row_at, row_done, row_visited, same_page, same_page_refl, same_page_sym}
+use Rattle.ksm_book.proofs.Names.{one_of_each_page, Option, page, page_visited, paired, partner, refl, restless_at, Row, row_at, row_visited, same_page, same_page_refl, same_page_sym}
 use Rattle.ksm_book.proofs.Names.{settled, Some, sym, takes_over, tree_of, true, true≢false, Waiting, waiting_state, waits_for, waits_on, waits_tells, WaitsFor, with_dup, Zero, [], ℕ, ◌&&◌, ◌+◌}
 use Rattle.ksm_book.proofs.Names.{◌==◌, ◌||◌, ◌∙◌, ◌∷◌, ◌≡◌}
 use Rattle.ksm_book.proofs.DueAlike.{at_own_page, by_counts, calm_stays, freed_found, freed_sound, one_waits}
@@ -253,44 +253,29 @@ still_undue b deed page sound =
     by_row (λ p. IsStill (b, deed) (page_visited (b, deed) p) → IsDueNoMore p b (page_visited (b, deed) p).0) page b.rows
     (λ calm _. let same : page_visited (b, deed) page ≡ (b, deed) = grind arith in
     rw same (calm_undue b page sound.rows_rise calm))
-    (λ r found restless still pages was. rw (found, restless)
-    (row_undue b sound r found restless pages was (stayed r found restless (rw (found, restless) at still))))
-  where
-    stayed : (r : Row) → row_at r.page b.rows ≡ Some r → is_restless r ≡ true → IsStill (b, deed) (row_done (b, deed) r)
-        → best_dup b.knobs b.rows b.dups r ≡ None → r.unchanged ≡ true
-    stayed r found restless still none =
-        let mark : Row → Row = λ s. record s { unchanged = true; state = Private } in
-        let at = λ (rows : List Row). find_mapped settled (λ s. same_page s.page r.page) (λ s. same_page s.page r.page) rows
-        (λ k d lt. refl) in
-        elim (cases_Bool r.unchanged) [
-          | inl kept ↦ kept
-          | inr changed ↦
-              grind (arith, ap (row_at r.page) still.rows, at b.rows, at (change_row r.page mark b.rows), at_changed r.page mark b.rows r (λ s. refl) found)
-        ]
-
--- ---------------------------------------------------------------- a page that is not due
+    (λ r found restless still pages was.
+    let mark : Row → Row = λ s. record s { unchanged = true; state = Private } in
+    let at = λ (rows : List Row). find_mapped settled (λ s. same_page s.page r.page) (λ s. same_page s.page r.page) rows (λ k d lt. refl) in
+    let same = rw (found, restless) at still in
+    rw (found, restless) (row_undue b sound r found restless pages was (λ none. elim (cases_Bool r.unchanged) [
+      | inl kept ↦ kept
+      | inr changed ↦
+          grind (arith, ap (row_at r.page) same.rows, at b.rows, at (change_row r.page mark b.rows), at_changed r.page mark b.rows r (λ s. refl) found)
+    ])))
 
 -- the visit of a page that is not due does nothing
 pub undue_rests : (b : BookState) (due : List GuestPage) → IsSound b → AreDue b due → (page : GuestPage) → has_item page due ≡ false
     → Rests due_visited b page
 undue_rests b due sound are page =
     by_row (λ p. has_item p due ≡ false → Rests due_visited b p) page b.rows
-    (λ calm _ deed. calm_stays (b, deed) page calm) on_stays
-  where
-    -- the visit of a page that waits on changes nothing
-    on_stays : (r : Row) → row_at r.page b.rows ≡ Some r → is_restless r ≡ true → has_item r.page due ≡ false
-        → Rests due_visited b r.page
-    on_stays r found restless out deed =
-        let among = λ (P : Row → Type 0). find_all (λ x. same_page x.page r.page) P b.rows r found in
-        let on : waits_on b r ≡ true =
-        among (WaitsElse b due) are restless out in
-        let alone : partner b.knobs b.rows r ≡ None =
-        among (λ x. waiting_state x.state ≡ true → partner b.knobs b.rows x ≡ None) sound.waiting (grind arith) in
-        let still : change_row r.page (λ x. record x { state = Waiting }) b.rows ≡ b.rows =
-        change_still _ _ _ (grind (arith, row_of_page r.page b.rows r sound.rows_rise found)) in
-        grind (arith, then_idle)
-
--- ---------------------------------------------------------------- a row that takes over
+    (λ calm _ deed. calm_stays (b, deed) page calm) (λ r found restless out deed.
+    let among = λ (P : Row → Type 0). find_all (λ x. same_page x.page r.page) P b.rows r found in
+    let on : waits_on b r ≡ true = among (WaitsElse b due) are restless out in
+    let alone : partner b.knobs b.rows r ≡ None =
+    among (λ x. waiting_state x.state ≡ true → partner b.knobs b.rows x ≡ None) sound.waiting (grind arith) in
+    let still : change_row r.page (λ x. record x { state = Waiting }) b.rows ≡ b.rows =
+    change_still _ _ _ (grind (arith, row_of_page r.page b.rows r sound.rows_rise found)) in
+    grind (arith, then_idle))
 
 -- where a row takes over, the one in whose stead it waits is due then
 pub taken_due : (b : BookState) (row w : Row) (pages : List GuestPage) → IsSound b → row_at row.page b.rows ≡ Some row

@@ -13,8 +13,6 @@ use Rattle.ksm_book.proofs.Scanned.{begun_ahead, restless_mergeable}
 use Rattle.ksm_pages.specs.Ahead.{FindsNext}
 use Rattle.ksm_book.proofs.Walked.{before_it, is_ahead, IsVisit, IsWalking, resting, Rests}
 
--- ---------------------------------------------------------------- the walk
-
 -- the visit of a page that is due is one that a walk may make
 pub visits_due : IsVisit due_visited
 visits_due = record {
@@ -90,8 +88,6 @@ part_stops {old} next new due w are page first start stays restless hides =
           subst (λ (b : BookState). Reached from new (b, (due_visits s (ahead_before page s.0)).1)) there.0
           (changed_comes next new (hidden_from page) hides from (next.state, (due_visits s (ahead_before page s.0)).1) (refl, there.1)));
     }
-
--- ---------------------------------------------------------------- what is due as a walk goes on
 
 -- the pages behind a page that was visited are due, if those behind the page reached were, and only which rows wait changed
 pub due_walks : (mid new : BookValue) (reached : Option GuestPage) (page : GuestPage) (all : List GuestPage) → IsSound mid.state

@@ -43,8 +43,6 @@ pub has_taken : (page : GuestPage) (order : List Named) (x : GuestPage)
     → has_item x (pages_in (without_named page order)) ≡ (has_item x (pages_in order) && not (same_page page x))
 has_taken page order x = picked (λ p. not (same_page p page)) x order ∙ (grind arith)
 
--- ---------------------------------------------------------------- pages that were added
-
 -- where all is ready no page was added that does not stand in order
 pub none_added : (known : Bool) (order : List Named) (added : List Spot) → (known && length added == 0) ≡ true
     → pages_in order ++ pages_of added ≡ pages_in order

@@ -7,16 +7,12 @@ use Rattle.ksm_book.proofs.Along.{along, along_end, along_next, IsAlong, passed}
 use Rattle.ksm_book.proofs.ByPage.{found_page, row_of_page}
 use Rattle.ksm_book.proofs.Singles.{change_still}
 
--- ---------------------------------------------------------------- a page with a frame of its own
-
 -- it waits no more where it comes to be on its own
 pub alone_settled : (page : GuestPage) (rows : List Row) → InPageOrder rows → IsAlone page rows
     → change_row page on_its_own rows ≡ change_row page settled rows
 alone_settled page rows rise alone =
     map_alike (λ r. if same_page r.page page then on_its_own r else r) (λ r. if same_page r.page page then settled r else r)
     rows (λ k d lt. grind (arith, at_own_page page rows rise k d lt, same_page_sym))
-
--- ---------------------------------------------------------------- the pages from one on
 
 -- a row waits no more, if it does not come before a page
 abbrev pub hide : GuestPage → Row → Row

@@ -1,9 +1,9 @@
 -- The visit of a row, by what is found: what becomes of the book, and what is done to the frames.
-use Rattle.ksm_book.proofs.Names.{Add, All, All-contains_itself, arith, Best, best_dup, best_dup_has_room, BookValue, BookView, change_row, Comes, Contains, Dup, DupRow, each_at_page}
-use Rattle.ksm_book.proofs.Names.{false, Find, find_all, find_passes, FindsAt, FindsStill, Frames, GuestPage, HasRoom, idle, IfSome, is_best, is_restless, IsDupOf, IsJoined, IsLaid, IsSound}
+use Rattle.ksm_book.proofs.Names.{Add, All, All-contains_itself, arith, Best, best_dup, best_dup_has_room, BookValue, BookView, change_row, Contains, Dup, DupRow, each_at_page, false, Find}
+use Rattle.ksm_book.proofs.Names.{find_all, find_passes, FindsAt, FindsStill, Frames, GuestPage, HasRoom, HasVisited, idle, IfSome, is_best, is_restless, IsDupOf, IsJoined, IsLaid, IsSound}
 use Rattle.ksm_book.proofs.Names.{item_count, KeeperStep, KeeperView, leaving, lies_on, List, lying, MakesSteps, map, map_mapped, MatchOption, May, MayLeave, Merged, merged_into, merged_state}
 use Rattle.ksm_book.proofs.Names.{MOST_REFERENCES, None, Option, page_visited, PagesView, Performs, Placed, refl, Row, row_at, row_visited, row_visiting, same_page, settled, shared_state, Some}
-use Rattle.ksm_book.proofs.Names.{sound_row_visited, state_of, StaysStill, Sub, subst, sym, true, view_of, VisitsPage, Waiting, Zero, [], ℕ, ◌-◌, ◌∷◌, ◌≡◌, ◌≤◌}
+use Rattle.ksm_book.proofs.Names.{sound_row_visited, state_of, Sub, subst, sym, true, view_of, VisitsPage, Waiting, Zero, [], ℕ, ◌-◌, ◌∷◌, ◌≡◌, ◌≤◌}
 use Rattle.frame_table.specs.Kept.{Did}
 use Rattle.ksm_book.proofs.ByPage.{found_page, row_of_page}
 use Rattle.ksm_book.proofs.Keeping.{left_placed, left_spends, may_leave}
@@ -204,8 +204,6 @@ module _ {p : PagesView} {k : KeeperView} {cursor : Option GuestPage} {passes : 
         (rw goes (laid_rows at.laid l (rw leaves.after) (left_spends _ leaves) (left_placed _ leaves zero_hand)))
         (grind (arith, goes, page_is at, at.so)) (grind (arith, goes, page_is at, at.so))
 
--- ---------------------------------------------------------------- what is found of a page, and what becomes of the book
-
 waiting_settles : (page : GuestPage) (rows : List Row) → All (λ r. same_page r.page page ≡ true → shared_state r.state ≡ false) rows
     → map settled (change_row page (λ r. record r { state = Waiting }) rows) ≡ map settled rows
 waiting_settles page rows alone = grind (arith, map_mapped)
@@ -219,10 +217,11 @@ waits_is p q cursor passes row frame so = grind arith
 
 module _ {p : PagesView} {k : KeeperView} {cursor : Option GuestPage} {passes : ℕ} where
   -- where a search changed nothing and the page's row was visited then, the visit of the page was reached
-  pub shared_comes : (v w : BookValue) {f : Find} {q : PagesView} {page : GuestPage}
+  pub shared_visited : (v w : BookValue) {f : Find} {q : PagesView} {page : GuestPage}
       (at : Meets f p q k cursor passes (view_of v) page) → is_restless at.row ≡ true → q ≡ p
-      → VisitsPage (book q k cursor passes) (view_of w) page → Comes v w (λ s. page_visited s page)
-  shared_comes v w at restless same did = grind (arith, restless, made_then)
+      → VisitsPage (book q k cursor passes) (view_of w) page → HasVisited v w (λ s. page_visited s page) false
+  shared_visited v w at restless same did =
+      record { comes = λ from s before. grind (arith, restless, made_then); still = λ quiet. absurd cc }
 
   -- whatever a visit found, the book is sound then, and its rows and dups lie lawfully
   module _ {q : PagesView} (page : GuestPage) (lawful : IsSound (state_of p cursor passes) × IsLaid p k) where
@@ -246,9 +245,13 @@ module _ {p : PagesView} {k : KeeperView} {cursor : Option GuestPage} {passes : 
     found_lawful _ told = let same : q ≡ p = grind arith in rw same lawful
 
   -- the visit of a page that is to wait changes nothing but which rows wait
-  pub waits_quiet : {q : PagesView} (now : BookValue) {page : GuestPage}
-      → Meets finds.Waits p q k cursor passes (view_of now) page → StaysStill now (λ s. page_visited s page)
-  waits_quiet {q} now at from s before =
+  pub waits_visited : (now new : BookValue) {q : PagesView} {page : GuestPage} → Meets finds.Waits p q k cursor passes (view_of now) page
+      → view_of new ≡ book q k cursor passes → HasVisited now new (λ s. page_visited s page) true
+  waits_visited now new {q} at then =
       let settles = waiting_settles at.row.page p.rows
       (λ i d lt same. rw (row_of_page _ _ _ at.sound.rows_rise (there_is at) i d lt same) (restless_own at.row at.so.0)) in
-      grind (arith, before.0, settles, then_idle, waits_is p q cursor passes at.row s.1.frame at.so)
+      record {
+        comes = λ from s before. grind (arith, before, at.is, at.found, at.so, then_idle);
+        still = λ _ from s before.
+            grind (arith, before.0, settles, then_idle, waits_is p q cursor passes at.row s.1.frame at.so);
+      }

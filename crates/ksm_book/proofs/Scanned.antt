@@ -10,8 +10,6 @@ use Rattle.ksm_book.proofs.Folded.{after, ahead, ahead_then, ascending, begun_fo
 use Rattle.ksm_book.proofs.Folded.{stood, visits_folded}
 use Rattle.ksm_base.proofs.SoundEdits.{sound_settings}
 
--- ---------------------------------------------------------------- the beginning of a visit
-
 -- a pass has gone through all pages where so many visits end nowhere
 pub nowhere_is : (b : BookState) (most : ℕ) (ahead : Ahead) → EndsAt (pages_ahead b) most ahead
     → is_nowhere ahead ≡ is_none (next_row b.cursor b.rows)
@@ -155,8 +153,6 @@ module _ (s : Stage) (sound : IsSound s.0) (page : GuestPage) (there : has_item 
       let order = ascending s sound (most - 1) place page in
       grind (arith, many, stands, get_or_from_slice_get, slice_get_within (ahead s) place page stands)
   stopped_fewer (End made) some comes passes = omega (arith, many, slice_get_within (ahead s) place page stands)
-
--- ---------------------------------------------------------------- as a pass begins
 
 -- as a pass begins nothing changes but which rows wait
 pub begins_still : (s : Stage) → IsStill s (pass_begun s.0, s.1)

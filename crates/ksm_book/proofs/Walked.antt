@@ -1,9 +1,9 @@
 -- A walk from one page that is visited to the next comes to the visits of all pages ahead, where visits of those passed over do nothing.
-use Rattle.ksm_book.proofs.Names.{after_cursor, ahead_before, ahead_up_to, All, All-cons, All-filter, All-head, All-tail, ap, AreAscending, arith, BookState, BookValue, Bool, cases_Bool}
-use Rattle.ksm_book.proofs.Names.{Comes, comes_before, Deed, false, filter, filter_none, filter_passes, find_all, get_or, get_or_from_slice_get, GuestPage, has_item, if◌then◌else◌}
-use Rattle.ksm_book.proofs.Names.{inl, inr, is_restless, IsSound, IsStill, List, mergeable_pages, nat_lt, None, not, one_before, Option, page_visited, pages_ahead}
-use Rattle.ksm_book.proofs.Names.{pairs_head, pairs_tail, Reached, refl, restless_at, Row, same_page, same_page_eq, slice_get_within, Some, Stage, StaysStill, subst, suc, sym, take, true}
-use Rattle.ksm_book.proofs.Names.{true≢false, up_to, [], ℕ, ◌*◌, ◌++◌, ◌+◌, ◌-◌, ◌<◌, ◌^◌, ◌∙◌, ◌∷◌, ◌≡◌}
+use Rattle.ksm_book.proofs.Names.{after_cursor, ahead_before, ahead_up_to, All, All-cons, All-filter, All-head, All-tail, and_parts, ap, AreAscending, arith, BookState, BookValue, Bool}
+use Rattle.ksm_book.proofs.Names.{cases_Bool, Comes, comes_before, Deed, false, filter, filter_none, filter_passes, find_all, get_or, get_or_from_slice_get, GuestPage, has_item, HasVisited}
+use Rattle.ksm_book.proofs.Names.{if◌then◌else◌, inl, inr, is_restless, IsSound, IsStill, List, mergeable_pages, nat_lt, None, not, one_before, Option, page_visited, pages_ahead, pairs_head}
+use Rattle.ksm_book.proofs.Names.{pairs_tail, Reached, refl, restless_at, same_page_eq, slice_get_within, Some, Stage, StaysStill, subst, suc, sym, take, true, true≢false, up_to}
+use Rattle.ksm_book.proofs.Names.{[], ℕ, ◌&&◌, ◌*◌, ◌++◌, ◌+◌, ◌-◌, ◌<◌, ◌^◌, ◌∙◌, ◌∷◌, ◌≡◌}
 use Rattle.std.proofs.lemmas.List.Sums.{fold-append}
 use Rattle.std.proofs.Math.Seq.{take-suc}
 use Rattle.std.specs.Prelude.{fold}
@@ -97,8 +97,6 @@ module _ (visit : Visit) where
               ∙ sym (subst (λ z. Rests visit z page) its (out off) came.1)
         ]
 
--- ---------------------------------------------------------------- a walk
-
 -- a walk up to the last page has reached a page, and is told to be quiet or not
 pub record IsWalking (visit : Visit) (last : Option GuestPage) (old now : BookValue) (reached : Option GuestPage) (quiet : Bool) : Type 0 where
   -- the book was sound, and is so, and scans visit the same pages
@@ -166,23 +164,21 @@ module _ {visit : Visit} (is : IsVisit visit) {last : Option GuestPage} {old mid
     step = agrees old (λ from deed there. next visit reached mid.state (old.state, deed) pages rises
         (w.comes from _ there).0 page behind between (λ off. is.calm mid.state page (grind (arith, is_ahead))))
 
-    -- the walk has reached that page once it was visited; it is quiet if it was so, and the visit changed nothing but which rows wait
-    pub walks_on : up_to last page ≡ true → {new : BookValue} {calm : Bool} → Comes mid new (λ s. visit s page)
-        → (calm ≡ true → (quiet ≡ true) × StaysStill mid (λ s. visit s page)) → IsWalking visit last old new (Some page) calm
-    walks_on inside {new} visits stays =
+    -- the walk has reached that page once it was visited, and is quiet if it was so, and the visit is
+    pub walks_on : up_to last page ≡ true → {new : BookValue} {calm : Bool} → HasVisited mid new (λ s. visit s page) calm
+        → IsWalking visit last old new (Some page) (quiet && calm)
+    walks_on inside {new} {calm} visited =
         let went = is.goes mid.state _ page w.goes.0 in
         record {
           began = w.began;
-          goes = rw (comes_to mid new (λ s. visit s page) visits) (went.0, went.1 ∙ w.goes.1);
+          goes = rw (comes_to mid new (λ s. visit s page) visited.comes) (went.0, went.1 ∙ w.goes.1);
           comes = λ from s before.
-              subst (Reached from new) (sym (step.same from s before)) (visits from _ (w.comes from s before));
-          still = λ calm from s before. subst (IsStill s) (sym (step.same from s before))
-              (still_on s _ _ (w.still (stays calm).0 from s before) ((stays calm).1 from _ (w.comes from s before)));
+              subst (Reached from new) (sym (step.same from s before)) (visited.comes from _ (w.comes from s before));
+          still = λ both from s before. let parts = and_parts quiet calm both in subst (IsStill s) (sym (step.same from s before))
+              (still_on s _ _ (w.still parts.0 from s before) (visited.still parts.1 from _ (w.comes from s before)));
           behind = λ p after. w.behind p (after_later reached page p behind after);
           within = λ p _ out. grind (arith, up_to);
         }
-
--- ---------------------------------------------------------------- visits of the definitions
 
 -- the visit of a page by the definitions is one that a walk may make
 pub visits_page : IsVisit page_visited
@@ -191,22 +187,14 @@ visits_page = record {
   calm = λ b page calm deed. grind arith;
 }
 
--- what is so of the page of each row that a visit may change is so of each page whose row one may
-all_restless : (P : GuestPage → Type 0) (rows : List Row) → All (λ r. is_restless r ≡ true → P r.page) rows
-    → (page : GuestPage) → restless_at page rows ≡ true → P page
-all_restless P rows each page is =
-    by_row (λ q. restless_at q rows ≡ true → P q) page rows (λ calm restless. absurd (true≢false (sym restless ∙ calm)))
-    (λ r found restless _.
-    find_all (λ s. same_page s.page r.page) (λ s. is_restless s ≡ true → P s.page) rows r found each restless) is
-
 -- where no row behind a cursor that a visit may change is of a page that passes a test, visits of such pages do nothing
 pub rests_where : (b : BookState) (reached : Option GuestPage) (test : GuestPage → Bool)
     → All (λ r. is_restless r ≡ true → after_cursor reached r.page ≡ true → test r.page ≡ false) b.rows → (q : GuestPage)
     → after_cursor reached q ≡ true → test q ≡ true → Rests page_visited b q
-rests_where b reached test none q after inside = visits_page.calm b q
-    (grind (arith, all_restless (λ p. after_cursor reached p ≡ true → test p ≡ false) b.rows none q))
-
--- ---------------------------------------------------------------- how far a walk can go
+rests_where b reached test none q =
+    by_row (λ p. after_cursor reached p ≡ true → test p ≡ true → Rests page_visited b p) q b.rows
+    (λ calm _ _. visits_page.calm b q calm) (λ r found restless after inside. absurd (true≢false (sym inside
+    ∙ find_all _ (λ s. is_restless s ≡ true → after_cursor reached s.page ≡ true → test s.page ≡ false) _ r found none restless after)))
 
 -- a page's number in its guest, or the greatest there is
 abbrev page_in : ℕ → ℕ

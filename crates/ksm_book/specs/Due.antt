@@ -86,8 +86,6 @@ abbrev pub names : GuestPage → Option GuestPage → Bool
 names page None = false
 names page (Some waiting) = same_page waiting page
 
--- ---------------------------------------------------------------- what a pass over the pages that are due comes to
-
 -- from the one to the other it came to this book, but for which rows from a page on wait, and this was done to the frames
 abbrev pub ReachedBefore : GuestPage → BookValue → BookValue → Stage → Type 0
 ReachedBefore page old new s =

@@ -2,7 +2,7 @@
 
 ghost use Rattle.std.specs.Prelude.{◌≡◌, true, OnOk, OnErr, IfOk};
 ghost use Rattle.ksm_book.specs.Folded.{page_visited, restless_at};
-ghost use Rattle.ksm_book.specs.Scanned.{Comes, FindsStill, StaysStill, VisitsPage};
+ghost use Rattle.ksm_book.specs.Scanned.{Comes, FindsStill, HasVisited, VisitsPage};
 ghost use Rattle.ksm_book.specs.Scanned.{is_quiet};
 ghost use Rattle.ksm_book.specs.Whole.{view_of};
 
@@ -35,9 +35,8 @@ impl State {
     pub fn visit(&mut self, table: &FrameTable, spot: Spot) -> Result<Visited, Fault>
         requires own { self.old.keeper.table ≡ table.now }
         ensures own { self.new.keeper.table ≡ self.old.keeper.table }
-        ensures comes { OnOk result (Comes self.old self.new (λ s. page_visited s spot.page)) }
-        ensures quiet { IfOk result (λ visited. is_quiet visited ≡ true
-            → StaysStill self.old (λ s. page_visited s spot.page)) }
+        ensures visited { IfOk result (λ visited. HasVisited self.old self.new
+            (λ s. page_visited s spot.page) (is_quiet visited)) }
         ensures refused { OnErr result (Comes self.old self.new (λ s. s)) }
         ensures refused_row { OnErr result (restless_at spot.page self.new.state.rows ≡ true) }
     {
@@ -53,9 +52,8 @@ impl State {
     fn visit_any(&mut self, table: &FrameTable, spot: Spot) -> Result<Visited, Fault>
         requires own { self.old.keeper.table ≡ table.now }
         ensures own { self.new.keeper.table ≡ self.old.keeper.table }
-        ensures comes { OnOk result (Comes self.old self.new (λ s. page_visited s spot.page)) }
-        ensures quiet { IfOk result (λ visited. is_quiet visited ≡ true
-            → StaysStill self.old (λ s. page_visited s spot.page)) }
+        ensures visited { IfOk result (λ visited. HasVisited self.old self.new
+            (λ s. page_visited s spot.page) (is_quiet visited)) }
         ensures refused { OnErr result (Comes self.old self.new (λ s. s)) }
         ensures refused_row { OnErr result (restless_at spot.page self.new.state.rows ≡ true) }
     {

@@ -1,4 +1,4 @@
-use Rattle.ksm_book.proofs.Names.{AreDue, arith, comes_before, None, subst, up_to}
+use Rattle.ksm_book.proofs.Names.{AreDue, arith, comes_before, false, None, subst, up_to}
 use Rattle.ksm_book.proofs.DuePasses.{part_stops, rests_due, visits_due, whole_part, whole_still}
 use Rattle.ksm_book.proofs.Reached.{agrees, comes_as, comes_own}
 use Rattle.ksm_book.proofs.Walked.{begins_walk, less_room, walk_ends, walks_on}
@@ -22,8 +22,8 @@ pub loop-spot-preserved : goal.loop-spot-preserved
 loop-spot-preserved c =
     let walking = c.loop-spot.invariant.0 in
     let first = c.in-Some.ensures in (
-      walks_on visits_due walking _ first.1 (rests_due _ walking c.loop-spot.invariant.1 (λ q. comes_before q _) first.2) refl
-          c.in-Ok.ensures.comes (λ calm. absurd cc),
+      walks_on visits_due walking _ first.1 (rests_due _ walking c.loop-spot.invariant.1 (λ q. comes_before q _) first.2) refl {calm = false}
+          (record { comes = c.in-Ok.ensures.comes; still = λ quiet. absurd cc }),
       c.in-Ok.ensures.due,
       c.visit_due.ensures.ready,
     )

@@ -30,10 +30,10 @@ returns-in_err-visit-clause-refused c = on_err _
 pub returns-clause-comes : goal.returns-clause-comes
 returns-clause-comes c =
     taken_comes c.args.self.now c.stop_waiting.new.self c.visit.new.self c.lies_lawfully.ensures.sound
-    c.requires.takes (freeing (goal.at.returns-clause-comes c).After-stop_waiting) c.in_ok-visit.ensures.comes
+    c.requires.takes (freeing (goal.at.returns-clause-comes c).After-stop_waiting) c.in_ok-visit.ensures.visited.comes
 
 pub returns-clause-due : goal.returns-clause-due
 returns-clause-due c =
     taken_leaves c.args.self.now c.stop_waiting.new.self c.visit.new.self c.lies_lawfully.ensures.sound
     c.requires.takes (freeing (goal.at.returns-clause-due c).After-stop_waiting) _ _ _
-    (rw (← c.in-Some.ensures.spot) c.in_ok-insert.ensures.added) c.remove.ensures.gone c.in_ok-visit.ensures.comes c.requires.due
+    (rw (← c.in-Some.ensures.spot) c.in_ok-insert.ensures.added) c.remove.ensures.gone c.in_ok-visit.ensures.visited.comes c.requires.due

@@ -1,4 +1,4 @@
-use Rattle.ksm_book.proofs.Names.{and_parts, arith, comes_before, FindsUpTo, GuestPage, is_quiet, IsStill, None, Option, subst, sym, true, up_to, ◌∙◌, ◌≡◌}
+use Rattle.ksm_book.proofs.Names.{and_parts, arith, comes_before, FindsUpTo, GuestPage, is_quiet, IsStill, None, Option, subst, sym, up_to, ◌∙◌}
 use Rattle.std.proofs.Common.{rules}
 use Rattle.ksm_book.proofs.PagesAhead.{has_filter}
 use Rattle.ksm_book.proofs.Reached.{comes_as, comes_own, comes_to}
@@ -28,12 +28,11 @@ loop-spot-preserved c =
     let next = c.in-Some.ensures.next in
     let kept = c.in-Some.ensures.kept in
     let rests = rests_where _ _ (λ q. comes_before q page) next.1.1 in
-    let both = λ (quiet : c.and-made.result.quiet ≡ true).
-    and_parts c.loop-spot.made.quiet (is_quiet c.in-Ok.visited) (sym c.and-made.ensures ∙ quiet) in
-    let comes = rw kept at c.in-Ok.ensures.comes in
-    let still = λ (quiet : c.and-made.result.quiet ≡ true). rw kept at (c.in-Ok.ensures.quiet (both quiet).1) in (
-      walks_on visits_page walking page next.1.0 rests next.0 comes (λ quiet. ((both quiet).0, still quiet)),
-      λ quiet none. due_walks c.loop-spot.self c.visit.new.self _ page _ walking.goes.0 next.1 comes (still quiet) (c.loop-spot.invariant.1 (both quiet).0 none),
+    let visited = rw kept at c.in-Ok.ensures.visited in (
+      rw c.and-made.ensures (walks_on visits_page walking page next.1.0 rests next.0 visited),
+      λ quiet none. let both = and_parts c.loop-spot.made.quiet (is_quiet c.in-Ok.visited) (sym c.and-made.ensures ∙ quiet) in
+          due_walks c.loop-spot.self c.visit.new.self _ page _ walking.goes.0 next.1 visited.comes (visited.still both.1)
+          (c.loop-spot.invariant.1 both.0 none),
     )
 
 pub returns-in-Err-clause-stopped : goal.returns-in-Err-clause-stopped
