@@ -1,12 +1,60 @@
--- Rows that are changed one after another, in the order of their pages: those of a guest, or all, up to a cursor.
-use Rattle.ksm_book.proofs.Names.{after_cursor, All, ap, arith, before_irrefl, Bool, cases_Bool, change_none, change_row, change_rows, comes_before, each_at_page, false, filter, filter_mapped, filter_none, find, find_all}
-use Rattle.ksm_book.proofs.Names.{find_mapped, find_none, find_passes, get_or, GuestPage, if◌then◌else◌, inl, InPageOrder, inr, is_before, is_next, List, map_alike, map_mapped, None, not, not_both, one_before}
-use Rattle.ksm_book.proofs.Names.{Option, option_map, pairs_head, pairs_tail, Row, row_at, same_page, same_page_eq, Some, subst, true, ℕ, [], ⊤, ◌&&◌, ◌*◌, ◌++◌, ◌+◌, ◌<◌, ◌∙◌, ◌∷◌, ◌≡◌, ◌≤◌}
+-- Pages in order: the parts of a list before and behind a page, and rows that are changed one after another, up to a cursor.
+use Rattle.ksm_book.proofs.Names.{after_cursor, All, All-filter, All-head, any-filter_same, ap, AreAscending, arith, before_irrefl, Bool, cases_Bool, change_none, change_row, change_rows}
+use Rattle.ksm_book.proofs.Names.{comes_before, Contains-from_any, each_at_page, false, filter, filter_all, filter_mapped, filter_none, find, find_all, find_mapped, find_none, find_passes}
+use Rattle.ksm_book.proofs.Names.{get_or, get_or_from_slice_get, GuestPage, has_item, if◌then◌else◌, inl, InPageOrder, inr, is_before, is_next, List, map_alike, map_mapped, None, not, not_both}
+use Rattle.ksm_book.proofs.Names.{one_before, Option, option_map, pairs_head, pairs_tail, Row, row_at, same_page, same_page_eq, slice_get, slice_get-get_or, slice_get_within, Some, subst, suc}
+use Rattle.ksm_book.proofs.Names.{sym, take, true, zero, [], ℕ, ⊤, ◌&&◌, ◌*◌, ◌++◌, ◌+◌, ◌<◌, ◌∙◌, ◌∷◌, ◌≡◌, ◌≤◌}
 use Rattle.ksm_book.proofs.ByPage.{row_of_page}
-use Rattle.ksm_book.proofs.PagesAhead.{after_later}
 use Rattle.ksm_pages.proofs.Found.{first_found as found_first}
 use Rattle.std.proofs.lemmas.List.{map-id}
 use Rattle.ksm_pages.proofs.Options.{mapped_some, none_mapped}
+
+-- the first page comes before the second
+abbrev pub Before : GuestPage → GuestPage → Type 0
+Before p q = comes_before p q ≡ true
+
+-- what comes behind a page that is behind the cursor is behind the cursor
+pub after_later : (cursor : Option GuestPage) (p q : GuestPage) → after_cursor cursor p ≡ true → comes_before p q ≡ true
+    → after_cursor cursor q ≡ true
+after_later cursor p q is later = grind arith
+
+-- where a page and others are those behind a cursor in an ascending list, the others are those behind that page
+pub behind_first : (cursor : Option GuestPage) (pages : List GuestPage) (page : GuestPage) (more : List GuestPage) → AreAscending pages
+    → filter (after_cursor cursor) pages ≡ page ∷ more → filter (after_cursor (Some page)) pages ≡ more
+behind_first cursor [] page more rise is = cc
+behind_first cursor (p ∷ pages) page more rise is =
+    let behind = pairs_head Before p _ rise in
+    elim (cases_Bool (after_cursor cursor p)) [
+      | inl here ↦
+          grind (arith, filter_all, after_later)
+      | inr before ↦
+          let found = sym (grind arith) ∙ is in
+          let later = All-head (Before p) page _ (subst (All (Before p)) found (All-filter _ (Before p) _ behind)) in
+          rw (not_both p page later) (behind_first cursor pages page more (pairs_tail Before p _ rise) found)
+    ]
+
+-- in an ascending list the pages before the one at index n are the first n, those not behind it the first n + 1
+pub place_splits : (pages : List GuestPage) (n : ℕ) (page : GuestPage) → AreAscending pages → slice_get pages n ≡ Some page
+    → (filter (λ p. comes_before p page) pages ≡ take n pages) × (filter (λ p. not (comes_before page p)) pages ≡ take (suc n) pages)
+place_splits [] n page rise at = cc
+place_splits (p ∷ pages) zero page rise at =
+    grind (arith, filter_none, pairs_head Before p pages rise)
+place_splits (p ∷ pages) (suc n) page rise at =
+    let first = pairs_head Before p pages rise n page (slice_get_within _ n _ at) in
+    let parts = place_splits pages n page (pairs_tail Before p _ rise) at in
+    grind (arith, get_or_from_slice_get pages n page page at, not_both)
+
+-- a page that a list has stands at an index of the list
+pub place_of : (page : GuestPage) (pages : List GuestPage) → has_item page pages ≡ true → (n : ℕ) × (slice_get pages n ≡ Some page)
+place_of page pages has =
+    let there = Contains-from_any {eq = λ q p. same_page p q} (λ x y e. sym (same_page_eq y x e)) _ _ has in
+    (there.0, slice_get-get_or _ _ _ there.1 ∙ ap Some there.2)
+
+-- a filtered list has a page exactly where the list has it and the page passes the test
+pub has_filter : (t : GuestPage → Bool) (x : GuestPage) (pages : List GuestPage) → has_item x (filter t pages) ≡ (t x && has_item x pages)
+has_filter t x pages = grind (arith, any-filter_same)
+
+-- ---------------------------------------------------------------- rows up to a cursor
 
 -- a row that is asked for, and not behind the cursor
 abbrev pub passed : (Row → Bool) → Option GuestPage → Row → Bool
@@ -60,7 +108,7 @@ module _ {asked : Row → Bool} {f : Row → Row} (keeps : (r : Row) → (f r).p
 
     -- each row asked for is changed then
     pub along_end : now ≡ change_rows asked f rows
-    along_end = rw a.are (map_alike change (λ r. if asked r then f r else r) rows (λ k d lt. grind (arith, none_left k d lt)))
+    along_end = rw a.are (map_alike _ _ rows (λ k d lt. grind (arith, none_left k d lt)))
 
     -- and those that pass a test more strict were passed
     pub passed_all : (test : Row → Bool) → ((r : Row) → test r ≡ true → asked r ≡ true) → filter (passed test last) rows ≡ filter test rows
@@ -105,7 +153,7 @@ module _ {asked : Row → Bool} {f : Row → Row} (keeps : (r : Row) → (f r).p
     -- once it is changed, the cursor is there
     pub along_next : IsAlong asked f rows (change_row page f now) (Some page)
     along_next = record {
-      are = rw a.are (map_mapped (λ r. if same_page r.page page then f r else r) change (λ r. if passed asked (Some page) r then f r else r) rows
+      are = rw a.are (map_mapped _ change _ rows
           (λ k d lt. grind (
             arith,
             keeps (get_or rows k d),
@@ -121,7 +169,7 @@ module _ {asked : Row → Bool} {f : Row → Row} (keeps : (r : Row) → (f r).p
 
     -- the rows changed are those asked for before it
     pub along_stop : now ≡ change_rows (λ r. asked r && is_before (Some row) r) f rows
-    along_stop = a.are ∙ map_alike change (λ r. if asked r && is_before (Some row) r then f r else r) rows
+    along_stop = a.are ∙ map_alike _ _ rows
         (λ k d lt. grind (arith, place k d lt, next_is.2))
 
 -- at first no row is changed

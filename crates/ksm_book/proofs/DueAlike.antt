@@ -10,7 +10,7 @@ use Rattle.ksm_book.proofs.Names.{Row, row_at, row_visiting, same_page, same_pag
 use Rattle.ksm_book.proofs.Names.{true, visited, waiting_state, waits_for, waits_tells, Zero, [], ℕ, ◌&&◌, ◌||◌, ◌∙◌, ◌∷◌, ◌≡◌}
 use Rattle.ksm_base.specs.declared.row.PageState.TheVariants.{Private}
 use Rattle.ksm_book.proofs.Folded.{by_row, Goes, mergeable_kept, page_goes}
-use Rattle.ksm_book.proofs.PagesAhead.{after_later, Before, place_of}
+use Rattle.ksm_book.proofs.Along.{after_later, Before, place_of}
 use Rattle.std.proofs.lemmas.List.{map-id}
 use Rattle.ksm_base.specs.Visit.{is_no_worse}
 
@@ -26,8 +26,7 @@ all_has P pages all q is =
 -- each row of rows in order is found at its page
 pub at_own_page : (page : GuestPage) (rows : List Row) → InPageOrder rows
     → All (λ r. same_page page r.page ≡ true → row_at page rows ≡ Some r) rows
-at_own_page page rows rise k d lt same = ap (λ q. row_at q rows) (same_page_eq page _ same)
-    ∙ each_at_page rows rise k d lt
+at_own_page page rows rise k d lt same = grind (arith, same_page_eq, each_at_page rows rise k d lt)
 
 -- the row, which waits no more where it passes a test
 abbrev calmed : (Row → Bool) → Row → Row
@@ -135,7 +134,7 @@ module _ (b : BookState) (r : Row) where
       rows : change_rows (λ x. by x.page) f covered.rows
           ≡ change_rows (λ x. comes_before r.page x.page) settled (change_rows (λ x. by x.page) f b.rows)
       rows = map_mapped change cover (λ x. after (change x)) b.rows (λ k d lt. each (get_or b.rows k d))
-          ∙ sym (map_mapped after change (λ x. after (change x)) b.rows (λ k d lt. refl))
+          ∙ sym (map_mapped after change _ b.rows (λ k d lt. refl))
 
   -- so does a change of the row itself
   own_alike : (f : Row → Row) → ((x : Row) → (f x).page ≡ x.page) → ((x : Row) → f (settled x) ≡ f x)
@@ -153,12 +152,8 @@ module _ (b : BookState) (r : Row) where
   -- where none that waits for it is veiled, the same waits for it
   partner_alike : NoneVeiled → partner b.knobs covered.rows r ≡ partner b.knobs b.rows r
   partner_alike near =
-      find_mapped cover (waits_for b.knobs r) (waits_for b.knobs r) b.rows
-      (λ k d lt. grind (arith, near k d lt, not_both)) ∙ stays _ refl
-    where
-      stays : (o : Option Row) → partner b.knobs b.rows r ≡ o → option_map cover o ≡ o
-      stays None found = refl
-      stays (Some w) found = grind (arith, near_found near w found)
+      let found = find_mapped cover (waits_for b.knobs r) (waits_for b.knobs r) b.rows (λ k d lt. grind (arith, near k d lt, not_both)) in
+      grind (arith, near_found near)
 
   -- with what waits for it in the book it is paired alike
   paired_alike : NoneVeiled → (o : Option Row) → partner b.knobs b.rows r ≡ o
@@ -222,8 +217,6 @@ module _ (b : BookState) (r : Row) where
       → All (λ x. waits x ≡ true → comes_before r.page x.page ≡ comes_later r.page o) b.rows
   side s None none k d lt is = grind (arith, find_none)
   side s (Some w) at k d lt is = rw (one_waits b r w s at k d lt is)
-
--- ---------------------------------------------------------------- one visit
 
 -- the visit of a page that is none that a visit may change changes nothing
 pub calm_stays : (s : Stage) (page : GuestPage) → restless_at page s.0.rows ≡ false

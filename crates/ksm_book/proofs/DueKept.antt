@@ -123,8 +123,7 @@ module _ (b : BookState) (page : GuestPage) (f : Row → Row) (row : Row) (rise 
       → AreDue b due → AreDue (record b { rows = change_row page f b.rows }) more
   own_due due more ours others was =
       let is = row_of_page page b.rows row rise found in
-      single_due b (λ r. same_page r.page page) f (λ k d lt same. rw (is k d lt same) single) due more
-      (λ k d lt same. rw (is k d lt same) ours) (λ k d lt. others (get_or b.rows k d).page) was
+      single_due b (λ r. same_page r.page page) f (grind (arith, is)) due more (grind (arith, is)) (grind arith) was
 
 -- ---------------------------------------------------------------- the visit of a row
 

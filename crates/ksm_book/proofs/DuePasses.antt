@@ -1,13 +1,13 @@
 -- A pass over what is due comes to what the pass of the definitions comes to.
 use Rattle.ksm_book.proofs.Names.{after_cursor, ahead_before, ahead_up_to, All, AllPairs-filter, ap, AreDue, arith, BookState, BookValue, Bool, Comes, comes_before, Deed}
-use Rattle.ksm_book.proofs.Names.{due_visited, due_visits, each_at_page, false, filter, FindsFirst, get_or, GuestPage, has_item, hidden_from, if◌then◌else◌, InPageOrder, is_none, IsSound}
+use Rattle.ksm_book.proofs.Names.{due_visited, due_visits, each_at_page, false, filter, FindsFirst, get_or, GuestPage, hidden_from, if◌then◌else◌, InPageOrder, is_none, IsSound}
 use Rattle.ksm_book.proofs.Names.{IsStill, List, mergeable_pages, None, not, one_before, Option, page, page_visited, pages_ahead, pages_visited, part_before, part_visited, pass_begun, Reached}
 use Rattle.ksm_book.proofs.Names.{ReachedBefore, refl, restless_at, same_page_eq, Some, StaysBefore, StaysStill, StopsInPart, subst, sym, true, view_of, with_none_waiting, []}
 use Rattle.ksm_book.proofs.Names.{◌∙◌, ◌≡◌}
 use Rattle.ksm_book.proofs.DueAlike.{all_has, along, calm_stays, one_due, unveiled, veiled}
 use Rattle.ksm_book.proofs.DueKept.{still_undue, undue_rests}
 use Rattle.ksm_book.proofs.Folded.{ascending_ahead, every_page}
-use Rattle.ksm_book.proofs.PagesAhead.{Before, has_filter}
+use Rattle.ksm_book.proofs.Along.{Before, has_filter}
 use Rattle.ksm_book.proofs.Reached.{agrees, begins, changed_comes, comes_as, comes_to, first}
 use Rattle.ksm_book.proofs.Scanned.{begun_ahead, restless_mergeable}
 use Rattle.ksm_pages.specs.Ahead.{FindsNext}
@@ -100,7 +100,4 @@ due_walks mid new reached page all sound found comes still was = rw (comes_to mi
 -- as a walk begins before all pages, those that scans visit are due
 pub due_begins : (b : BookState) → InPageOrder b.rows → AreDue b (filter (after_cursor None) (mergeable_pages b.rows))
 due_begins b rise k d lt restless out =
-    let page = (get_or b.rows k d).page in
-    let there : has_item page (mergeable_pages b.rows) ≡ true =
-    restless_mergeable page b.rows (grind (arith, each_at_page b.rows rise k d lt)) in
-    absurd (grind (arith, has_filter))
+    absurd (grind (arith, has_filter, restless_mergeable (get_or b.rows k d).page b.rows, each_at_page b.rows rise k d lt))

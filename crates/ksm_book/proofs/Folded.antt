@@ -1,11 +1,11 @@
 -- The visits of a pass are a fold over its pages, only restless pages count, and a quiet pass is repeated by those behind it.
-use Rattle.ksm_book.proofs.Names.{after_cursor, AllPairs-filter, and_right, ap, append-nil, AreAscending, arith, begun, best_dup, BookState, Bool, cases_Bool, change_rows, comes_before, Deed}
+use Rattle.ksm_book.proofs.Names.{after_cursor, AllPairs-filter, and_right, ap, append-nil, AreAscending, arith, begun, best_dup, BookState, cases_Bool, comes_before, Deed}
 use Rattle.ksm_book.proofs.Names.{drop, drop_more, DupRow, each_at_page, false, filter, filter_all, filter_mapped, find_all, find_passes, get_or, get_or_from_slice_get, GuestPage, handled, idle}
-use Rattle.ksm_book.proofs.Names.{inl, InPageOrder, inr, is_none, is_restless, IsSound, IsStill, last_of, List, map, map_mapped, mergeable_pages, next_row, next_visited, None, Option, option_map}
-use Rattle.ksm_book.proofs.Names.{page_visited, pages_ahead, pages_visited, paired, pairs_mapped, partner, pass_ended_at_last, refl, restless_at, restless_row, Row, row_at, row_done, row_visited}
-use Rattle.ksm_book.proofs.Names.{rowwise_visits, same_page, settled, slice_get, slice_get-get_or, slice_get_within, Some, sound_row_visited, Stage, subst, suc, sym, take, take-append-drop}
-use Rattle.ksm_book.proofs.Names.{then_doing, true, visit, visit_begun, visit_of, visits, visits_beside, Zero, zero, [], ℕ, ⊤, ◌++◌, ◌+◌, ◌∙◌, ◌∷◌, ◌≡◌}
-use Rattle.ksm_book.proofs.PagesAhead.{Before, behind_first}
+use Rattle.ksm_book.proofs.Names.{if◌then◌else◌, inl, InPageOrder, inr, is_none, is_restless, IsSound, IsStill, last_of, List, map, map_mapped, mergeable_pages, next_row, next_visited, None}
+use Rattle.ksm_book.proofs.Names.{Option, option_map, page_visited, pages_ahead, pages_visited, paired, pairs_mapped, partner, pass_ended_at_last, refl, restless_at, restless_row, Row, row_at}
+use Rattle.ksm_book.proofs.Names.{row_done, row_visited, rowwise_visits, same_page, settled, slice_get, slice_get-get_or, slice_get_within, Some, sound_row_visited, Stage, subst, suc, sym, take}
+use Rattle.ksm_book.proofs.Names.{take-append-drop, then_doing, true, visit, visit_begun, visit_of, visits, visits_beside, Zero, zero, [], ℕ, ⊤, ◌++◌, ◌+◌, ◌∙◌, ◌∷◌, ◌≡◌}
+use Rattle.ksm_book.proofs.Along.{Before, behind_first}
 use Rattle.ksm_pages.proofs.Options.{mapped_some, none_mapped}
 use Rattle.ksm_pages.proofs.Ranked.{last_of_take}
 use Rattle.std.proofs.Math.Seq.{take-suc}
@@ -60,8 +60,6 @@ settled_twice rows = grind (arith, map_mapped)
 pub every_page : (rows : List Row) → filter (after_cursor None) (mergeable_pages rows) ≡ mergeable_pages rows
 every_page rows = filter_all (after_cursor None) _ (λ k d lt. refl)
 
--- ---------------------------------------------------------------- what visits keep
-
 -- the same book with the cursor elsewhere, and with another count of passes
 abbrev pub elsewhere : Option GuestPage → ℕ → BookState → BookState
 elsewhere cursor passes b = record b { cursor = cursor; passes = passes }
@@ -78,21 +76,17 @@ mergeable_kept change keeps rows = grind (
 
 -- so they do after the visit of a row
 module _ (b : BookState) (row : Row) where
-  turned_keeps : (test : Row → Bool) (f : Row → Row) → ((r : Row) → ((f r).page ≡ r.page) × ((f r).mergeable ≡ r.mergeable))
-      → mergeable_pages (change_rows test f b.rows) ≡ mergeable_pages b.rows
-  turned_keeps test f keeps = mergeable_kept _ (grind arith) b.rows
-
   paired_keeps : (w : Option Row) → mergeable_pages (paired w b row).rows ≡ mergeable_pages b.rows
-  paired_keeps (Some w) = turned_keeps _ _ (λ r. (refl, refl))
-  paired_keeps None = turned_keeps _ _ (λ r. (refl, refl))
+  paired_keeps (Some w) = mergeable_kept _ (grind arith) b.rows
+  paired_keeps None = mergeable_kept _ (grind arith) b.rows
 
   handled_keeps : (d : Option DupRow) → mergeable_pages (handled d b row).rows ≡ mergeable_pages b.rows
-  handled_keeps (Some d) = turned_keeps _ _ (λ r. (refl, refl))
+  handled_keeps (Some d) = mergeable_kept _ (grind arith) b.rows
   handled_keeps None = grind (
     arith,
-    turned_keeps (λ r. same_page r.page row.page) (λ r. record r { state = Zero }) (λ r. (refl, refl)),
+    mergeable_kept (λ r. if same_page r.page row.page then record r { state = Zero } else r) (grind arith) b.rows,
     paired_keeps (partner b.knobs b.rows row),
-    turned_keeps (λ r. same_page r.page row.page) (λ r. record r { unchanged = true; state = Private }) (λ r. (refl, refl)),
+    mergeable_kept (λ r. if same_page r.page row.page then record r { unchanged = true; state = Private } else r) (grind arith) b.rows,
   )
 
   row_keeps : mergeable_pages (row_visited b row).rows ≡ mergeable_pages b.rows

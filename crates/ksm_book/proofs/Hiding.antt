@@ -11,8 +11,7 @@ use Rattle.ksm_book.proofs.Singles.{change_still}
 pub alone_settled : (page : GuestPage) (rows : List Row) → InPageOrder rows → IsAlone page rows
     → change_row page on_its_own rows ≡ change_row page settled rows
 alone_settled page rows rise alone =
-    map_alike (λ r. if same_page r.page page then on_its_own r else r) (λ r. if same_page r.page page then settled r else r)
-    rows (λ k d lt. grind (arith, at_own_page page rows rise k d lt, same_page_sym))
+    map_alike _ _ rows (λ k d lt. grind (arith, at_own_page page rows rise k d lt, same_page_sym))
 
 -- a row waits no more, if it does not come before a page
 abbrev pub hide : GuestPage → Row → Row

@@ -24,14 +24,12 @@ pub mod Unmerged
 pub mod Unshared
 pub mod Standing
 pub mod Promised
-pub mod PagesAhead
 pub mod Folded
 pub mod Scanned
 pub mod DuePasses
 pub mod Reached
 pub mod RowVisits
 pub mod Pairing
-pub mod TakingOver
 pub mod DueFound
 pub mod Walked
 pub mod ScanCarried

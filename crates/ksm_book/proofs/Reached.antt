@@ -42,3 +42,8 @@ agrees v {f} {g} each = record {
 -- what comes of the one comes of the other then
 pub comes_as : {v : BookValue} (w : BookValue) {f g : Stage → Stage} → Agree v f g → Comes v w f → Comes v w g
 comes_as w agree comes from s before = subst (Reached from w) (agree.same from s before) (comes from s before)
+
+-- so what comes of the one comes of the other where they come to the same of the book's state
+pub comes_by : (v w : BookValue) (f g : Stage → Stage) → Comes v w f
+    → ((from : BookValue) (deed : Deed) → Reached from v (v.state, deed) → f (v.state, deed) ≡ g (v.state, deed)) → Comes v w g
+comes_by v w f g comes each = comes_as w (agrees v each) comes

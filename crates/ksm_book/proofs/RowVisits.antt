@@ -26,8 +26,6 @@ filled_by P told = grind arith
 pub restless_own : (row : Row) → is_restless row ≡ true → shared_state row.state ≡ false
 restless_own row is = grind arith
 
--- ---------------------------------------------------------------- what the visit of a page comes to
-
 -- a step of the keeper was made, as its call says
 pub made_by : {v w : KeeperView} {e : KeeperStep} → Did v e w → MakesSteps v w (e ∷ [])
 made_by {v} {w} {e} did = made_one v w e _ did.1

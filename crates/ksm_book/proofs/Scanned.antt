@@ -3,7 +3,7 @@ use Rattle.ksm_book.proofs.Names.{after_cursor, Ahead, ahead_before, ap, arith, 
 use Rattle.ksm_book.proofs.Names.{GuestPage, has_item, is_none, is_nowhere, IsSound, IsStill, last_of, last_visited, length, length-take-le, List, mergeable_pages, next_row, None, page}
 use Rattle.ksm_book.proofs.Names.{pages_ahead, pass_begun, pass_ended, passes_ended, refl, restless_at, Row, settled, slice_get, slice_get-get_or, slice_get_within, Some, Stage, suc, suc-mul}
 use Rattle.ksm_book.proofs.Names.{sym, take, true, true≢false, up_to, visit_begun, visits_beside, with_none_waiting, zero, [], ℕ, ◌*◌, ◌-◌, ◌<◌, ◌∙◌, ◌∷◌, ◌≡◌, ◌≤◌}
-use Rattle.ksm_book.proofs.PagesAhead.{place_of, place_splits}
+use Rattle.ksm_book.proofs.Along.{place_of, place_splits}
 use Rattle.ksm_pages.proofs.Ranked.{last_of_take}
 use Rattle.std.proofs.lemmas.List.{drop_all, take_all}
 use Rattle.ksm_book.proofs.Folded.{after, ahead, ahead_then, ascending, begun_folded, begun_sound, beside_on, elsewhere, every_page, mergeable_kept, next_first, none_next, pages_alike, pages_go, pages_stay, pass_goes_on, settled_twice}

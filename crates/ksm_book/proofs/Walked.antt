@@ -7,9 +7,8 @@ use Rattle.ksm_book.proofs.Names.{[], ℕ, ◌&&◌, ◌*◌, ◌++◌, ◌+◌,
 use Rattle.std.proofs.lemmas.List.Sums.{fold-append}
 use Rattle.std.proofs.Math.Seq.{take-suc}
 use Rattle.std.specs.Prelude.{fold}
-use Rattle.ksm_book.proofs.Along.{FitsPage}
 use Rattle.ksm_book.proofs.Folded.{ascending_ahead, by_row, Goes, page_goes, still_on}
-use Rattle.ksm_book.proofs.PagesAhead.{after_later, Before, has_filter, place_of, place_splits}
+use Rattle.ksm_book.proofs.Along.{Before, FitsPage, after_later, has_filter, place_of, place_splits}
 use Rattle.ksm_book.proofs.Reached.{Agree, agrees, comes_to}
 use Rattle.ksm_book.proofs.Scanned.{restless_mergeable}
 
@@ -29,8 +28,6 @@ pub record IsVisit (visit : Visit) : Type 0 where
 -- the pages ahead that are not behind a cursor were visited
 abbrev pub walked_to : Visit → Option GuestPage → Stage → Stage
 walked_to visit reached s = fold visit s (filter (λ p. not (after_cursor reached p)) (pages_ahead s.0))
-
--- ---------------------------------------------------------------- visits of some pages
 
 module _ (visit : Visit) where
   -- visits that do nothing

@@ -1,7 +1,7 @@
-use Rattle.ksm_book.proofs.Names.{ahead_before, ap, arith, begun, BookValue, Comes, has_item, last_of, last_visited, length, None, pages_ahead, part_before, part_visited, pass_ended_at_last}
-use Rattle.ksm_book.proofs.Names.{passes_ended, Some, Stage, sym, true, visit_begun, visits_beside, ◌*◌, ◌<◌, ◌∙◌, ◌≡◌, ◌≤◌}
+use Rattle.ksm_book.proofs.Names.{ahead_before, ap, arith, BookValue, Comes, has_item, last_of, last_visited, length, None, pages_ahead, part_before, pass_ended_at_last}
+use Rattle.ksm_book.proofs.Names.{Stage, sym, true, visit_begun, visits_beside, ◌*◌, ◌<◌, ◌∙◌, ◌≡◌, ◌≤◌}
 use Rattle.ksm_book.proofs.Scanned.{begun_ahead, begun_still, page_made, passes_made, some_ahead, stopped_fewer, stopped_made}
-use Rattle.ksm_book.proofs.Reached.{agrees, comes_as, comes_own, comes_to, first}
+use Rattle.ksm_book.proofs.Reached.{comes_by, comes_own, comes_to, first}
 use Rattle.std.proofs.Math.Nat.{div-mul-le_self, le-div_iff_mul-le, one-le-mul}
 use Rattle.ksm_book.proofs.state.State.go_on.Goals as goal
 use Rattle.ksm_book.proofs.state.State.go_on.Goals.{else-whole, In-End, then-whole+then-quiet}
@@ -39,11 +39,8 @@ returns-in-Err-clause-stopped c =
       fewer = rw (many, comes_to v w (λ s. part_before page (closed s)) comes)
           (stopped_fewer (first v) sound page there c.close_pass-ahead.result c.requires.most
           (rw same at c.close_pass-ahead.ensures.ahead) (rw (← c.last.ensures) stopped.within));
-      comes = comes_as c.set_cursor-in-Err.new.self (agrees v
-          {f = λ s. (record (part_before page (closed s)).0 { cursor = c.between-made.result.1 }, (part_before page (closed s)).1)}
-          {g = λ s. begun (visits_beside c.between-made.result.0 s)}
-          (λ from deed is. rw (last, many, (comes from _ is).0) (stopped_made (v.state, deed) sound page there)))
-          (λ from s before. c.set_cursor-in-Err.ensures from _ (comes from s before));
+      comes = comes_by v c.set_cursor-in-Err.new.self _ _ (λ from s before. c.set_cursor-in-Err.ensures from _ (comes from s before))
+          (λ from deed is. rw (last, many, (comes from _ is).0) (stopped_made (v.state, deed) sound page there));
     }
 
 pub returns-in-Err-clause-due : goal.returns-in-Err-clause-due
@@ -60,11 +57,9 @@ returns-in-At-clause-made c =
     record {
       some = c.requires.most;
       fit = omega arith;
-      comes = comes_as c.set_cursor.new.self (agrees v
-          {f = λ s. (record (part_visited (Some page) (closed s)).0 { cursor = Some page }, (part_visited (Some page) (closed s)).1)}
-          {g = visits_beside c.args.most}
-          (λ _ deed _. page_made (v.state, deed) c.lies_lawfully.ensures.sound c.args.most page c.requires.most ends))
-          (λ from s before. c.set_cursor.ensures from _ (visited.comes from _ (c.close_pass-ahead.ensures.comes from s before)));
+      comes = comes_by v c.set_cursor.new.self _ _
+          (λ from s before. c.set_cursor.ensures from _ (visited.comes from _ (c.close_pass-ahead.ensures.comes from s before)))
+          (λ _ deed _. page_made (v.state, deed) c.lies_lawfully.ensures.sound c.args.most page c.requires.most ends);
     }
 
 pub returns-in-At-clause-due : goal.returns-in-At-clause-due
@@ -107,9 +102,8 @@ returns-after-whole-clause-made c =
     record {
       some = one-le-mul told.0 made.0;
       fit = told.1;
-      comes = comes_as c.end_passes.new.self (agrees v
-          {f = λ s. (passes_ended times (part_visited None (closed s)).0, (part_visited None (closed s)).1)}
-          {g = visits_beside (times * c.in-End.made)}
+      comes = comes_by v c.end_passes.new.self _ _
+          (λ from s before. c.end_passes.ensures from _ (visited.comes from _ (c.close_pass-ahead.ensures.comes from s before)))
           (λ from deed is.
           passes_made (v.state, deed) c.lies_lawfully.ensures.sound c.requires.some times told.0
           (λ more. (
@@ -117,6 +111,5 @@ returns-after-whole-clause-made c =
             begun_still (pass_ended_at_last v.state) deed _
                 (visited.still (told.2 more).0 from _ (c.close_pass-ahead.ensures.comes from _ is)),
           ))
-          ∙ ap (λ n. visits_beside (times * n) (v.state, deed)) (sym made.1)))
-          (λ from s before. c.end_passes.ensures from _ (visited.comes from _ (c.close_pass-ahead.ensures.comes from s before)));
+          ∙ ap (λ n. visits_beside (times * n) (v.state, deed)) (sym made.1));
     }

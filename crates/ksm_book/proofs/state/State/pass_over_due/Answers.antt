@@ -1,6 +1,6 @@
 use Rattle.ksm_book.proofs.Names.{AreDue, arith, comes_before, false, None, subst, up_to}
 use Rattle.ksm_book.proofs.DuePasses.{part_stops, rests_due, visits_due, whole_part, whole_still}
-use Rattle.ksm_book.proofs.Reached.{agrees, comes_as, comes_own}
+use Rattle.ksm_book.proofs.Reached.{comes_as, comes_by, comes_own}
 use Rattle.ksm_book.proofs.Walked.{begins_walk, less_room, walk_ends, walks_on}
 use Rattle.std.proofs.Common.{refl, rules, sym, ◌∙◌}
 use Rattle.ksm_book.proofs.state.State.pass_over_due.Goals as goal
@@ -39,8 +39,8 @@ returns-clause-visited c =
     let walking = c.loop-spot.invariant.0 in
     let rest = rests_due _ walking c.loop-spot.invariant.1 (up_to None) (λ k d lt after. absurd (grind (arith, c.in_default.ensures k d lt))) in
     record {
-      comes = comes_as c.loop-spot.self (agrees v (λ _ deed _. whole_part v.state deed walking.began c.requires.start))
-          (comes_as c.loop-spot.self (walk_ends visits_due walking rest) walking.comes);
+      comes = comes_by v c.loop-spot.self _ _ (comes_as c.loop-spot.self (walk_ends visits_due walking rest) walking.comes)
+          (λ _ deed _. whole_part v.state deed walking.began c.requires.start);
       still = λ quiet. whole_still v walking.began c.requires.start
           (subst (AreDue v.state) (c.is_empty-quiet.ensures quiet) c.requires.due);
     }

@@ -1,6 +1,6 @@
 use Rattle.ksm_book.proofs.Names.{and_parts, arith, comes_before, FindsUpTo, GuestPage, is_quiet, IsStill, None, Option, subst, sym, up_to, ◌∙◌}
 use Rattle.std.proofs.Common.{rules}
-use Rattle.ksm_book.proofs.PagesAhead.{has_filter}
+use Rattle.ksm_book.proofs.Along.{has_filter}
 use Rattle.ksm_book.proofs.Reached.{comes_as, comes_own, comes_to}
 use Rattle.ksm_book.proofs.DuePasses.{due_begins, due_walks}
 use Rattle.ksm_book.proofs.Walked.{before_it, begins_walk, is_ahead, less_room, rests_where, visits_page, walk_ends, walks_on}
