@@ -1,4 +1,4 @@
--- Pages in order: the parts of a list before and behind a page, and rows that are changed one after another, up to a cursor.
+-- Pages in order: the parts of a list before and behind a page, and rows changed one after another up to a cursor.
 use Rattle.ksm_book.proofs.Names.{after_cursor, All, All-filter, All-head, any-filter_same, ap, AreAscending, arith, before_irrefl, Bool, cases_Bool, change_none, change_row, change_rows}
 use Rattle.ksm_book.proofs.Names.{comes_before, Contains-from_any, each_at_page, false, filter, filter_all, filter_mapped, filter_none, find, find_all, find_mapped, find_none, find_passes}
 use Rattle.ksm_book.proofs.Names.{get_or, get_or_from_slice_get, GuestPage, has_item, if◌then◌else◌, inl, InPageOrder, inr, is_before, is_next, List, map_alike, map_mapped, None, not, not_both}
@@ -53,8 +53,6 @@ place_of page pages has =
 -- a filtered list has a page exactly where the list has it and the page passes the test
 pub has_filter : (t : GuestPage → Bool) (x : GuestPage) (pages : List GuestPage) → has_item x (filter t pages) ≡ (t x && has_item x pages)
 has_filter t x pages = grind (arith, any-filter_same)
-
--- ---------------------------------------------------------------- rows up to a cursor
 
 -- a row that is asked for, and not behind the cursor
 abbrev pub passed : (Row → Bool) → Option GuestPage → Row → Bool

@@ -14,8 +14,6 @@ use Rattle.ksm_book.proofs.Along.{after_later, Before, place_of}
 use Rattle.std.proofs.lemmas.List.{map-id}
 use Rattle.ksm_base.specs.Visit.{is_no_worse}
 
--- ---------------------------------------------------------------- rows that wait no more
-
 -- what is so of all of some pages is so of one that is there
 pub all_has : (P : GuestPage → Type 0) (pages : List GuestPage) → All P pages → (q : GuestPage)
     → has_item q pages ≡ true → P q
@@ -89,8 +87,7 @@ module _ (test : Row → Bool) (b : BookState) where
       let into : Row → Bool = λ r. merged_into number r.state in
       grind (arith, find_mapped (calmed test) into into b.rows (grind arith))
 
--- ---------------------------------------------------------------- the visit of a row where those from it on are veiled
-
+-- the visit of a row where those from it on are veiled
 module _ (b : BookState) (r : Row) where
   -- a row of its page, or of one behind it
   abbrev is_on : Row → Bool
@@ -107,8 +104,7 @@ module _ (b : BookState) (r : Row) where
   abbrev NoneVeiled : Type 0
   NoneVeiled = All (λ x. waits_for b.knobs r x ≡ true → comes_before x.page r.page ≡ true) b.rows
 
-  -- a change of rows, its own among them and none behind it, that makes the same of a row whether the row waits or not,
-  -- comes to the same where they are veiled; but that its own is not then
+  -- a change of its own row, and of none behind it, comes to the same where they are veiled, but that its own is not then
   change_alike : (by : GuestPage → Bool) (f : Row → Row) (dups : List DupRow) (next : ℕ)
       → ((x : Row) → (f x).page ≡ x.page)
       → ((x : Row) → f (settled x) ≡ f x) → ((q : GuestPage) → same_page q r.page ≡ true → by q ≡ true)
@@ -231,8 +227,7 @@ IsAlike b deed page =
     Goes b due.0 × (page_visited (hidden_from page b, deed) page ≡ (veiled (comes_before page) due.0, due.1))
 
 module _ (b : BookState) (s : IsSound b) (deed : Deed) where
-  -- that is so where the visit of the row by the definitions does in another book what ours does, and the rows that
-  -- wait for it come before it if it is to wait
+  -- that is so where the visit of the definitions does in another book what ours does in this one
   by_visit : (r : Row) → is_restless r ≡ true → (o : BookState) → IsSound o → row_at r.page o.rows ≡ Some r
       → mergeable_pages o.rows ≡ mergeable_pages b.rows → covered b r ≡ covered o r
       → (best_dup o.knobs o.rows o.dups r ≡ None → r.unchanged ≡ true → is_for_zero o.knobs r ≡ false → NoneVeiled o r)

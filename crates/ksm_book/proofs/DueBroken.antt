@@ -13,8 +13,6 @@ use Rattle.ksm_book.proofs.DueAlike.{one_waits}
 use Rattle.ksm_book.proofs.RowVisits.{filled_by}
 use Rattle.ksm_pages.proofs.Joined.{own_not_merged}
 
--- ---------------------------------------------------------------- the row of a page leaves its dup
-
 module _ (b : BookState) (sound : IsSound b) (page : GuestPage) (row : Row) (found : row_at page b.rows ≡ Some row) where
   -- the page that waits in the tree of the row with its bytes, if the row is merged
   abbrev beside : Option GuestPage
@@ -62,8 +60,6 @@ module _ (b : BookState) (sound : IsSound b) (page : GuestPage) (row : Row) (fou
         let waiting : waiting_state r.state ≡ true = grind arith in
         on_still b now b.dups b.next r (λ none j e lt_e. let dup = get_or b.dups j e in
         grind (arith, none j e lt_e, counts dup, is_of_dup k d lt waiting apart j e lt_e)) on
-
--- ---------------------------------------------------------------- the page is stored to, or dropped
 
 -- where the page that waits beside another was added to what is due
 module _ (b : BookState) (page : GuestPage) (old new : List GuestPage) (was : AreDue b old)

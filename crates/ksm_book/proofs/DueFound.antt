@@ -33,8 +33,6 @@ shared_by finds.Zero p q cursor passes row is so = grind (arith, so)
 shared_by (Partner other) p q cursor passes row is so = grind (arith, so, not_both)
 shared_by _ p q cursor passes row is so = absurd (true≢false (sym is))
 
--- ---------------------------------------------------------------- a page that is due no longer
-
 module _ {p : PagesView} {k : KeeperView} {cursor : Option GuestPage} {passes : ℕ} where
   module _ {v : BookView} where
     -- a page found gone is not due
@@ -64,13 +62,11 @@ module _ {p : PagesView} {k : KeeperView} {cursor : Option GuestPage} {passes : 
           → comes_before other page ≡ false → TakesOver (state_of p cursor passes) page other
       partner_takes other at none =
           let met = filled_by _ at.so.4 in
-          let apart = (waits_tells p.knobs at.row met.0 (find_passes (waits_for p.knobs at.row) p.rows _ met.1)).other in
-          let before : comes_before at.row.page met.0.page ≡ true =
-          one_before met.0.page at.row.page apart (grind (arith, page_is at)) in
+          let of_it = waits_tells p.knobs at.row met.0 (find_passes (waits_for p.knobs at.row) p.rows _ met.1) in
           record {
             row = at.row;
             found = at.found;
-            takes = grind (arith, at.so, met.1, before);
+            takes = grind (arith, at.so, met.1, one_before, of_it.other, page_is at);
             waiter = met.0;
             waits = met.1;
             is = met.2;
@@ -91,22 +87,16 @@ module _ {p : PagesView} {k : KeeperView} {cursor : Option GuestPage} {passes : 
       (page : GuestPage) (is : shares page f ≡ true) (lawful : IsSound (state_of p cursor passes) × IsLaid p k)
       (told : book p k cursor passes ≡ view_of v) (found : Finds p q page f)
       (did : VisitsPage (book q k cursor passes) (view_of w) page) where
-    at : Meets f p q k cursor passes (view_of v) page
-    at = finds_it f (λ gone. true≢false (sym is ∙ ap (shares page) gone)) lawful told q refl found
-
-    by : (is_restless at.row ≡ true) × (q ≡ p) × (takes_over (state_of p cursor passes) at.row ≡ false)
-        × (best_dup p.knobs p.rows p.dups at.row ≡ None → at.row.unchanged ≡ true)
-    by = shared_by f p q cursor passes at.row (rw (page_is at) is) at.so
-
     -- where the row was visited in the book as it was, that is the visit of what is due, and the page is due no longer
     pub shared_due : Comes v w (λ s. due_visited s page) × IsDueNoMore page v.state w.state
-    shared_due = (
-      λ from s before. grind (arith, by, at.found, at.is, (shared_visited v w at by.0 by.1 did).comes from s before),
-      visited_undue at by.0 by.3 w.state (grind (arith, by, at.found, at.is)),
-    )
+    shared_due =
+        let at = finds_it f (λ gone. true≢false (sym is ∙ ap (shares page) gone)) lawful told q refl found in
+        let by = shared_by f p q cursor passes at.row (rw (page_is at) is) at.so in (
+          λ from s before. grind (arith, by, at.found, at.is, (shared_visited v w at by.0 by.1 did).comes from s before),
+          visited_undue at by.0 by.3 w.state (grind (arith, by, at.found, at.is)),
+        )
 
--- ---------------------------------------------------------------- a page waits in the stead of one further on
-
+-- a page waits in the stead of one further on
 module _ {b : BookState} {page other : GuestPage} (sound : IsSound b) (at : TakesOver b page other) where
   taker_is : at.row.page ≡ page
   taker_is = found_page _ _ _ at.found

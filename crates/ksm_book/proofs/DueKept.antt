@@ -1,4 +1,4 @@
--- Passes that visit only the pages that are due: what waits on is left as it is, and what is due stays so.
+-- A pass over what is due leaves what waits on as it is, and what is due stays so.
 use Rattle.ksm_book.proofs.Names.{All, All-cons, All-head, All-tail, all_changed, all_with_dup, ap, AreDue, arith, best_dup, BookState, Bool, bytes_eq, bytes_eq-Decides, cases_Bool, change_row}
 use Rattle.ksm_book.proofs.Names.{change_rows, cond_both, count_by, count_mapped, Deed, due_visited, dup_of_row, DupRow, eqb-true, false, find_all, find_mapped, find_none, find_nothing}
 use Rattle.ksm_book.proofs.Names.{find_passes, freed, get_or, GuestPage, handled, has, has_item, inl, InPageOrder, inr, is_best, is_for_zero, is_restless, IsDueNoMore, IsSound, IsStill}
@@ -15,8 +15,6 @@ use Rattle.ksm_book.proofs.Walked.{Rests}
 use Rattle.ksm_pages.proofs.Joined.{own_not_merged}
 use Rattle.ksm_base.specs.declared.row.PageState.TheVariants.{Private}
 
--- ---------------------------------------------------------------- the dups that a row may join
-
 -- dups that pass a test, with how many items each has
 module _ (may : DupRow → Bool) (items : DupRow → ℕ) where
   -- the second may not be joined, or is no better than the first
@@ -26,7 +24,7 @@ module _ (may : DupRow → Bool) (items : DupRow → ℕ) where
   through : (e b d : DupRow) → may b ≡ true → rival e b ≡ true → rival b d ≡ true → rival e d ≡ true
   through e b d passes above r = grind (arith, nat_tests)
 
-  -- where something is so of a dup that passes the test, and of all of some others, it is so of the best one of these
+  -- what is so of a dup that passes the test, and of all of some others, is so of the best of these
   top_from : (P : DupRow → Type 0) (b : DupRow) (dups : List DupRow) → may b ≡ true → P b → All P dups
       → (d : DupRow) × P d × (may d ≡ true) × (rival d b ≡ true) × All (λ e. rival d e ≡ true) dups
   top_from P b [] passes here all = (b, here, passes, grind (arith, nat_tests), λ k d lt. absurd (omega arith))
@@ -63,8 +61,6 @@ pub on_still : (b : BookState) (new : List Row) (dups : List DupRow) (next : ℕ
     → (JoinsNone b.knobs b.rows r b.dups → JoinsNone b.knobs new r dups)
     → waits_on b r ≡ true → waits_on (record b { rows = new; dups = dups; next = next }) r ≡ true
 on_still b new dups next r joins_none is = grind (arith, none_is_best, none_to_join)
-
--- ---------------------------------------------------------------- which pages are due
 
 -- where a visit may change the row, it is of one of these pages, or waits on
 abbrev pub WaitsElse : BookState → List GuestPage → Row → Type 0
@@ -125,8 +121,7 @@ module _ (b : BookState) (page : GuestPage) (f : Row → Row) (row : Row) (rise 
       let is = row_of_page page b.rows row rise found in
       single_due b (λ r. same_page r.page page) f (grind (arith, is)) due more (grind (arith, is)) (grind arith) was
 
--- ---------------------------------------------------------------- the visit of a row
-
+-- the visit of a row
 module _ (b : BookState) (sound : IsSound b) (row : Row) (found : row_at row.page b.rows ≡ Some row) (restless : is_restless row ≡ true) where
   -- each row of its page is this row
   only : All (λ r. same_page r.page row.page ≡ true → r ≡ row) b.rows
@@ -256,11 +251,8 @@ still_undue b deed page sound =
     let mark : Row → Row = λ s. record s { unchanged = true; state = Private } in
     let at = λ (rows : List Row). find_mapped settled (λ s. same_page s.page r.page) (λ s. same_page s.page r.page) rows (λ k d lt. refl) in
     let same = rw (found, restless) at still in
-    rw (found, restless) (row_undue b sound r found restless pages was (λ none. elim (cases_Bool r.unchanged) [
-      | inl kept ↦ kept
-      | inr changed ↦
-          grind (arith, ap (row_at r.page) same.rows, at b.rows, at (change_row r.page mark b.rows), at_changed r.page mark b.rows r (λ s. refl) found)
-    ])))
+    rw (found, restless) (row_undue b sound r found restless pages was (λ none.
+    grind (arith, ap (row_at r.page) same.rows, at b.rows, at (change_row r.page mark b.rows), at_changed r.page mark b.rows r (λ s. refl) found))))
 
 -- the visit of a page that is not due does nothing
 pub undue_rests : (b : BookState) (due : List GuestPage) → IsSound b → AreDue b due → (page : GuestPage) → has_item page due ≡ false

@@ -20,17 +20,6 @@ visits_due = record {
   calm = λ b page calm deed. calm_stays (b, deed) page calm;
 }
 
--- a walk has reached a book in which some pages are due
-module _ {old mid : BookValue} {last : Option GuestPage} (due : List GuestPage)
-    (w : IsWalking due_visited None old mid last false) (are : AreDue mid.state due) where
-  -- where none of them behind the page reached passes a test, visits of pages there that pass it do nothing
-  pub rests_due : (test : GuestPage → Bool) → All (λ p. after_cursor last p ≡ true → test p ≡ false) due → (q : GuestPage)
-      → after_cursor last q ≡ true → test q ≡ true → Rests due_visited mid.state q
-  rests_due test none q after passes = undue_rests mid.state due w.goes.0 are q
-      (grind (arith, all_has (λ p. after_cursor last p ≡ true → test p ≡ false) due none q))
-
--- ---------------------------------------------------------------- the visits of the definitions
-
 -- a pass begins in a sound book
 module _ (b : BookState) (deed : Deed) (sound : IsSound b) (start : b.cursor ≡ None) where
   -- the pages ahead
@@ -73,21 +62,29 @@ module _ (old : BookValue) (sound : IsSound old.state) (start : old.state.cursor
       (λ k d lt. undue_rests old.state [] sound are _ refl)) ∙ whole_part old.state deed sound start)).same from s before)
       (assumption)
 
--- where the first page that is due was not visited, and no row from there on waits any more, the pass stopped before it
-pub part_stops : {old mid : BookValue} (next new : BookValue) {last : Option GuestPage} (due : List GuestPage)
-    (w : IsWalking due_visited None old mid last false) → AreDue mid.state due → (page : GuestPage) → FindsFirst last due (Some page)
-    → old.state.cursor ≡ None → StaysBefore page mid next → restless_at page mid.state.rows ≡ true
-    → view_of new ≡ record (view_of next) { state = hidden_from page next.state } → StopsInPart old new None page
-part_stops {old} next new due w are page first start stays restless hides =
-    let rests = rests_due due w are (λ q. comes_before q page) first.2 in record {
-      within = refl;
-      ahead = is_ahead visits_due w page first.1 rests restless;
-      comes = comes_as new (agrees old (λ _ deed _. before_part old.state deed w.began start page)) (λ from s before.
-          let there = subst (ReachedBefore page from next) ((before_it visits_due w page first.1 rests).same from s before)
-          (stays from _ (w.comes from s before)) in
-          subst (λ (b : BookState). Reached from new (b, (due_visits s (ahead_before page s.0)).1)) there.0
-          (changed_comes next new (hidden_from page) hides from (next.state, (due_visits s (ahead_before page s.0)).1) (refl, there.1)));
-    }
+-- a walk has reached a book in which some pages are due
+module _ {old mid : BookValue} {last : Option GuestPage} (due : List GuestPage)
+    (w : IsWalking due_visited None old mid last false) (are : AreDue mid.state due) where
+  -- where none of them behind the page reached passes a test, visits of pages there that pass it do nothing
+  pub rests_due : (test : GuestPage → Bool) → All (λ p. after_cursor last p ≡ true → test p ≡ false) due → (q : GuestPage)
+      → after_cursor last q ≡ true → test q ≡ true → Rests due_visited mid.state q
+  rests_due test none q after passes = undue_rests mid.state due w.goes.0 are q
+      (grind (arith, all_has (λ p. after_cursor last p ≡ true → test p ≡ false) due none q))
+
+  -- where the first page that is due was not visited, and no row from there on waits any more, the pass stopped before it
+  pub part_stops : (next new : BookValue) (page : GuestPage) → FindsFirst last due (Some page) → old.state.cursor ≡ None
+      → StaysBefore page mid next → restless_at page mid.state.rows ≡ true
+      → view_of new ≡ record (view_of next) { state = hidden_from page next.state } → StopsInPart old new None page
+  part_stops next new page first start stays restless hides =
+      let rests = rests_due (λ q. comes_before q page) first.2 in record {
+        within = refl;
+        ahead = is_ahead visits_due w page first.1 rests restless;
+        comes = comes_as new (agrees old (λ _ deed _. before_part old.state deed w.began start page)) (λ from s before.
+            let there = subst (ReachedBefore page from next) ((before_it visits_due w page first.1 rests).same from s before)
+            (stays from _ (w.comes from s before)) in
+            subst (λ (b : BookState). Reached from new (b, (due_visits s (ahead_before page s.0)).1)) there.0
+            (changed_comes next new (hidden_from page) hides from (next.state, (due_visits s (ahead_before page s.0)).1) (refl, there.1)));
+      }
 
 -- the pages behind a page that was visited are due, if those behind the page reached were, and only which rows wait changed
 pub due_walks : (mid new : BookValue) (reached : Option GuestPage) (page : GuestPage) (all : List GuestPage) → IsSound mid.state

@@ -1,4 +1,4 @@
--- The visits of a pass are a fold over its pages, only restless pages count, and a quiet pass is repeated by those behind it.
+-- The visits of a pass are a fold over its pages; and what they keep.
 use Rattle.ksm_book.proofs.Names.{after_cursor, AllPairs-filter, and_right, ap, append-nil, AreAscending, arith, begun, best_dup, BookState, cases_Bool, comes_before, Deed}
 use Rattle.ksm_book.proofs.Names.{drop, drop_more, DupRow, each_at_page, false, filter, filter_all, filter_mapped, find_all, find_passes, get_or, get_or_from_slice_get, GuestPage, handled, idle}
 use Rattle.ksm_book.proofs.Names.{if◌then◌else◌, inl, InPageOrder, inr, is_none, is_restless, IsSound, IsStill, last_of, List, map, map_mapped, mergeable_pages, next_row, next_visited, None}
@@ -13,8 +13,6 @@ use Rattle.std.proofs.lemmas.List.Sums.{fold-append}
 use Rattle.ksm_book.proofs.ByPage.{found_page, row_of_page}
 use Rattle.ksm_base.specs.declared.row.PageState.TheVariants.{Private}
 use Rattle.ksm_base.proofs.SoundScan.{sound_visit_begun}
-
--- ---------------------------------------------------------------- the page that is visited next
 
 -- the next row is that of the first page ahead
 pub next_first : (cursor : Option GuestPage) (rows : List Row)
@@ -96,8 +94,6 @@ module _ (b : BookState) (row : Row) where
 abbrev pub Goes : BookState → BookState → Type 0
 Goes old new = IsSound new × (mergeable_pages new.rows ≡ mergeable_pages old.rows)
 
--- ---------------------------------------------------------------- visits with what they do to the frames
-
 -- what is so of a page whose row no visit may change, and of that of each row that one may, is so of each page
 pub by_row : (P : GuestPage → Type 0) (page : GuestPage) (rows : List Row) → (restless_at page rows ≡ false → P page)
     → ((r : Row) → row_at r.page rows ≡ Some r → is_restless r ≡ true → P r.page) → P page
@@ -112,7 +108,7 @@ by_row P page rows calm some = by _ refl
       | inr stays ↦ calm (ap restless_row found ∙ stays)
     ]
 
--- where nothing but which rows wait changed from a first book to a second and to a third, so it is from first to third
+-- two steps that change nothing but which rows wait change no more together
 pub still_on : (first second third : Stage) → IsStill first second → IsStill second third → IsStill first third
 still_on first second third f g = grind arith
 
@@ -167,7 +163,7 @@ module _ (cursor : Option GuestPage) (passes : ℕ) where
   page_alike : (s : Stage) (page : GuestPage) → page_visited (moved s) page ≡ moved (page_visited s page)
   page_alike s page = grind arith
 
-  -- visits of pages from another cursor and count of passes come to the same, but for that cursor and count
+  -- visits of pages from another cursor and count of passes come to the same but for these
   pub pages_alike : (pages : List GuestPage) (s : Stage)
       → pages_visited (moved s) pages ≡ moved (pages_visited s pages)
   pages_alike [] s = refl

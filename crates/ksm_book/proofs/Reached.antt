@@ -11,7 +11,7 @@ first v = (v.state, idle (view_of v).frame)
 pub begins : (v : BookValue) → Reached v v (first v)
 begins v = (refl, record { made = made_none refl; frame = refl })
 
--- where a change was reached from one book to another, the other's state is what the change makes of the first one's
+-- the state that was reached is what the change makes of the first one
 pub comes_to : (v w : BookValue) (change : Stage → Stage) → Comes v w change → w.state ≡ (change (first v)).0
 comes_to v w change comes = (comes v (first v) (begins v)).0
 

@@ -30,7 +30,7 @@ restless_own row is = grind arith
 pub made_by : {v w : KeeperView} {e : KeeperStep} → Did v e w → MakesSteps v w (e ∷ [])
 made_by {v} {w} {e} did = made_one v w e _ did.1
 
--- a visit found something of the row of a page, and changed what is seen of the pages, in a book that lies lawfully
+-- in a book that lies lawfully a visit found something of the row of a page, and may have changed the pages
 pub record Meets (f : Find) (p q : PagesView) (k : KeeperView) (cursor : Option GuestPage) (passes : ℕ) (v : BookView)
     (page : GuestPage) : Type 0 where
   -- the pages, the keeper, the cursor and the passes are the book seen
@@ -72,7 +72,7 @@ module _ {p : PagesView} {k : KeeperView} {cursor : Option GuestPage} {passes : 
     pub there_is : row_at at.row.page p.rows ≡ Some at.row
     there_is = grind (arith, page_is)
 
-    -- where the row met was visited and rows and dups lie lawfully then, the visit leads to the book as it is then
+    -- where the row met was visited, and all lies lawfully then, the visit leads to that book
     pub leads : (n : PagesView) (l : KeeperView) → is_restless at.row ≡ true → IsLaid n l
         → state_of n cursor passes ≡ row_visited (state_of p cursor passes) at.row
         → Performs (lying p k) (lying n l) (row_visiting (state_of p cursor passes) p.frame at.row) → Leads v n l cursor passes page
@@ -84,8 +84,7 @@ module _ {p : PagesView} {k : KeeperView} {cursor : Option GuestPage} {passes : 
       visits = grind arith;
     }
 
-  -- ---------------------------------------------------------------- a page joins a dup
-
+  -- a page joins a dup
   module _ (best : Best) (at : Meets (Dup best) p p k cursor passes v page) (g : ℕ)
       (lies : All (λ d. d.place ≡ best.place → ItemsLieOn d.number g p) p.dups) where
     abbrev row : Row
@@ -179,8 +178,7 @@ module _ {p : PagesView} {k : KeeperView} {cursor : Option GuestPage} {passes : 
           (grind (arith, q_is, page_is at, told, at.so))
           (grind (arith, page_is at, live.first, there, steps, frame_is, told, at.so))
 
-  -- ---------------------------------------------------------------- a page becomes Zero
-
+  -- a page becomes Zero
   module _ (at : Meets finds.Zero p p k cursor passes v page) where
     abbrev zeroed : Row → Row
     zeroed r = record r { state = Zero }

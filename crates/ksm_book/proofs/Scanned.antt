@@ -1,4 +1,4 @@
--- What the parts of a scan come to: the end of a pass, listed pages in the stead of those ahead, visits up to a page, and whole passes.
+-- What the parts of a scan come to: the end of a pass, visits up to a page, and whole passes.
 use Rattle.ksm_book.proofs.Names.{after_cursor, Ahead, ahead_before, ap, arith, At, begun, BookState, comes_before, Deed, drop_more, End, EndsAt, filter, filter_all, get_or_from_slice_get}
 use Rattle.ksm_book.proofs.Names.{GuestPage, has_item, is_none, is_nowhere, IsSound, IsStill, last_of, last_visited, length, length-take-le, List, mergeable_pages, next_row, None, page}
 use Rattle.ksm_book.proofs.Names.{pages_ahead, pass_begun, pass_ended, passes_ended, refl, restless_at, Row, settled, slice_get, slice_get-get_or, slice_get_within, Some, Stage, suc, suc-mul}
@@ -38,8 +38,6 @@ some_ahead b some =
 pub restless_mergeable : (page : GuestPage) (rows : List Row) → restless_at page rows ≡ true → has_item page (mergeable_pages rows) ≡ true
 restless_mergeable page [] is = absurd (true≢false (sym is))
 restless_mergeable page (r ∷ rows) is = grind (arith, restless_mergeable page rows)
-
--- ---------------------------------------------------------------- visits made
 
 module _ (s : Stage) where
   -- all pages ahead were visited
@@ -95,8 +93,7 @@ module _ (s : Stage) (sound : IsSound s.0) (some : 1 ≤ length (mergeable_pages
       let made = pass_made (ended s times) (sound_settings (passed s).0 _ _ _ _ None went.knobs.run went.knobs.pages_to_scan went.knobs.use_zero_pages (omega arith) went) (rw same (some_ahead s.0 some)) in
       grind (arith, pages_alike None (ended s times).0.passes (filter (up_to None) (ahead s)) (begun s), still.beside)
 
-  -- as many visits as there are pages ahead, so many times, are the visits of all of them, and then the end of as many passes:
-  -- of more than one where a pass begins and changes nothing but which rows wait
+  -- a pass is as many visits as there are pages ahead, and so are several, where the first is whole and still
   pub passes_made : (times : ℕ) → 1 ≤ times
       → (1 < times → ((visit_begun s.0).cursor ≡ None) × IsStill (begun s) (passed s))
       → ended s times ≡ visits_beside (times * size) s

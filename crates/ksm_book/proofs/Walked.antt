@@ -1,9 +1,9 @@
--- A walk from one page that is visited to the next comes to the visits of all pages ahead, where visits of those passed over do nothing.
+-- A walk from page to page comes to the visits of all pages ahead, where visits of those passed over do nothing.
 use Rattle.ksm_book.proofs.Names.{after_cursor, ahead_before, ahead_up_to, All, All-cons, All-filter, All-head, All-tail, and_parts, ap, AreAscending, arith, BookState, BookValue, Bool}
 use Rattle.ksm_book.proofs.Names.{cases_Bool, Comes, comes_before, Deed, false, filter, filter_none, filter_passes, find_all, get_or, get_or_from_slice_get, GuestPage, has_item, HasVisited}
 use Rattle.ksm_book.proofs.Names.{if◌then◌else◌, inl, inr, is_restless, IsSound, IsStill, List, mergeable_pages, nat_lt, None, not, one_before, Option, page_visited, pages_ahead, pairs_head}
 use Rattle.ksm_book.proofs.Names.{pairs_tail, Reached, refl, restless_at, same_page_eq, slice_get_within, Some, Stage, StaysStill, subst, suc, sym, take, true, true≢false, up_to}
-use Rattle.ksm_book.proofs.Names.{[], ℕ, ◌&&◌, ◌*◌, ◌++◌, ◌+◌, ◌-◌, ◌<◌, ◌^◌, ◌∙◌, ◌∷◌, ◌≡◌}
+use Rattle.ksm_book.proofs.Names.{[], ℕ, ◌&&◌, ◌*◌, ◌+◌, ◌-◌, ◌<◌, ◌^◌, ◌∙◌, ◌∷◌, ◌≡◌}
 use Rattle.std.proofs.lemmas.List.Sums.{fold-append}
 use Rattle.std.proofs.Math.Seq.{take-suc}
 use Rattle.std.specs.Prelude.{fold}
@@ -78,11 +78,15 @@ module _ (visit : Visit) where
           | inl there ↦
               let at = place_of page pages there in
               let splits = place_splits pages at.0 page rise at.1 in
-              ap (fold visit s) (splits.1 ∙ take-suc pages at.0 page (slice_get_within pages at.0 page at.1)
-              ∙ ap (λ p. take at.0 pages ++ p ∷ []) (get_or_from_slice_get pages at.0 page page at.1)
-              ∙ ap (λ l. l ++ page ∷ []) (sym splits.0))
-              ∙ fold-append visit s (filter (λ p. comes_before p page) pages) (page ∷ [])
-              ∙ ap (λ z. visit z page) before
+              grind (
+                arith,
+                splits.0,
+                splits.1,
+                before,
+                take-suc pages at.0 page (slice_get_within pages at.0 page at.1),
+                get_or_from_slice_get pages at.0 page page at.1,
+                fold-append visit s (take at.0 pages) (page ∷ []),
+              )
           | inr off ↦
               more (λ p. not (comes_before page p)) pages s came refl its rise
               (λ k d lt out. grind (arith, after_later reached page (get_or pages k d) behind))

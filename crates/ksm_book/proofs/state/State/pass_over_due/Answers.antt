@@ -30,7 +30,7 @@ loop-spot-preserved c =
 
 pub returns-in-Err-clause-stopped : goal.returns-in-Err-clause-stopped
 returns-in-Err-clause-stopped c =
-    part_stops c.visit_due.new.self c.hide_from.new.self _ c.loop-spot.invariant.0 c.loop-spot.invariant.1 _ c.in-Some.ensures c.requires.start
+    part_stops _ c.loop-spot.invariant.0 c.loop-spot.invariant.1 c.visit_due.new.self c.hide_from.new.self _ c.in-Some.ensures c.requires.start
     c.in-Err.ensures.refused c.in-Err.ensures.refused_row c.hide_from.ensures
 
 pub returns-clause-visited : goal.returns-clause-visited

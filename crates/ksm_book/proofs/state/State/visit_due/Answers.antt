@@ -51,7 +51,6 @@ invariant_of-self-else-comes_before c = found_lawful _ c.self.invariant _ c.in_o
 
 pub take_over-requires-clause-takes : goal.take_over-requires-clause-takes
 take_over-requires-clause-takes c =
-    let at = (goal.at.take_over-requires-clause-takes c).In_ok-visit in
     grind (
       arith,
       c.in-Partner.is,

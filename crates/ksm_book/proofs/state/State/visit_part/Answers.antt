@@ -1,4 +1,4 @@
-use Rattle.ksm_book.proofs.Names.{ap, AreDue, arith, DueView, HasVisited, part_visited, pass_begun, StopsInPart, subst, sym, ◌∙◌}
+use Rattle.ksm_book.proofs.Names.{arith, HasVisited, part_visited, pass_begun, StopsInPart, sym, ◌∙◌}
 use Rattle.ksm_book.proofs.DueKept.{more_due}
 use Rattle.ksm_book.proofs.Folded.{still_on}
 use Rattle.ksm_book.proofs.Reached.{comes_own, comes_to}
@@ -35,8 +35,7 @@ pub returns-then-quiet-clause-due : goal.returns-then-quiet-clause-due
 returns-then-quiet-clause-due c = λ _.
     let whole = c.is_whole-whole.ensures c.if-whole-2.true in
     let begun = comes_to c.args.self.now c.begin_pass.new.self _ c.begin_pass.ensures in
-    subst (AreDue c.visit_up_to.new.self.state) (sym (ap (λ (d : DueView). d.pages) c.begin.ensures))
-    (c.in_ok-quiet.ensures.due c.if-quiet.true (grind arith) whole.1)
+    rw c.begin.ensures (c.in_ok-quiet.ensures.due c.if-quiet.true (grind arith) whole.1)
 
 pub returns-in_err-quiet-clause-stopped : goal.returns-in_err-quiet-clause-stopped
 returns-in_err-quiet-clause-stopped c =
