@@ -26,7 +26,6 @@ pub at_own_page : (page : GuestPage) (rows : List Row) → InPageOrder rows
     → All (λ r. same_page page r.page ≡ true → row_at page rows ≡ Some r) rows
 at_own_page page rows rise k d lt same = grind (arith, same_page_eq, each_at_page rows rise k d lt)
 
--- the row, which waits no more where it passes a test
 abbrev calmed : (Row → Bool) → Row → Row
 calmed test r = if test r then settled r else r
 
@@ -89,7 +88,6 @@ module _ (test : Row → Bool) (b : BookState) where
 
 -- the visit of a row where those from it on are veiled
 module _ (b : BookState) (r : Row) where
-  -- a row of its page, or of one behind it
   abbrev is_on : Row → Bool
   is_on x = not (comes_before x.page r.page)
 
@@ -100,7 +98,6 @@ module _ (b : BookState) (r : Row) where
   abbrev cover : Row → Row
   cover = calmed is_on
 
-  -- no row that waits for it is veiled then
   abbrev NoneVeiled : Type 0
   NoneVeiled = All (λ x. waits_for b.knobs r x ≡ true → comes_before x.page r.page ≡ true) b.rows
 
@@ -132,20 +129,17 @@ module _ (b : BookState) (r : Row) where
       rows = map_mapped change cover (λ x. after (change x)) b.rows (λ k d lt. each (get_or b.rows k d))
           ∙ sym (map_mapped after change _ b.rows (λ k d lt. refl))
 
-  -- so does a change of the row itself
   own_alike : (f : Row → Row) → ((x : Row) → (f x).page ≡ x.page) → ((x : Row) → f (settled x) ≡ f x)
       → record covered { rows = change_row r.page f covered.rows }
       ≡ veiled (comes_before r.page) (record b { rows = change_row r.page f b.rows })
   own_alike f keeps same = change_alike (λ q. same_page q r.page) f b.dups b.next keeps same (λ q is. is)
       (λ q is. rw (same_page_eq q _ is) (before_irrefl r.page))
 
-  -- what waits for it comes before it then
   near_found : NoneVeiled → (w : Row) → partner b.knobs b.rows r ≡ Some w → comes_before w.page r.page ≡ true
   near_found near w found =
       find_all (waits_for b.knobs r) (λ x. waits_for b.knobs r x ≡ true → comes_before x.page r.page ≡ true)
       b.rows w found near (find_passes (waits_for b.knobs r) b.rows w found)
 
-  -- where none that waits for it is veiled, the same waits for it
   partner_alike : NoneVeiled → partner b.knobs covered.rows r ≡ partner b.knobs b.rows r
   partner_alike near =
       let found = find_mapped cover (waits_for b.knobs r) (waits_for b.knobs r) b.rows (λ k d lt. grind (arith, near k d lt, not_both)) in

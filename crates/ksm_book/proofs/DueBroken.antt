@@ -51,7 +51,6 @@ module _ (b : BookState) (sound : IsSound b) (page : GuestPage) (row : Row) (fou
       → item_count now e ≡ item_count b.rows e)
       (old new : List GuestPage) (was : AreDue b old)
       (covers : (p : GuestPage) → (names p beside || has_item p old) ≡ true → has_item p new ≡ true) where
-    -- each other row waits on beside those rows
     left_still : All (WaitsElse (record b { rows = now }) new) b.rows
     left_still k d lt restless out =
         let r = get_or b.rows k d in

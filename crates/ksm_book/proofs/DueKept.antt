@@ -52,7 +52,6 @@ module _ (knobs : Knobs) (rows : List Row) (row : Row) where
     | inr may_not ↦ may_not
   ]
 
-  -- where there is no dup that the row may join, there is no best one
   none_is_best : (dups : List DupRow) → JoinsNone dups → best_dup knobs rows dups row ≡ None
   none_is_best dups none = find_nothing _ _ (λ k d lt. rw (none k d lt))
 
@@ -77,7 +76,6 @@ pub count_kept : (number : ℕ) (test : Row → Bool) (f : Row → Row) (rows : 
     → count_by (λ r. merged_into number r.state) (change_rows test f rows) ≡ count_by (λ r. merged_into number r.state) rows
 count_kept number test f rows same = grind (arith, count_mapped)
 
--- the row, which is merged into a number
 abbrev merge : ℕ → Row → Row
 merge number r = record r { state = Merged number }
 
@@ -91,11 +89,9 @@ module _ (b : BookState) (test : Row → Bool) (f : Row → Row)
   abbrev after : BookState
   after = record b { rows = change_rows test f b.rows }
 
-  -- each dup has as many items as it had
   same_items : (d : DupRow) → item_count after.rows d ≡ item_count b.rows d
   same_items d = count_kept d.number test f b.rows (λ k e lt passes. grind (arith, not_an_item, single k e lt passes))
 
-  -- so a row waits on that did
   on_kept : (r : Row) → waits_on after r ≡ waits_on b r
   on_kept r = simp (same_items, waits_on, by_counts)
 
@@ -123,7 +119,6 @@ module _ (b : BookState) (page : GuestPage) (f : Row → Row) (row : Row) (rise 
 
 -- the visit of a row
 module _ (b : BookState) (sound : IsSound b) (row : Row) (found : row_at row.page b.rows ≡ Some row) (restless : is_restless row ≡ true) where
-  -- each row of its page is this row
   only : All (λ r. same_page r.page row.page ≡ true → r ≡ row) b.rows
   only = row_of_page _ _ row sound.rows_rise found
 

@@ -1,14 +1,14 @@
 -- A pass over what is due comes to what the pass of the definitions comes to.
 use Rattle.ksm_book.proofs.Names.{after_cursor, ahead_before, ahead_up_to, All, AllPairs-filter, ap, AreDue, arith, BookState, BookValue, Bool, Comes, comes_before, Deed}
 use Rattle.ksm_book.proofs.Names.{due_visited, due_visits, each_at_page, false, filter, FindsFirst, get_or, GuestPage, hidden_from, if◌then◌else◌, InPageOrder, is_none, IsSound}
-use Rattle.ksm_book.proofs.Names.{IsStill, List, mergeable_pages, None, not, one_before, Option, page, page_visited, pages_ahead, pages_visited, part_before, part_visited, pass_begun, Reached}
-use Rattle.ksm_book.proofs.Names.{ReachedBefore, refl, restless_at, same_page_eq, Some, StaysBefore, StaysStill, StopsInPart, subst, sym, true, view_of, with_none_waiting, []}
+use Rattle.ksm_book.proofs.Names.{IsStill, List, mergeable_pages, None, not, one_before, Option, page, page_visited, pages_ahead, pages_visited, part_before, part_visited, pass_begun}
+use Rattle.ksm_book.proofs.Names.{refl, restless_at, same_page_eq, Some, StaysBefore, StaysStill, StopsInPart, subst, sym, true, view_of, with_none_waiting, []}
 use Rattle.ksm_book.proofs.Names.{◌∙◌, ◌≡◌}
 use Rattle.ksm_book.proofs.DueAlike.{all_has, along, calm_stays, one_due, unveiled, veiled}
 use Rattle.ksm_book.proofs.DueKept.{still_undue, undue_rests}
 use Rattle.ksm_book.proofs.Folded.{ascending_ahead, every_page}
 use Rattle.ksm_book.proofs.Along.{Before, has_filter}
-use Rattle.ksm_book.proofs.Reached.{agrees, begins, changed_comes, comes_as, comes_to, first}
+use Rattle.ksm_book.proofs.Reached.{agrees, begins, comes_by, comes_to, first}
 use Rattle.ksm_book.proofs.Scanned.{begun_ahead, restless_mergeable}
 use Rattle.ksm_pages.specs.Ahead.{FindsNext}
 use Rattle.ksm_book.proofs.Walked.{before_it, is_ahead, IsVisit, IsWalking, resting, Rests}
@@ -22,7 +22,6 @@ visits_due = record {
 
 -- a pass begins in a sound book
 module _ (b : BookState) (deed : Deed) (sound : IsSound b) (start : b.cursor ≡ None) where
-  -- the pages ahead
   abbrev all : List GuestPage
   all = pages_ahead b
 
@@ -79,11 +78,13 @@ module _ {old mid : BookValue} {last : Option GuestPage} (due : List GuestPage)
       let rests = rests_due (λ q. comes_before q page) first.2 in record {
         within = refl;
         ahead = is_ahead visits_due w page first.1 rests restless;
-        comes = comes_as new (agrees old (λ _ deed _. before_part old.state deed w.began start page)) (λ from s before.
-            let there = subst (ReachedBefore page from next) ((before_it visits_due w page first.1 rests).same from s before)
-            (stays from _ (w.comes from s before)) in
-            subst (λ (b : BookState). Reached from new (b, (due_visits s (ahead_before page s.0)).1)) there.0
-            (changed_comes next new (hidden_from page) hides from (next.state, (due_visits s (ahead_before page s.0)).1) (refl, there.1)));
+        comes = comes_by old new (λ s. let due = due_visits s (ahead_before page s.0) in (hidden_from page due.0, due.1)) _
+            (λ from s before. grind (
+              arith,
+              hides,
+              stays from _ (w.comes from s before),
+              (before_it visits_due w page first.1 rests).same from s before,
+            )) (λ _ deed _. before_part old.state deed w.began start page);
       }
 
 -- the pages behind a page that was visited are due, if those behind the page reached were, and only which rows wait changed

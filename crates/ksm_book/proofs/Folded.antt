@@ -20,7 +20,6 @@ pub next_first : (cursor : Option GuestPage) (rows : List Row)
 next_first cursor [] = refl
 next_first cursor (r ∷ rows) = grind (arith, next_first cursor rows)
 
--- the next row, where a page is ahead
 some_next : (c : BookState) {page : GuestPage} {more : List GuestPage} → pages_ahead c ≡ page ∷ more
     → (row : Row) × (next_row c.cursor c.rows ≡ Some row) × (row.page ≡ page)
 some_next c is = mapped_some _ _ (grind (arith, next_first))
@@ -42,7 +41,6 @@ ascending_mergeable rows rise =
 pub ascending_ahead : (b : BookState) → InPageOrder b.rows → AreAscending (pages_ahead b)
 ascending_ahead b rise = AllPairs-filter Before _ _ (ascending_mergeable _ rise)
 
--- behind some pages that were ahead are the others
 behind_done : (done left : List GuestPage) (cursor : Option GuestPage) (pages : List GuestPage) → AreAscending pages
     → filter (after_cursor cursor) pages ≡ done ++ left
     → filter (after_cursor (last_of cursor done)) pages ≡ left

@@ -1,7 +1,7 @@
 -- Rows that wait no more: that of a page with a frame of its own, and those from a page on, one after another.
 use Rattle.ksm_book.proofs.DueAlike.{at_own_page}
 use Rattle.ksm_book.proofs.Names.{ap, arith, BookValue, BookView, change_row, comes_before, every_row, false, find, GuestPage, hidden_from, if◌then◌else◌, InPageOrder, is_next, IsAlone, List}
-use Rattle.ksm_book.proofs.Names.{map_alike, None, not, on_its_own, Option, option_map, ordered_change, page, Row, row_at, same_page, same_page_eq, same_page_sym, settled, shared_state, Some}
+use Rattle.ksm_book.proofs.Names.{map_alike, None, not, on_its_own, Option, option_map, ordered_change, page, Row, row_at, same_page_eq, same_page_sym, settled, shared_state, Some}
 use Rattle.ksm_book.proofs.Names.{sym, true, view_of, with_rows, ◌∙◌, ◌≡◌, ◌⊎◌}
 use Rattle.ksm_book.proofs.Along.{along, along_end, along_next, IsAlong, passed}
 use Rattle.ksm_book.proofs.ByPage.{found_page, row_of_page}
@@ -53,5 +53,5 @@ module _ {page : GuestPage} {old now : BookValue} {last : Option GuestPage} (h :
         → view_of w ≡ with_rows (view_of now) (change_row at settled now.state.rows)
         → Hides page old w (Some at)
     hiding_more w behind stops = hiding_next w (stops ∙ ap (with_rows (view_of now))
-        (map_alike (λ r. if same_page r.page at then settled r else r) (λ r. if same_page r.page at then hide page r else r) _
+        (map_alike _ _ _
         (grind (arith, same_page_eq))))

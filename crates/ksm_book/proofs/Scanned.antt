@@ -40,11 +40,9 @@ restless_mergeable page [] is = absurd (true≢false (sym is))
 restless_mergeable page (r ∷ rows) is = grind (arith, restless_mergeable page rows)
 
 module _ (s : Stage) where
-  -- all pages ahead were visited
   abbrev passed : Stage
   passed = after s (filter (up_to None) (ahead s))
 
-  -- and so many passes have ended
   abbrev ended : ℕ → Stage
   ended times = (passes_ended times passed.0, passed.1)
 
@@ -115,7 +113,6 @@ module _ (s : Stage) (sound : IsSound s.0) (page : GuestPage) (there : has_item 
   abbrev stopped : Stage
   stopped = after s before_it
 
-  -- the index of the page among the pages ahead
   abbrev place : ℕ
   place = (place_of page (ahead s) there).0
 
@@ -126,7 +123,6 @@ module _ (s : Stage) (sound : IsSound s.0) (page : GuestPage) (there : has_item 
   first_is : before_it ≡ take place (ahead s)
   first_is = (place_splits _ _ _ (ascending s sound) stands).0
 
-  -- visits of them leave the same pages ahead
   still_ahead : ahead_before page stopped.0 ≡ before_it
   still_ahead =
       let going = pages_go before_it (begun s) (begun_sound s sound) in

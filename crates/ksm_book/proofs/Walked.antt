@@ -113,7 +113,6 @@ pub record IsWalking (visit : Visit) (last : Option GuestPage) (old now : BookVa
   pub within : (p : GuestPage) → after_cursor old.state.cursor p ≡ true → after_cursor reached p ≡ false
       → up_to last p ≡ true
 
--- up to the book's cursor no page ahead was visited
 none_walked : (visit : Visit) (s : Stage) → walked_to visit s.0.cursor s ≡ s
 none_walked visit s =
     let pages = mergeable_pages s.0.rows in
