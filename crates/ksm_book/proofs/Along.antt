@@ -1,13 +1,11 @@
 -- Pages in order: the parts of a list before and behind a page, and rows changed one after another up to a cursor.
 use Rattle.ksm_book.proofs.Names.{after_cursor, All, All-filter, All-head, any-filter_same, ap, AreAscending, arith, before_irrefl, Bool, cases_Bool, change_none, change_row, change_rows}
 use Rattle.ksm_book.proofs.Names.{comes_before, Contains-from_any, each_at_page, false, filter, filter_all, filter_mapped, filter_none, find, find_all, find_mapped, find_none, find_passes}
-use Rattle.ksm_book.proofs.Names.{get_or, get_or_from_slice_get, GuestPage, has_item, if◌then◌else◌, inl, InPageOrder, inr, is_before, is_next, List, map_alike, map_mapped, None, not, not_both}
-use Rattle.ksm_book.proofs.Names.{one_before, Option, option_map, pairs_head, pairs_tail, Row, row_at, same_page, same_page_eq, slice_get, slice_get-get_or, slice_get_within, Some, subst, suc}
-use Rattle.ksm_book.proofs.Names.{sym, take, true, zero, [], ℕ, ⊤, ◌&&◌, ◌*◌, ◌++◌, ◌+◌, ◌<◌, ◌∙◌, ◌∷◌, ◌≡◌, ◌≤◌}
+use Rattle.ksm_book.proofs.Names.{get_or, get_or_from_slice_get, GuestPage, has_item, if◌then◌else◌, inl, InPageOrder, inr, is_before, is_next, List, map-id, map_alike, map_mapped, mapped_some}
+use Rattle.ksm_book.proofs.Names.{None, none_mapped, not, not_both, one_before, Option, option_map, pairs_head, pairs_tail, Row, row_at, same_page, same_page_eq, slice_get, slice_get-get_or}
+use Rattle.ksm_book.proofs.Names.{slice_get_within, Some, subst, suc, sym, take, true, zero, [], ℕ, ⊤, ◌&&◌, ◌*◌, ◌++◌, ◌+◌, ◌<◌, ◌∙◌, ◌∷◌, ◌≡◌, ◌≤◌}
 use Rattle.ksm_book.proofs.ByPage.{row_of_page}
 use Rattle.ksm_pages.proofs.Found.{first_found as found_first}
-use Rattle.std.proofs.lemmas.List.{map-id}
-use Rattle.ksm_pages.proofs.Options.{mapped_some, none_mapped}
 
 -- the first page comes before the second
 abbrev pub Before : GuestPage → GuestPage → Type 0

@@ -1,18 +1,15 @@
 -- Visits of pages do what those of the definitions do, where the rows further on that still wait are hidden from these.
-use Rattle.ksm_book.proofs.Names.{Stage}
-use Rattle.ksm_book.proofs.Scanned.{restless_mergeable}
 use Rattle.ksm_book.proofs.Names.{after_cursor, All, All-map, ap, apart, AreAscending, arith, before_irrefl, best_dup, BookState, Bool, cases_Bool, change_row, change_rows, comes_before}
-use Rattle.ksm_book.proofs.Names.{comes_later, count_mapped, Deed, due_visited, due_visits, dup_frame, DupRow, each_at_page, false, find_all, find_mapped, find_none, find_passes}
-use Rattle.ksm_book.proofs.Names.{Frames, freed, get_or, get_or_from_slice_get, GuestPage, handled, has, has_item, hidden_from, if◌then◌else◌, inl, InPageOrder, inr, is_best, is_for_zero}
-use Rattle.ksm_book.proofs.Names.{is_no_rival, is_restless, is_stale, IsSound, item_count, List, made_dup, map_alike, map_mapped, may_join, mergeable_pages, merged_into, new_place, None}
-use Rattle.ksm_book.proofs.Names.{not, not_both, one_before, Option, option_map, page, page_visited, pages_visited, paired, pairs_head, pairs_tail, partner, place_count, refl, restless_at}
-use Rattle.ksm_book.proofs.Names.{Row, row_at, row_visiting, same_page, same_page_eq, same_page_refl, settled, settled_calmer, slice_get_within, Some, sound_changed, subst, sym, takes_over}
+use Rattle.ksm_book.proofs.Names.{comes_later, count_mapped, Deed, due_visited, due_visits, dup_frame, DupRow, each_at_page, false, find_all, find_mapped, find_none, find_passes, Frames, freed}
+use Rattle.ksm_book.proofs.Names.{get_or, get_or_from_slice_get, GuestPage, handled, has, has_item, hidden_from, if◌then◌else◌, inl, InPageOrder, inr, is_best, is_for_zero, is_no_rival}
+use Rattle.ksm_book.proofs.Names.{is_no_worse, is_restless, is_stale, IsSound, item_count, List, made_dup, map-id, map_alike, map_mapped, may_join, mergeable_pages, merged_into, new_place, None}
+use Rattle.ksm_book.proofs.Names.{not, not_both, one_before, Option, option_map, page, page_visited, pages_visited, paired, pairs_head, pairs_tail, partner, place_count, refl, restless_at, Row}
+use Rattle.ksm_book.proofs.Names.{row_at, row_visiting, same_page, same_page_eq, same_page_refl, settled, settled_calmer, slice_get_within, Some, sound_changed, Stage, subst, sym, takes_over}
 use Rattle.ksm_book.proofs.Names.{true, visited, waiting_state, waits_for, waits_tells, Zero, [], ℕ, ◌&&◌, ◌||◌, ◌∙◌, ◌∷◌, ◌≡◌}
+use Rattle.ksm_book.proofs.Scanned.{restless_mergeable}
 use Rattle.ksm_base.specs.declared.row.PageState.TheVariants.{Private}
 use Rattle.ksm_book.proofs.Folded.{by_row, Goes, mergeable_kept, page_goes}
 use Rattle.ksm_book.proofs.Along.{after_later, Before, place_of}
-use Rattle.std.proofs.lemmas.List.{map-id}
-use Rattle.ksm_base.specs.Visit.{is_no_worse}
 
 -- what is so of all of some pages is so of one that is there
 pub all_has : (P : GuestPage → Type 0) (pages : List GuestPage) → All P pages → (q : GuestPage)

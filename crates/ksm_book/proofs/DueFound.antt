@@ -2,7 +2,7 @@
 -- for it; and which pages are due then.
 use Rattle.ksm_book.proofs.Names.{All, ap, AreDue, arith, before_differs, best_dup, BookState, BookValue, BookView, Bool, change_row, change_rows, Comes, comes_before, Deed, due_visited, Dup}
 use Rattle.ksm_book.proofs.Names.{each_at_page, false, Find, find_all, find_passes, FindsAt, freed, GuestPage, has_item, hidden_from, is_restless, IsAlone, IsDueNoMore, IsLaid, IsSound}
-use Rattle.ksm_book.proofs.Names.{KeeperView, List, map_alike, None, not, not_both, one_before, Option, page, page_visited, PagesView, Partner, refl, restless_at, Row, row_at}
+use Rattle.ksm_book.proofs.Names.{KeeperView, List, map_alike, None, not, not_both, one_before, Option, own_not_merged, page, page_visited, PagesView, Partner, refl, restless_at, Row, row_at}
 use Rattle.ksm_book.proofs.Names.{row_visited, same_page, same_page_eq, same_page_refl, same_page_sym, settled, Some, state_of, StaysBefore, subst, sym, takes_over, TakesOver, true, true≢false}
 use Rattle.ksm_book.proofs.Names.{view_of, visits, VisitsPage, waits_for, waits_tells, WaitsFor, with_rows, ℕ, ◌&&◌, ◌||◌, ◌∙◌, ◌∷◌, ◌≡◌}
 use Rattle.ksm_base.specs.declared.row.PageState.TheVariants.{Private}
@@ -10,7 +10,6 @@ use Rattle.ksm_pages.specs.Paged.{Finds}
 use Rattle.ksm_book.proofs.DueKept.{calm_undue, more_due, own_due, row_undue, taken_due}
 use Rattle.ksm_book.proofs.RowVisits.{filled_by, finds_it, Meets, page_is, restless_own, shared_visited, there_is}
 use Rattle.ksm_book.proofs.Singles.{book}
-use Rattle.ksm_pages.proofs.Joined.{own_not_merged}
 use Rattle.ksm_pages.specs.declared.pages.Find.TheVariants as finds
 use Rattle.std.specs.Cmp.{both_ways}
 use Rattle.ksm_book.proofs.DueAlike.{freed_found, one_waits, veiled_over}

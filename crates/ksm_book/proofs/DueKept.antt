@@ -3,16 +3,15 @@ use Rattle.ksm_book.proofs.Names.{All, All-cons, All-head, All-tail, all_changed
 use Rattle.ksm_book.proofs.Names.{change_rows, cond_both, count_by, count_mapped, Deed, due_visited, dup_of_row, DupRow, eqb-true, false, find_all, find_mapped, find_none, find_nothing}
 use Rattle.ksm_book.proofs.Names.{find_passes, freed, get_or, GuestPage, handled, has, has_item, inl, InPageOrder, inr, is_best, is_for_zero, is_restless, IsDueNoMore, IsSound, IsStill}
 use Rattle.ksm_book.proofs.Names.{item_count, Knobs, List, list_all-from_AllPass, made_dup, may_join, Merged, merged_into, merged_state, nat_le, nat_lt, nat_tests, None, not, not_an_item}
-use Rattle.ksm_book.proofs.Names.{one_of_each_page, Option, page, page_visited, paired, partner, refl, restless_at, Row, row_at, row_visited, same_page, same_page_refl, same_page_sym}
-use Rattle.ksm_book.proofs.Names.{settled, Some, sym, takes_over, tree_of, true, true≢false, Waiting, waiting_state, waits_for, waits_on, waits_tells, WaitsFor, with_dup, Zero, [], ℕ, ◌&&◌, ◌+◌}
-use Rattle.ksm_book.proofs.Names.{◌==◌, ◌||◌, ◌∙◌, ◌∷◌, ◌≡◌}
+use Rattle.ksm_book.proofs.Names.{one_of_each_page, Option, own_not_merged, page, page_visited, paired, partner, refl, restless_at, Row, row_at, row_visited, same_page, same_page_refl}
+use Rattle.ksm_book.proofs.Names.{same_page_sym, settled, Some, sym, takes_over, tree_of, true, true≢false, Waiting, waiting_state, waits_for, waits_on, waits_tells, WaitsFor, with_dup, Zero, []}
+use Rattle.ksm_book.proofs.Names.{ℕ, ◌&&◌, ◌+◌, ◌==◌, ◌||◌, ◌∙◌, ◌∷◌, ◌≡◌}
 use Rattle.ksm_book.proofs.DueAlike.{at_own_page, by_counts, calm_stays, freed_found, freed_sound, one_waits}
 use Rattle.ksm_book.proofs.ByPage.{at_changed, row_of_page}
 use Rattle.ksm_book.proofs.Folded.{by_row, then_idle}
 use Rattle.ksm_book.proofs.RowVisits.{restless_own}
 use Rattle.ksm_book.proofs.Singles.{change_still}
 use Rattle.ksm_book.proofs.Walked.{Rests}
-use Rattle.ksm_pages.proofs.Joined.{own_not_merged}
 use Rattle.ksm_base.specs.declared.row.PageState.TheVariants.{Private}
 
 -- dups that pass a test, with how many items each has

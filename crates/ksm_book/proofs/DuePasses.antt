@@ -1,16 +1,14 @@
 -- A pass over what is due comes to what the pass of the definitions comes to.
-use Rattle.ksm_book.proofs.Names.{after_cursor, ahead_before, ahead_up_to, All, AllPairs-filter, ap, AreDue, arith, BookState, BookValue, Bool, Comes, comes_before, Deed}
-use Rattle.ksm_book.proofs.Names.{due_visited, due_visits, each_at_page, false, filter, FindsFirst, get_or, GuestPage, hidden_from, if◌then◌else◌, InPageOrder, is_none, IsSound}
-use Rattle.ksm_book.proofs.Names.{IsStill, List, mergeable_pages, None, not, one_before, Option, page, page_visited, pages_ahead, pages_visited, part_before, part_visited, pass_begun}
-use Rattle.ksm_book.proofs.Names.{refl, restless_at, same_page_eq, Some, StaysBefore, StaysStill, StopsInPart, subst, sym, true, view_of, with_none_waiting, []}
-use Rattle.ksm_book.proofs.Names.{◌∙◌, ◌≡◌}
+use Rattle.ksm_book.proofs.Names.{after_cursor, ahead_before, ahead_up_to, All, AllPairs-filter, ap, AreDue, arith, BookState, BookValue, Bool, Comes, comes_before, Deed, due_visited, due_visits}
+use Rattle.ksm_book.proofs.Names.{each_at_page, false, filter, FindsFirst, FindsNext, get_or, GuestPage, hidden_from, if◌then◌else◌, InPageOrder, is_none, IsSound, IsStill, List, mergeable_pages}
+use Rattle.ksm_book.proofs.Names.{None, not, one_before, Option, page, page_visited, pages_ahead, pages_visited, part_before, part_visited, pass_begun, refl, restless_at, same_page_eq, Some}
+use Rattle.ksm_book.proofs.Names.{StaysBefore, StaysStill, Stops, subst, sym, true, view_of, with_none_waiting, [], ◌∙◌, ◌≡◌}
 use Rattle.ksm_book.proofs.DueAlike.{all_has, along, calm_stays, one_due, unveiled, veiled}
 use Rattle.ksm_book.proofs.DueKept.{still_undue, undue_rests}
 use Rattle.ksm_book.proofs.Folded.{ascending_ahead, every_page}
 use Rattle.ksm_book.proofs.Along.{Before, has_filter}
 use Rattle.ksm_book.proofs.Reached.{agrees, begins, comes_by, comes_to, first}
 use Rattle.ksm_book.proofs.Scanned.{begun_ahead, restless_mergeable}
-use Rattle.ksm_pages.specs.Ahead.{FindsNext}
 use Rattle.ksm_book.proofs.Walked.{before_it, is_ahead, IsVisit, IsWalking, resting, Rests}
 
 -- the visit of a page that is due is one that a walk may make
@@ -73,7 +71,7 @@ module _ {old mid : BookValue} {last : Option GuestPage} (due : List GuestPage)
   -- where the first page that is due was not visited, and no row from there on waits any more, the pass stopped before it
   pub part_stops : (next new : BookValue) (page : GuestPage) → FindsFirst last due (Some page) → old.state.cursor ≡ None
       → StaysBefore page mid next → restless_at page mid.state.rows ≡ true
-      → view_of new ≡ record (view_of next) { state = hidden_from page next.state } → StopsInPart old new None page
+      → view_of new ≡ record (view_of next) { state = hidden_from page next.state } → Stops old new None page (part_before page)
   part_stops next new page first start stays restless hides =
       let rests = rests_due (λ q. comes_before q page) first.2 in record {
         within = refl;

@@ -1,18 +1,14 @@
 -- The visits of a pass are a fold over its pages; and what they keep.
-use Rattle.ksm_book.proofs.Names.{after_cursor, AllPairs-filter, and_right, ap, append-nil, AreAscending, arith, begun, best_dup, BookState, cases_Bool, comes_before, Deed}
-use Rattle.ksm_book.proofs.Names.{drop, drop_more, DupRow, each_at_page, false, filter, filter_all, filter_mapped, find_all, find_passes, get_or, get_or_from_slice_get, GuestPage, handled, idle}
-use Rattle.ksm_book.proofs.Names.{if◌then◌else◌, inl, InPageOrder, inr, is_none, is_restless, IsSound, IsStill, last_of, List, map, map_mapped, mergeable_pages, next_row, next_visited, None}
-use Rattle.ksm_book.proofs.Names.{Option, option_map, page_visited, pages_ahead, pages_visited, paired, pairs_mapped, partner, pass_ended_at_last, refl, restless_at, restless_row, Row, row_at}
-use Rattle.ksm_book.proofs.Names.{row_done, row_visited, rowwise_visits, same_page, settled, slice_get, slice_get-get_or, slice_get_within, Some, sound_row_visited, Stage, subst, suc, sym, take}
-use Rattle.ksm_book.proofs.Names.{take-append-drop, then_doing, true, visit, visit_begun, visit_of, visits, visits_beside, Zero, zero, [], ℕ, ⊤, ◌++◌, ◌+◌, ◌∙◌, ◌∷◌, ◌≡◌}
+use Rattle.ksm_book.proofs.Names.{after_cursor, AllPairs-filter, and_right, ap, append-nil, AreAscending, arith, begun, best_dup, BookState, cases_Bool, comes_before, Deed, drop, drop_more}
+use Rattle.ksm_book.proofs.Names.{DupRow, each_at_page, false, filter, filter_all, filter_mapped, find_all, find_passes, fold-append, get_or, get_or_from_slice_get, GuestPage, handled, idle}
+use Rattle.ksm_book.proofs.Names.{if◌then◌else◌, inl, InPageOrder, inr, is_none, is_restless, IsSound, IsStill, last_of, last_of_take, List, map, map_mapped, mapped_some, mergeable_pages}
+use Rattle.ksm_book.proofs.Names.{next_row, next_visited, None, none_mapped, Option, option_map, page_visited, pages_ahead, pages_visited, paired, pairs_mapped, partner, pass_ended_at_last, refl}
+use Rattle.ksm_book.proofs.Names.{restless_at, restless_row, Row, row_at, row_done, row_visited, rowwise_visits, same_page, settled, slice_get, slice_get-get_or, slice_get_within, Some}
+use Rattle.ksm_book.proofs.Names.{sound_row_visited, sound_visit_begun, Stage, subst, suc, sym, take, take-append-drop, take-suc, then_doing, true, visit, visit_begun, visit_of, visits}
+use Rattle.ksm_book.proofs.Names.{visits_beside, Zero, zero, [], ℕ, ⊤, ◌++◌, ◌+◌, ◌∙◌, ◌∷◌, ◌≡◌}
 use Rattle.ksm_book.proofs.Along.{Before, behind_first}
-use Rattle.ksm_pages.proofs.Options.{mapped_some, none_mapped}
-use Rattle.ksm_pages.proofs.Ranked.{last_of_take}
-use Rattle.std.proofs.Math.Seq.{take-suc}
-use Rattle.std.proofs.lemmas.List.Sums.{fold-append}
 use Rattle.ksm_book.proofs.ByPage.{found_page, row_of_page}
 use Rattle.ksm_base.specs.declared.row.PageState.TheVariants.{Private}
-use Rattle.ksm_base.proofs.SoundScan.{sound_visit_begun}
 
 -- the next row is that of the first page ahead
 pub next_first : (cursor : Option GuestPage) (rows : List Row)

@@ -19,11 +19,11 @@ pub use Rattle.ksm_base.proofs.Orders.{pairs_append, pairs_head, pairs_tail}
 pub use Rattle.ksm_base.proofs.Pages.{before_differs, before_irrefl, not_both, one_before, same_page_eq, same_page_refl, same_page_sym}
 pub use Rattle.ksm_base.proofs.RowCounts.{change_none, count_with_row, count_without_page, each_at_page, filter_all}
 pub use Rattle.ksm_base.proofs.SoundCounts.{joined_count, not_an_item}
-pub use Rattle.ksm_base.proofs.SoundEdits.{no_dup_lives, sound_changed}
+pub use Rattle.ksm_base.proofs.SoundEdits.{no_dup_lives, sound_changed, sound_settings}
 pub use Rattle.ksm_base.proofs.SoundItems.{dup_of_item, home_of_item}
 pub use Rattle.ksm_base.proofs.SoundKnobs.{none_shared}
 pub use Rattle.ksm_base.proofs.SoundPair.{IsFree, new_place_free, next_is_new, waits_tells, WaitsFor}
-pub use Rattle.ksm_base.proofs.SoundScan.{settled_calmer, sound_none_waiting, sound_row_visited}
+pub use Rattle.ksm_base.proofs.SoundScan.{settled_calmer, sound_none_waiting, sound_row_visited, sound_visit_begun}
 pub use Rattle.ksm_base.proofs.SoundSteps.{sound_after, sound_opening}
 pub use Rattle.ksm_base.proofs.SoundVisit.{all_changed, best_dup_has_room, IsJoined}
 pub use Rattle.ksm_base.proofs.Visits.{rowwise_visits}
@@ -37,7 +37,7 @@ pub use Rattle.ksm_base.specs.Rows.{same_page, settled, shared_state, waiting_st
 pub use Rattle.ksm_base.specs.Sound.{IsDupOf, IsSound}
 pub use Rattle.ksm_base.specs.State.{BookState, default_knobs, pass_ended, place_count, tree_of, with_none_waiting}
 pub use Rattle.ksm_base.specs.Values.{frames_of, IsShape}
-pub use Rattle.ksm_base.specs.Visit.{after_cursor, best_dup, empty_from, handled, is_best, is_for_zero, is_no_rival, made_dup, may_join, new_place, next_row, paired, partner, pass_begun}
+pub use Rattle.ksm_base.specs.Visit.{after_cursor, best_dup, empty_from, handled, is_best, is_for_zero, is_no_rival, is_no_worse, made_dup, may_join, new_place, next_row, paired, partner, pass_begun}
 pub use Rattle.ksm_base.specs.Visit.{pass_ended_at_last, row_visited, stayed, visit, visit_begun, visit_of, visits, waits_for}
 pub use Rattle.ksm_base.specs.declared.command.Command.{Command}
 pub use Rattle.ksm_base.specs.declared.command.Command.TheVariants.{Drop, Mergeable, MoveDup, MovePage, Prune, Register, Scan, SetAcross, SetLimit, SetRun}
@@ -58,8 +58,8 @@ pub use Rattle.ksm_base.specs.declared.shape.Shape.{Shape}
 pub use Rattle.ksm_book.specs.Carried.{CarriedOut, IsCarried, scanning, UnmergesTo}
 pub use Rattle.ksm_book.specs.Commands.{Deed, dup_frame, emptying, Finds, FindsHeld, FindsNone, frame_number, handling, idle, instead, leaving, Mapped, mounting, Moves, pairing}
 pub use Rattle.ksm_book.specs.Commands.{Performs, Provides, pruning, Resettles, ResettlesEach, rewriting, row_visiting, then_doing, withdrawing}
-pub use Rattle.ksm_book.specs.Due.{AreDue, comes_later, due_visited, due_visits, DueView, FindsFirst, freed, hidden_from, IsDueNoMore, part_before, part_visited, ReachedBefore, StaysBefore}
-pub use Rattle.ksm_book.specs.Due.{StopsInPart, takes_over, TakesOver, TellsDue, waits_on, with_rows}
+pub use Rattle.ksm_book.specs.Due.{AreDue, comes_later, due_visited, due_visits, DueView, FindsFirst, freed, hidden_from, IsDueNoMore, names, pages_of, part_before, part_visited, StaysBefore}
+pub use Rattle.ksm_book.specs.Due.{takes_over, TakesOver, TellsDue, waits_on, with_rows}
 pub use Rattle.ksm_book.specs.Folded.{begun, IsStill, next_visited, page_visited, pages_ahead, pages_visited, restless_at, restless_row, row_done, Stage, visited, visits_beside}
 pub use Rattle.ksm_tree.specs.NumberSets.{has, Marks}
 pub use Rattle.ksm_book.specs.FrameSets.{AreSets, MayLeave}
@@ -68,14 +68,17 @@ pub use Rattle.ksm_book.specs.Laid.{HasRemounted, Houses, IsLaid, lying, MayMove
 pub use Rattle.ksm_book.specs.Mounted.{HasLost, HasMoved, MayMount, once_mounted}
 pub use Rattle.ksm_book.specs.Placement.{Agrees, DupFits, FitsBase, in_hand, is_frame, IsInLife, IsServed, life_or, node_of, place_frame, Placed, RowFits, uses}
 pub use Rattle.ksm_book.specs.Promised.{dup_frames, FindsPlace, is_in_use, IsOutlived, LieOn, own_frames, StandsOn}
-pub use Rattle.ksm_book.specs.Scanned.{ahead_before, ahead_up_to, Comes, FindsStill, FindsUpTo, HasVisited, is_nowhere, is_quiet, last_visited, passes_ended, Reached, StaysStill, up_to, VisitsPage}
+pub use Rattle.ksm_book.specs.Scanned.{ahead_before, ahead_up_to, Comes, FindsStill, FindsUpTo, HasVisited, is_nowhere, is_quiet, last_visited, passes_ended, Reached, StaysStill, Stops, up_to, VisitsPage}
 pub use Rattle.ksm_book.specs.Steps.{Allocates, AllocatesOn, along, dying_from, dying_kind, dying_on, free_kind, given_by, Gives, IsLowestFree, loads, Log, MakesSteps, needed_after, puts}
 pub use Rattle.ksm_book.specs.Steps.{NoneOf, replayed, stepped, steps_of}
 pub use Rattle.ksm_book.specs.Unmerged.{HasLeft, is_shared_of, left_by, MayNotLeave, Unshares}
 pub use Rattle.ksm_book.specs.Whole.{BookValue, BookView, HasShown, listed, mapped, nodes_got, view_of}
 pub use Rattle.ksm_book.specs.Worked.{apart, page}
 pub use Rattle.ksm_pages.proofs.Found.{find_changed, find_changed_other, find_put}
-pub use Rattle.ksm_pages.specs.Ahead.{EndsAt, last_of, mergeable_pages}
+pub use Rattle.ksm_pages.proofs.Options.{mapped_some, none_mapped}
+pub use Rattle.ksm_pages.proofs.Ranked.{last_of_take}
+pub use Rattle.ksm_pages.proofs.Joined.{own_not_merged}
+pub use Rattle.ksm_pages.specs.Ahead.{EndsAt, FindsNext, last_of, mergeable_pages}
 pub use Rattle.ksm_pages.specs.Paged.{dup_of_row, elsewhere, FindsAt, Frames, HasRoom, is_next, is_restless, IsAlone, IsHeld, IsKnown, IsVacant, items_on, lies_on, MayPair}
 pub use Rattle.ksm_pages.specs.Paged.{nowhere, of_guest, on_its_own, PagesView, seen}
 pub use Rattle.ksm_pages.specs.declared.ahead.Ahead.{Ahead}
@@ -87,28 +90,30 @@ pub use Rattle.ksm_order.proofs.Ordered.{absent_parts, any_found, none_found, wi
 pub use Rattle.ksm_rmap.proofs.Pages.{pages_ordered}
 pub use Rattle.ksm_rmap.specs.Items.{AreAscending, has_item}
 pub use Rattle.ksm_tree.proofs.Alike.{count_alike, count_mapped, filter_mapped, find_mapped, map_alike, map_mapped, pairs_mapped}
+pub use Rattle.ksm_tree.proofs.Numbers.{on_err}
 pub use Rattle.ksm_tree.specs.declared.dup.Best.{Best}
 pub use Rattle.std.proofs.Common.{ap, append-nil, append_assoc, arith, Bool, cond, drop, eq-eqb, Err, false, get_or, get_or-set_other, get_or-set_same, inl, inr, IsSome, length, length-set, List, map}
 pub use Rattle.std.proofs.Common.{None, Ok, Option, refl, replicate, rules, set, Some, subst, suc, suc-mul, sym, take, true, true≢false, zero, ℕ, [], ◌*◌, ◌++◌, ◌+◌, ◌-◌, ◌/◌}
 pub use Rattle.std.proofs.Common.{◌<◌, ◌^◌, ◌∙◌, ◌∷◌, ◌≡◌, ◌≢◌, ◌≤◌, ◌⊎◌}
 pub use Rattle.std.proofs.Math.Dec.{eqb}
-pub use Rattle.std.proofs.Math.Seq.{take-append_seam}
+pub use Rattle.std.proofs.Math.Seq.{take-append_seam, take-suc}
 pub use Rattle.std.proofs.lemmas.Bool.{and_parts, and_right, cases_Bool, cases_eq, cases_lt, cond_both, eqb-true, lt-ltb, ne_eqb}
 pub use Rattle.std.proofs.lemmas.Bool.{not-true}
 pub use Rattle.std.proofs.lemmas.Bool.Decides.{nat_tests}
-pub use Rattle.std.proofs.lemmas.List.{append_cancel_left, drop_more, get_or-map, get_or_default, get_or_past, length-append, length-map}
+pub use Rattle.std.proofs.lemmas.List.{append_cancel_left, drop_all, drop_more, get_or-map, get_or_default, get_or_past, length-append, length-map, map-id, take_all}
 pub use Rattle.std.proofs.lemmas.List.{length-replicate, length-take-le, map-append, replicate-append-replicate, set-get_or, set-set, take-append-drop, take_more}
 pub use Rattle.std.proofs.lemmas.List.Elements.{All-append, All-cons, All-contains_itself, All-filter, All-head, All-map, All-tail, All-weaker, Contains-append_left, Contains-append_right}
 pub use Rattle.std.proofs.lemmas.List.Elements.{Contains-push, filter-append, filter_passes}
-pub use Rattle.std.proofs.lemmas.List.Folds.{list_any_at, list_any_none, map_fixed}
+pub use Rattle.std.proofs.lemmas.List.Folds.{list_any-append, list_any_at, list_any_none, map_fixed}
 pub use Rattle.std.proofs.lemmas.List.FromFn.{get_or-range_with_len, length-range_with_len}
 pub use Rattle.std.proofs.lemmas.List.Kept.{AllPairs-cons, AllPairs-filter}
-pub use Rattle.std.proofs.lemmas.List.Sums.{count_by-le-length, length-filter, list_all-from_AllPass, sum_by-le, sum_by-set}
+pub use Rattle.std.proofs.lemmas.List.Sums.{count_by-le-length, fold-append, length-filter, list_all-from_AllPass, sum_by-le, sum_by-set}
 pub use Rattle.std.proofs.lemmas.Map.Keys.{IsDistinct-from_apart}
 pub use Rattle.std.proofs.lemmas.Map.Steps.{length-le_from_distinct_below}
 pub use Rattle.std.proofs.lemmas.Map.Views.{any-filter_same, Contains-from_any}
-pub use Rattle.std.proofs.lemmas.Option.{get_or_from_slice_get, same_Some, slice_get-get_or, slice_get_past, slice_get_within}
+pub use Rattle.std.proofs.lemmas.Option.{get_or_from_slice_get, none-some, same_Some, slice_get-get_or, slice_get_past, slice_get_within}
 pub use Rattle.std.proofs.lemmas.Slice.Eq.{bytes_eq-Decides}
 pub use Rattle.std.specs.List.{list_any, range_with_len}
-pub use Rattle.std.specs.Prelude.{All, AllPairs, bytes_eq, Contains, count_by, filter, find, IfSome, if◌then◌else◌, is_none, is_some, MatchBool, MatchOption, nat_le, nat_lt, not}
+pub use Rattle.std.specs.Prelude.{All, AllPairs, bytes_eq, Contains, count_by, filter, find, fold, IfSome, if◌then◌else◌, is_none, is_some, MatchBool, MatchOption, nat_le, nat_lt, not}
 pub use Rattle.std.specs.Prelude.{option_map, slice_get, ⊤, ◌&&◌, ◌==◌, ◌||◌}
+pub use Rattle.ksm_pages.specs.declared.named.Named.{Named}

@@ -1,14 +1,12 @@
 -- What the parts of a scan come to: the end of a pass, visits up to a page, and whole passes.
-use Rattle.ksm_book.proofs.Names.{after_cursor, Ahead, ahead_before, ap, arith, At, begun, BookState, comes_before, Deed, drop_more, End, EndsAt, filter, filter_all, get_or_from_slice_get}
-use Rattle.ksm_book.proofs.Names.{GuestPage, has_item, is_none, is_nowhere, IsSound, IsStill, last_of, last_visited, length, length-take-le, List, mergeable_pages, next_row, None, page}
-use Rattle.ksm_book.proofs.Names.{pages_ahead, pass_begun, pass_ended, passes_ended, refl, restless_at, Row, settled, slice_get, slice_get-get_or, slice_get_within, Some, Stage, suc, suc-mul}
-use Rattle.ksm_book.proofs.Names.{sym, take, true, true≢false, up_to, visit_begun, visits_beside, with_none_waiting, zero, [], ℕ, ◌*◌, ◌-◌, ◌<◌, ◌∙◌, ◌∷◌, ◌≡◌, ◌≤◌}
+use Rattle.ksm_book.proofs.Names.{after_cursor, Ahead, ahead_before, ap, arith, At, begun, BookState, comes_before, Deed, drop_all, drop_more, End, EndsAt, filter, filter_all}
+use Rattle.ksm_book.proofs.Names.{get_or_from_slice_get, GuestPage, has_item, is_none, is_nowhere, IsSound, IsStill, last_of, last_of_take, last_visited, length, length-take-le, List}
+use Rattle.ksm_book.proofs.Names.{mergeable_pages, next_row, None, page, pages_ahead, pass_begun, pass_ended, passes_ended, refl, restless_at, Row, settled, slice_get, slice_get-get_or}
+use Rattle.ksm_book.proofs.Names.{slice_get_within, Some, sound_settings, Stage, suc, suc-mul, sym, take, take_all, true, true≢false, up_to, visit_begun, visits_beside, with_none_waiting, zero}
+use Rattle.ksm_book.proofs.Names.{[], ℕ, ◌*◌, ◌-◌, ◌<◌, ◌∙◌, ◌∷◌, ◌≡◌, ◌≤◌}
 use Rattle.ksm_book.proofs.Along.{place_of, place_splits}
-use Rattle.ksm_pages.proofs.Ranked.{last_of_take}
-use Rattle.std.proofs.lemmas.List.{drop_all, take_all}
 use Rattle.ksm_book.proofs.Folded.{after, ahead, ahead_then, ascending, begun_folded, begun_sound, beside_on, elsewhere, every_page, mergeable_kept, next_first, none_next, pages_alike, pages_go, pages_stay, pass_goes_on, settled_twice}
 use Rattle.ksm_book.proofs.Folded.{stood, visits_folded}
-use Rattle.ksm_base.proofs.SoundEdits.{sound_settings}
 
 -- a pass has gone through all pages where so many visits end nowhere
 pub nowhere_is : (b : BookState) (most : ℕ) (ahead : Ahead) → EndsAt (pages_ahead b) most ahead

@@ -1,12 +1,9 @@
 -- A walk from page to page comes to the visits of all pages ahead, where visits of those passed over do nothing.
 use Rattle.ksm_book.proofs.Names.{after_cursor, ahead_before, ahead_up_to, All, All-cons, All-filter, All-head, All-tail, and_parts, ap, AreAscending, arith, BookState, BookValue, Bool}
-use Rattle.ksm_book.proofs.Names.{cases_Bool, Comes, comes_before, Deed, false, filter, filter_none, filter_passes, find_all, get_or, get_or_from_slice_get, GuestPage, has_item, HasVisited}
-use Rattle.ksm_book.proofs.Names.{if◌then◌else◌, inl, inr, is_restless, IsSound, IsStill, List, mergeable_pages, nat_lt, None, not, one_before, Option, page_visited, pages_ahead, pairs_head}
-use Rattle.ksm_book.proofs.Names.{pairs_tail, Reached, refl, restless_at, same_page_eq, slice_get_within, Some, Stage, StaysStill, subst, suc, sym, take, true, true≢false, up_to}
-use Rattle.ksm_book.proofs.Names.{[], ℕ, ◌&&◌, ◌*◌, ◌+◌, ◌-◌, ◌<◌, ◌^◌, ◌∙◌, ◌∷◌, ◌≡◌}
-use Rattle.std.proofs.lemmas.List.Sums.{fold-append}
-use Rattle.std.proofs.Math.Seq.{take-suc}
-use Rattle.std.specs.Prelude.{fold}
+use Rattle.ksm_book.proofs.Names.{cases_Bool, Comes, comes_before, Deed, false, filter, filter_none, filter_passes, find_all, fold, fold-append, get_or, get_or_from_slice_get, GuestPage}
+use Rattle.ksm_book.proofs.Names.{has_item, HasVisited, if◌then◌else◌, inl, inr, is_restless, IsSound, IsStill, List, mergeable_pages, nat_lt, None, not, one_before, Option, page_visited}
+use Rattle.ksm_book.proofs.Names.{pages_ahead, pairs_head, pairs_tail, Reached, refl, restless_at, same_page_eq, slice_get_within, Some, Stage, StaysStill, subst, suc, sym, take, take-suc, true}
+use Rattle.ksm_book.proofs.Names.{true≢false, up_to, [], ℕ, ◌&&◌, ◌*◌, ◌+◌, ◌-◌, ◌<◌, ◌^◌, ◌∙◌, ◌∷◌, ◌≡◌}
 use Rattle.ksm_book.proofs.Folded.{ascending_ahead, by_row, Goes, page_goes, still_on}
 use Rattle.ksm_book.proofs.Along.{Before, FitsPage, after_later, has_filter, place_of, place_splits}
 use Rattle.ksm_book.proofs.Reached.{Agree, agrees, comes_to}

@@ -10,7 +10,7 @@ use Rattle.ksm_pages.specs.Paged.{is_restless}
 use Rattle.ksm_pages.specs.declared.row.Spot.{Spot}
 use Rattle.ksm_book.specs.Commands.{Performs}
 use Rattle.ksm_book.specs.Folded.{Stage, pages_visited, visited}
-use Rattle.ksm_book.specs.Scanned.{Reached, Stops, ahead_before, ahead_up_to}
+use Rattle.ksm_book.specs.Scanned.{Reached, ahead_before, ahead_up_to}
 use Rattle.ksm_book.specs.Whole.{BookValue, BookView, mapped, view_of}
 
 -- the pages that are due; whether all of them are known; and whether they are, and stand in order
@@ -86,11 +86,6 @@ abbrev pub names : GuestPage → Option GuestPage → Bool
 names page None = false
 names page (Some waiting) = same_page waiting page
 
--- from the one to the other it came to this book, but for which rows from a page on wait, and this was done to the frames
-abbrev pub ReachedBefore : GuestPage → BookValue → BookValue → Stage → Type 0
-ReachedBefore page old new s =
-    (hidden_from page new.state ≡ hidden_from page s.0) × Performs (mapped (view_of old)) (mapped (view_of new)) s.1
-
 -- the visits of the pages ahead up to the last one, or of all of them, where a pass begins or goes on
 abbrev pub part_visited : Option GuestPage → Stage → Stage
 part_visited last s = let t : Stage = (pass_begun s.0, s.1) in pages_visited t (ahead_up_to last t.0)
@@ -99,13 +94,10 @@ part_visited last s = let t : Stage = (pass_begun s.0, s.1) in pages_visited t (
 abbrev pub part_before : GuestPage → Stage → Stage
 part_before page s = let t : Stage = (pass_begun s.0, s.1) in pages_visited t (ahead_before page t.0)
 
--- the visits of such a part stopped before a page
-abbrev pub StopsInPart : BookValue → BookValue → Option GuestPage → GuestPage → Type 0
-StopsInPart old new last page = Stops old new last page (part_before page)
-
 -- whatever was reached before, nothing changed but which rows from a page on wait
 abbrev pub StaysBefore : GuestPage → BookValue → BookValue → Type 0
-StaysBefore page old new = (from : BookValue) (s : Stage) → Reached from old s → ReachedBefore page from new s
+StaysBefore page old new = (from : BookValue) (s : Stage) → Reached from old s
+    → (hidden_from page new.state ≡ hidden_from page s.0) × Performs (mapped (view_of from)) (mapped (view_of new)) s.1
 
 -- the row of a page is to wait in the stead of that of another page
 pub record TakesOver (b : BookState) (page other : GuestPage) : Type 0 where

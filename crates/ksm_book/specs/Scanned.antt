@@ -17,7 +17,7 @@ use Rattle.ksm_pages.specs.declared.ahead.Ahead.TheVariants.{At, End}
 use Rattle.ksm_book.specs.declared.visiting.Visited.{Visited}
 use Rattle.ksm_book.specs.declared.visiting.Visited.TheVariants.{Same, Changed, Shared, Gone}
 
--- from the one to the other it came to this book, and this was done to the frames
+-- it came to this book, and this was done to the frames
 abbrev pub Reached : BookValue → BookValue → Stage → Type 0
 Reached old new s = (new.state ≡ s.0) × Performs (mapped (view_of old)) (mapped (view_of new)) s.1
 
@@ -105,9 +105,6 @@ pub record Stops (old new : BookValue) (last : Option GuestPage) (page : GuestPa
   pub ahead : has_item page (pages_ahead old.state) ≡ true
   -- those before it were visited
   pub comes : Comes old new visits
-
-abbrev pub StopsBefore : BookValue → BookValue → Option GuestPage → GuestPage → Type 0
-StopsBefore old new last page = Stops old new last page (λ s. pages_visited s (ahead_before page s.0))
 
 -- so many visits were made
 pub record GoesOn (old new : BookValue) (most made : ℕ) : Type 0 where

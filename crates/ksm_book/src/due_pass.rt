@@ -9,10 +9,10 @@ ghost use Rattle.std.specs.Prelude.{◌≡◌, true, None, IfErr, IfOk, OnErr, O
 ghost use Rattle.ksm_base.specs.Rows.{change_row, settled};
 ghost use Rattle.ksm_rmap.specs.Items.{has_item};
 ghost use Rattle.ksm_pages.specs.Paged.{IsAlone};
-ghost use Rattle.ksm_book.specs.Due.{AreDue, due_visited, hidden_from, part_visited, StaysBefore, StopsInPart, TakesOver};
+ghost use Rattle.ksm_book.specs.Due.{AreDue, due_visited, hidden_from, part_before, part_visited, StaysBefore, TakesOver};
 ghost use Rattle.ksm_book.specs.Due.{TellsDue, with_rows};
 ghost use Rattle.ksm_book.specs.Folded.{restless_at};
-ghost use Rattle.ksm_book.specs.Scanned.{Comes, HasVisited};
+ghost use Rattle.ksm_book.specs.Scanned.{Comes, HasVisited, Stops};
 ghost use Rattle.ksm_book.specs.Whole.{view_of};
 
 use crate::due::Due;
@@ -31,7 +31,7 @@ impl State {
         requires start { self.old.state.cursor ≡ None }
         ensures visited { IfOk result (λ quiet. HasVisited self.old self.new (part_visited None) quiet) }
         ensures due { TellsDue due.new self.new.state }
-        ensures stopped { IfErr result (λ page. StopsInPart self.old self.new None page) }
+        ensures stopped { IfErr result (λ page. Stops self.old self.new None page (part_before page)) }
     {
         self.lies_lawfully();
         let quiet = due.is_empty();

@@ -8,10 +8,10 @@ ghost use Rattle.std.specs.Prelude.{◌≡◌, ◌&&◌, ◌≤◌, [], true, No
 ghost use Rattle.ksm_base.specs.Visit.{pass_begun, pass_ended_at_last};
 ghost use Rattle.ksm_pages.specs.Ahead.{EndsAt, mergeable_pages};
 ghost use Rattle.ksm_book.specs.Carried.{CarriesOut};
-ghost use Rattle.ksm_book.specs.Due.{AreDue, StopsInPart, TellsDue, part_visited};
+ghost use Rattle.ksm_book.specs.Due.{AreDue, TellsDue, part_before, part_visited};
 ghost use Rattle.ksm_book.specs.Folded.{pages_ahead, pages_visited};
-ghost use Rattle.ksm_book.specs.Scanned.{Comes, FindsUpTo, GoesOn, HasVisited, StopsBefore, StopsShort};
-ghost use Rattle.ksm_book.specs.Scanned.{ahead_up_to, is_nowhere, is_quiet, last_visited};
+ghost use Rattle.ksm_book.specs.Scanned.{Comes, FindsUpTo, GoesOn, HasVisited, Stops, StopsShort};
+ghost use Rattle.ksm_book.specs.Scanned.{ahead_before, ahead_up_to, is_nowhere, is_quiet, last_visited};
 ghost use Rattle.ksm_book.specs.Scanned.{passes_ended};
 
 use crate::due::Due;
@@ -123,7 +123,8 @@ impl State {
             (λ s. pages_visited s (ahead_up_to last s.0)) quiet) }
         ensures due { IfOk result (λ quiet. quiet ≡ true → self.old.state.cursor ≡ None → last ≡ None
             → AreDue self.new.state []) }
-        ensures stopped { IfErr result (λ page. StopsBefore self.old self.new last page) }
+        ensures stopped { IfErr result (λ page. Stops self.old self.new last page
+            (λ s. pages_visited s (ahead_before page s.0))) }
     {
         self.lies_lawfully();
         let mut made = Made {
@@ -187,7 +188,7 @@ impl State {
         requires due { TellsDue due.old self.old.state }
         ensures visited { IfOk result (λ quiet. HasVisited self.old self.new (part_visited last) quiet) }
         ensures due { TellsDue due.new self.new.state }
-        ensures stopped { IfErr result (λ page. StopsInPart self.old self.new last page) }
+        ensures stopped { IfErr result (λ page. Stops self.old self.new last page (part_before page)) }
     {
         let whole = self.is_whole(last);
         if whole && due.is_known() && due.put_in_order() {

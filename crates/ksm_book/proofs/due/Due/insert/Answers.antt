@@ -1,7 +1,4 @@
-use Rattle.ksm_book.proofs.Names.{arith, pages_ordered, refl, same_page}
-use Rattle.ksm_book.specs.Due.{pages_of}
-use Rattle.std.proofs.lemmas.List.Folds.{list_any-append}
-use Rattle.ksm_pages.specs.declared.named.Named.{Named}
+use Rattle.ksm_book.proofs.Names.{arith, list_any-append, Named, pages_of, pages_ordered, refl, same_page}
 use Rattle.ksm_order.proofs.Ordered.{with_rises}
 use Rattle.ksm_book.proofs.Dues.{has_found, has_put, pages_in}
 use Rattle.ksm_book.proofs.due.Due.insert.Goals as goal

@@ -1,5 +1,4 @@
-use Rattle.ksm_book.proofs.Names.{GuestPage, has_item, true, ◌||◌, ◌≡◌}
-use Rattle.ksm_book.specs.Due.{pages_of}
+use Rattle.ksm_book.proofs.Names.{GuestPage, has_item, pages_of, true, ◌||◌, ◌≡◌}
 use Rattle.ksm_book.proofs.due.Due.put_in_order.Given as goal
 
 abbrev pub invariant-added : goal.invariant-added

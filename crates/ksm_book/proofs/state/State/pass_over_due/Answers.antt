@@ -1,8 +1,7 @@
-use Rattle.ksm_book.proofs.Names.{AreDue, arith, comes_before, false, None, subst, up_to}
+use Rattle.ksm_book.proofs.Names.{AreDue, arith, comes_before, false, None, refl, rules, subst, sym, up_to, ◌∙◌}
 use Rattle.ksm_book.proofs.DuePasses.{part_stops, rests_due, visits_due, whole_part, whole_still}
 use Rattle.ksm_book.proofs.Reached.{comes_as, comes_by, comes_own}
 use Rattle.ksm_book.proofs.Walked.{begins_walk, less_room, walk_ends, walks_on}
-use Rattle.std.proofs.Common.{refl, rules, sym, ◌∙◌}
 use Rattle.ksm_book.proofs.state.State.pass_over_due.Goals as goal
 
 pub loop-spot-init : goal.loop-spot-init

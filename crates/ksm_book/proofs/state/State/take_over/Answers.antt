@@ -1,6 +1,4 @@
-use Rattle.ksm_book.proofs.Names.{ap, BookValue, BookView, change_row, row_at, settled, sym, view_of, with_rows, ◌∙◌, ◌≡◌}
-use Rattle.std.proofs.lemmas.Option.{none-some}
-use Rattle.ksm_tree.proofs.Numbers.{on_err}
+use Rattle.ksm_book.proofs.Names.{ap, BookValue, BookView, change_row, none-some, on_err, row_at, settled, sym, view_of, with_rows, ◌∙◌, ◌≡◌}
 use Rattle.ksm_book.proofs.DueFound.{other_alone, taken_comes, taken_leaves, taken_refused, waits_at}
 use Rattle.ksm_book.proofs.state.State.take_over.Goals as goal
 use Rattle.ksm_book.proofs.state.State.take_over.Goals.{After-stop_waiting}

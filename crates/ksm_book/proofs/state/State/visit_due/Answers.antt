@@ -1,8 +1,5 @@
-use Rattle.ksm_book.proofs.Names.{Stage}
-use Rattle.ksm_book.proofs.Names.{ap, arith, BookValue, Comes, due_visited, inl, inr, IsDueNoMore}
-use Rattle.ksm_book.proofs.Names.{Reached, seen, state_of, StaysBefore, sym, true, view_of, ◌∙◌, ◌∷◌, ◌≡◌, ◌⊎◌}
+use Rattle.ksm_book.proofs.Names.{ap, arith, BookValue, Comes, due_visited, inl, inr, IsDueNoMore, on_err, Reached, seen, Stage, state_of, StaysBefore, sym, true, view_of, ◌∙◌, ◌∷◌, ◌≡◌, ◌⊎◌}
 use Rattle.ksm_pages.specs.declared.pages.Find.TheVariants as finds
-use Rattle.ksm_tree.proofs.Numbers.{on_err}
 use Rattle.ksm_book.specs.contracts.state.State.{the_view}
 use Rattle.ksm_book.proofs.DueFound.{changed_keeps, gone_due, partner_takes, shared_due, shares, waits_due}
 use Rattle.ksm_book.proofs.RowVisits.{finds_it, found_lawful}

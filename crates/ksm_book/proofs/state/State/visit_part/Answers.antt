@@ -1,4 +1,4 @@
-use Rattle.ksm_book.proofs.Names.{arith, HasVisited, part_visited, pass_begun, StopsInPart, sym, ◌∙◌}
+use Rattle.ksm_book.proofs.Names.{arith, HasVisited, part_before, part_visited, pass_begun, Stops, sym, ◌∙◌}
 use Rattle.ksm_book.proofs.DueKept.{more_due}
 use Rattle.ksm_book.proofs.Folded.{still_on}
 use Rattle.ksm_book.proofs.Reached.{comes_own, comes_to}
@@ -40,7 +40,7 @@ returns-then-quiet-clause-due c = λ _.
 pub returns-in_err-quiet-clause-stopped : goal.returns-in_err-quiet-clause-stopped
 returns-in_err-quiet-clause-stopped c =
     let stops = c.in_err-quiet.ensures.stopped in
-    let part : StopsInPart c.args.self.now c.visit_up_to.new.self c.args.last _ =
+    let part : Stops c.args.self.now c.visit_up_to.new.self c.args.last _ (part_before _) =
     record {
       within = stops.within;
       ahead = grind (arith, stops.ahead, comes_to c.args.self.now c.begin_pass.new.self _ c.begin_pass.ensures, begun_ahead);

@@ -1,5 +1,4 @@
-use Rattle.ksm_book.proofs.Names.{and_parts, arith, comes_before, FindsUpTo, GuestPage, is_quiet, IsStill, None, Option, subst, sym, up_to, ◌∙◌}
-use Rattle.std.proofs.Common.{rules}
+use Rattle.ksm_book.proofs.Names.{and_parts, arith, comes_before, FindsUpTo, GuestPage, is_quiet, IsStill, None, Option, rules, subst, sym, up_to, ◌∙◌}
 use Rattle.ksm_book.proofs.Along.{has_filter}
 use Rattle.ksm_book.proofs.Reached.{comes_as, comes_own, comes_to}
 use Rattle.ksm_book.proofs.DuePasses.{due_begins, due_walks}
