@@ -60,7 +60,6 @@ passed asked last r = asked r && not (after_cursor last r.page)
 abbrev pub along : (Row → Bool) → (Row → Row) → Option GuestPage → List Row → List Row
 along asked f last rows = change_rows (passed asked last) f rows
 
--- the row, if it is the next that is asked for behind a cursor
 abbrev next_of : (Row → Bool) → Option GuestPage → Row → Bool
 next_of asked last r = asked r && after_cursor last r.page
 
@@ -129,7 +128,6 @@ module _ {asked : Row → Bool} {f : Row → Row} (keeps : (r : Row) → (f r).p
     at_cursor : after_cursor last page ≡ true
     at_cursor = grind (arith, passes, next_is.2)
 
-    -- a row asked for is behind the cursor where it does not come before that page
     place : All (λ r. asked r ≡ true → after_cursor last r.page ≡ not (comes_before r.page page)) rows
     place k d lt asks =
         let r = get_or rows k d in

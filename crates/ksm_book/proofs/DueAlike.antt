@@ -6,9 +6,8 @@ use Rattle.ksm_book.proofs.Names.{is_no_worse, is_restless, is_stale, IsSound, i
 use Rattle.ksm_book.proofs.Names.{not, not_both, one_before, Option, option_map, page, page_visited, pages_visited, paired, pairs_head, pairs_tail, partner, place_count, refl, restless_at, Row}
 use Rattle.ksm_book.proofs.Names.{row_at, row_visiting, same_page, same_page_eq, same_page_refl, settled, settled_calmer, slice_get_within, Some, sound_changed, Stage, subst, sym, takes_over}
 use Rattle.ksm_book.proofs.Names.{true, visited, waiting_state, waits_for, waits_tells, Zero, [], ℕ, ◌&&◌, ◌||◌, ◌∙◌, ◌∷◌, ◌≡◌}
-use Rattle.ksm_book.proofs.Scanned.{restless_mergeable}
+use Rattle.ksm_book.proofs.Folded.{by_row, Goes, mergeable_kept, page_goes, restless_mergeable}
 use Rattle.ksm_base.specs.declared.row.PageState.TheVariants.{Private}
-use Rattle.ksm_book.proofs.Folded.{by_row, Goes, mergeable_kept, page_goes}
 use Rattle.ksm_book.proofs.Along.{after_later, Before, place_of}
 
 -- what is so of all of some pages is so of one that is there
@@ -44,7 +43,6 @@ module _ (t : GuestPage → Bool) (b : BookState) where
   veiled_alike u same =
       λ i. record b { rows = map_alike veil (calmed (λ r. u r.page)) b.rows (λ k d lt. grind (arith, same k d lt)) i }
 
-  -- so does one that agrees on the pages that scans visit, in a sound book
   veiled_same : (u : GuestPage → Bool) → IsSound b
       → ((q : GuestPage) → has_item q (mergeable_pages b.rows) ≡ true → t q ≡ u q) → veiled t b ≡ veiled u b
   veiled_same u s same =
@@ -88,7 +86,6 @@ module _ (b : BookState) (r : Row) where
   abbrev is_on : Row → Bool
   is_on x = not (comes_before x.page r.page)
 
-  -- the book where the rows from it on are veiled
   abbrev covered : BookState
   covered = hidden_from r.page b
 
@@ -142,7 +139,6 @@ module _ (b : BookState) (r : Row) where
       let found = find_mapped cover (waits_for b.knobs r) (waits_for b.knobs r) b.rows (λ k d lt. grind (arith, near k d lt, not_both)) in
       grind (arith, near_found near)
 
-  -- with what waits for it in the book it is paired alike
   paired_alike : NoneVeiled → (o : Option Row) → partner b.knobs b.rows r ≡ o
       → paired o covered (settled r) ≡ veiled (comes_before r.page) (paired o b r)
   paired_alike near None found = own_alike _ (λ x. refl) (λ x. refl)
@@ -270,7 +266,6 @@ module _ (goes : GuestPage → Bool) (up : (p q : GuestPage) → goes q ≡ fals
     here : (after_cursor c page ≡ true) × (goes page ≡ true)
     here = grind (arith, l.are page, same_page_refl)
 
-    -- of the pages that scans visit those behind the cursor are those from the first on
     from_first : (q : GuestPage) → has_item q (mergeable_pages b.rows) ≡ true
         → after_cursor c q ≡ not (comes_before q page)
     from_first q has = grind (

@@ -17,7 +17,6 @@ module _ (b : BookState) (sound : IsSound b) (page : GuestPage) (row : Row) (fou
   abbrev beside : Option GuestPage
   beside = page_beside b.knobs b.rows (Some row)
 
-  -- a row that waits for the row, which is merged, is of that page
   is_beside : merged_state row.state ≡ true → All (λ r. waits_for b.knobs row r ≡ true → names r.page beside ≡ true) b.rows
   is_beside merged k d lt waits = grind (arith, find_none, one_waits, same_page_refl)
 

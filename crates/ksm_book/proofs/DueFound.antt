@@ -120,7 +120,6 @@ module _ {b : BookState} {page other : GuestPage} (sound : IsSound b) (at : Take
   later : comes_before page other ≡ true
   later = grind (arith, taker_is)
 
-  -- the rows of the other page are those that wait for the row
   agree : All (λ r. same_page r.page other ≡ waits_for b.knobs at.row r) b.rows
   agree k d lt = both_ways _ _
       (λ same. rw (row_of_page _ _ _ sound.rows_rise waits_at k d lt same) passes)
@@ -129,7 +128,6 @@ module _ {b : BookState} {page other : GuestPage} (sound : IsSound b) (at : Take
   freed_rows : change_row other settled b.rows ≡ change_rows (waits_for b.knobs at.row) settled b.rows
   freed_rows = grind (arith, map_alike, agree)
 
-  -- the visit of the page, as one that is due, is that of the definitions once the other one waits no more
   due_is : (deed : Deed)
       → due_visited (b, deed) page ≡ page_visited (record b { rows = change_row other settled b.rows }, deed) page
   due_is deed = grind (arith, taker_is, freed_rows, freed_found)

@@ -41,7 +41,6 @@ module _ (knobs : Knobs) (rows : List Row) (row : Row) where
   abbrev pub JoinsNone : List DupRow → Type 0
   JoinsNone dups = All (λ d. may_join knobs rows row d ≡ false) dups
 
-  -- where there is no best dup, there is none that the row may join
   none_to_join : (dups : List DupRow) → best_dup knobs rows dups row ≡ None → JoinsNone dups
   none_to_join dups none k d lt = elim (cases_Bool (may_join knobs rows row (get_or dups k d))) [
     | inl may ↦
@@ -147,7 +146,6 @@ module _ (b : BookState) (sound : IsSound b) (row : Row) (found : row_at row.pag
         let on = was k d lt calm (grind (arith, own r fails)) in
         on_still b new dups next r (still k d lt fails (grind arith)) on)
 
-    -- a dup of another number has as many items then, where rows become merged that were not
     other_count : (test : Row → Bool) (number : ℕ) → All (λ r. test r ≡ true → merged_state r.state ≡ false) b.rows
         → (e : DupRow) → (e.number == number) ≡ false
         → item_count (change_rows test (merge number) b.rows) e ≡ item_count b.rows e

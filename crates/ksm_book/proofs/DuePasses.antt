@@ -5,10 +5,9 @@ use Rattle.ksm_book.proofs.Names.{None, not, one_before, Option, page, page_visi
 use Rattle.ksm_book.proofs.Names.{StaysBefore, StaysStill, Stops, subst, sym, true, view_of, with_none_waiting, [], ◌∙◌, ◌≡◌}
 use Rattle.ksm_book.proofs.DueAlike.{all_has, along, calm_stays, one_due, unveiled, veiled}
 use Rattle.ksm_book.proofs.DueKept.{still_undue, undue_rests}
-use Rattle.ksm_book.proofs.Folded.{ascending_ahead, every_page}
 use Rattle.ksm_book.proofs.Along.{Before, has_filter}
 use Rattle.ksm_book.proofs.Reached.{agrees, begins, comes_by, comes_to, first}
-use Rattle.ksm_book.proofs.Scanned.{begun_ahead, restless_mergeable}
+use Rattle.ksm_book.proofs.Folded.{ascending_ahead, begun_ahead, every_page, restless_mergeable}
 use Rattle.ksm_book.proofs.Walked.{before_it, is_ahead, IsVisit, IsWalking, resting, Rests}
 
 -- the visit of a page that is due is one that a walk may make

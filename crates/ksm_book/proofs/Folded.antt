@@ -1,12 +1,13 @@
--- The visits of a pass are a fold over its pages; and what they keep.
-use Rattle.ksm_book.proofs.Names.{after_cursor, AllPairs-filter, and_right, ap, append-nil, AreAscending, arith, begun, best_dup, BookState, cases_Bool, comes_before, Deed, drop, drop_more}
-use Rattle.ksm_book.proofs.Names.{DupRow, each_at_page, false, filter, filter_all, filter_mapped, find_all, find_passes, fold-append, get_or, get_or_from_slice_get, GuestPage, handled, idle}
-use Rattle.ksm_book.proofs.Names.{if◌then◌else◌, inl, InPageOrder, inr, is_none, is_restless, IsSound, IsStill, last_of, last_of_take, List, map, map_mapped, mapped_some, mergeable_pages}
-use Rattle.ksm_book.proofs.Names.{next_row, next_visited, None, none_mapped, Option, option_map, page_visited, pages_ahead, pages_visited, paired, pairs_mapped, partner, pass_ended_at_last, refl}
+-- The visits of a pass are a fold over its pages: what they keep, and what the parts of a scan come to.
+use Rattle.ksm_book.proofs.Names.{after_cursor, Ahead, ahead_before, AllPairs-filter, and_right, ap, append-nil, AreAscending, arith, At, begun, best_dup, BookState, cases_Bool, comes_before}
+use Rattle.ksm_book.proofs.Names.{Deed, drop, drop_all, drop_more, DupRow, each_at_page, End, EndsAt, false, filter, filter_all, filter_mapped, find_all, find_passes, fold-append, get_or}
+use Rattle.ksm_book.proofs.Names.{get_or_from_slice_get, GuestPage, handled, has_item, idle, if◌then◌else◌, inl, InPageOrder, inr, is_none, is_nowhere, is_restless, IsSound, IsStill, last_of}
+use Rattle.ksm_book.proofs.Names.{last_of_take, last_visited, length, length-take-le, List, map, map_mapped, mapped_some, mergeable_pages, next_row, next_visited, None, none_mapped, Option}
+use Rattle.ksm_book.proofs.Names.{option_map, page, page_visited, pages_ahead, pages_visited, paired, pairs_mapped, partner, pass_begun, pass_ended, pass_ended_at_last, passes_ended, refl}
 use Rattle.ksm_book.proofs.Names.{restless_at, restless_row, Row, row_at, row_done, row_visited, rowwise_visits, same_page, settled, slice_get, slice_get-get_or, slice_get_within, Some}
-use Rattle.ksm_book.proofs.Names.{sound_row_visited, sound_visit_begun, Stage, subst, suc, sym, take, take-append-drop, take-suc, then_doing, true, visit, visit_begun, visit_of, visits}
-use Rattle.ksm_book.proofs.Names.{visits_beside, Zero, zero, [], ℕ, ⊤, ◌++◌, ◌+◌, ◌∙◌, ◌∷◌, ◌≡◌}
-use Rattle.ksm_book.proofs.Along.{Before, behind_first}
+use Rattle.ksm_book.proofs.Names.{sound_row_visited, sound_settings, sound_visit_begun, Stage, subst, suc, suc-mul, sym, take, take-append-drop, take-suc, take_all, then_doing, true, true≢false}
+use Rattle.ksm_book.proofs.Names.{up_to, visit, visit_begun, visit_of, visits, visits_beside, with_none_waiting, Zero, zero, [], ℕ, ⊤, ◌*◌, ◌++◌, ◌+◌, ◌-◌, ◌<◌, ◌∙◌, ◌∷◌, ◌≡◌, ◌≤◌}
+use Rattle.ksm_book.proofs.Along.{Before, behind_first, place_of, place_splits}
 use Rattle.ksm_book.proofs.ByPage.{found_page, row_of_page}
 use Rattle.ksm_base.specs.declared.row.PageState.TheVariants.{Private}
 
@@ -142,7 +143,6 @@ pages_go (page ∷ pages) s sound =
     let first = page_goes s page sound in
     let more = pages_go pages (page_visited s page) first.0 in (more.0, more.1 ∙ first.1)
 
--- the visit of the next row is that of its page
 next_is_page : (s : Stage) (row : Row) → InPageOrder s.0.rows → next_row s.0.cursor s.0.rows ≡ Some row
     → page_visited s row.page ≡ row_done s row
 next_is_page s row rise next =
@@ -203,7 +203,6 @@ module _ (s : Stage) where
         ap (filter (after_cursor (stood n).0.cursor)) (goes_then n).1
         ∙ behind_done (take n ahead) (drop n ahead) _ _ (ascending_mergeable _ begun_sound.rows_rise) (sym (take-append-drop n ahead))
 
-    -- one visit more is that of the next page
     one_more : (n : ℕ) (page : GuestPage) → slice_get ahead n ≡ Some page → begun (visits_beside n s) ≡ stood n
         → visits_beside (suc n) s ≡ (pass_ended_at_last (stood (suc n)).0, (stood (suc n)).1)
     one_more n page at from =
@@ -242,3 +241,146 @@ module _ (s : Stage) where
     pub visits_folded : (n : ℕ) (page : GuestPage) → slice_get ahead n ≡ Some page
         → visits_beside (suc n) s ≡ (pass_ended_at_last (stood (suc n)).0, (stood (suc n)).1)
     visits_folded n page at = one_more n page at (begun_folded n page at)
+
+-- a pass has gone through all pages where so many visits end nowhere
+pub nowhere_is : (b : BookState) (most : ℕ) (ahead : Ahead) → EndsAt (pages_ahead b) most ahead
+    → is_nowhere ahead ≡ is_none (next_row b.cursor b.rows)
+nowhere_is b most ahead ends =
+    first _ ahead ends ∙ ap is_none (sym (next_first b.cursor b.rows)) ∙ (grind arith)
+  where
+    first : (pages : List GuestPage) (ahead : Ahead) → EndsAt pages most ahead
+        → is_nowhere ahead ≡ is_none (slice_get pages 0)
+    first [] ahead ends = grind arith
+    first (page ∷ pages) ahead ends = grind arith
+
+settled_ahead : (b : BookState) → pages_ahead (with_none_waiting b) ≡ pages_ahead b
+settled_ahead b = ap (filter (after_cursor b.cursor)) (mergeable_kept settled (λ r. (refl, refl)) b.rows)
+
+-- as a pass begins the pages ahead are the same
+pub begun_ahead : (b : BookState) → pages_ahead (pass_begun b) ≡ pages_ahead b
+begun_ahead b = grind (arith, settled_ahead b)
+
+-- where there is a page to visit, one is ahead once a visit begins
+pub some_ahead : (b : BookState) → 1 ≤ length (mergeable_pages b.rows) → 1 ≤ length (pages_ahead (visit_begun b))
+some_ahead b some =
+    let within = slice_get_within (pages_ahead b) 0 in
+    grind (arith, next_first b.cursor b.rows, settled_ahead b, settled_ahead (pass_ended b), every_page b.rows)
+
+-- scans visit a restless page
+pub restless_mergeable : (page : GuestPage) (rows : List Row) → restless_at page rows ≡ true → has_item page (mergeable_pages rows) ≡ true
+restless_mergeable page [] is = absurd (true≢false (sym is))
+restless_mergeable page (r ∷ rows) is = grind (arith, restless_mergeable page rows)
+
+module _ (s : Stage) where
+  abbrev passed : Stage
+  passed = after s (filter (up_to None) (ahead s))
+
+  abbrev ended : ℕ → Stage
+  ended times = (passes_ended times passed.0, passed.1)
+
+module _ (s : Stage) (sound : IsSound s.0) where
+  -- as many visits as lead up to a page are the visits of the pages ahead up to it, with the cursor there
+  pub page_made : (most : ℕ) (page : GuestPage) → 1 ≤ most → EndsAt (ahead s) most (At page)
+      → (
+        record (after s (filter (up_to (Some page)) (ahead s))).0 { cursor = Some page },
+        (after s (filter (up_to (Some page)) (ahead s))).1,
+      )
+      ≡ visits_beside most s
+  page_made most page some ends =
+      let n = most - 1 in
+      let one : suc n ≡ most = omega arith in
+      let made = visits_folded s sound n page ends.1 in
+      let first = (place_splits (ahead s) n page (ascending s sound) ends.1).1 in
+      let stays = pass_goes_on (stood s (suc n)).0 _ _
+      (ahead_then s sound (suc n) ∙ drop_more (ahead s) (suc n) page (omega arith)) in
+      grind (arith, last_of_take (ahead s) n (visit_begun s.0).cursor ends.1)
+
+  -- as many visits as there are pages ahead are the visits of all of them, and then the end of the pass
+  pass_made : 1 ≤ length (ahead s) → visits_beside (length (ahead s)) s ≡ ended s 1
+  pass_made some =
+      let n = length (ahead s) - 1 in
+      let one : suc n ≡ length (ahead s) = omega arith in
+      let at = slice_get-get_or (ahead s) n (record { guest = 0; page = 0 }) (omega arith) in
+      let made = visits_folded s sound n _ at in
+      let none = none_next (stood s (suc n)).0
+      (ahead_then s sound (suc n) ∙ drop_all (suc n) (ahead s) (omega arith)) in
+      let last = last_of_take (ahead s) n (visit_begun s.0).cursor at in
+      let all = filter_all (up_to None) (ahead s) (λ k d lt. refl) in
+      grind (arith, take_all (suc n) (ahead s) (omega arith))
+
+module _ (s : Stage) (sound : IsSound s.0) (some : 1 ≤ length (mergeable_pages s.0.rows)) where
+  abbrev size : ℕ
+  size = length (ahead s)
+
+  -- where a whole pass changed nothing but which rows wait, as many visits more are one such pass more
+  again : (visit_begun s.0).cursor ≡ None → IsStill (begun s) (passed s) → (times : ℕ)
+      → visits_beside size (ended s times) ≡ ended s (suc times)
+  again none still times =
+      let went = (pages_go (filter (up_to None) (ahead s)) (begun s) (begun_sound s sound)).0 in
+      let start : begun (ended s times) ≡ (elsewhere None (ended s times).0.passes (visit_begun s.0), s.1) =
+      grind (arith, settled_twice, none, still) in
+      let same : ahead (ended s times) ≡ ahead s = grind (arith, none) in
+      let made = pass_made (ended s times) (sound_settings (passed s).0 _ _ _ _ None went.knobs.run went.knobs.pages_to_scan went.knobs.use_zero_pages (omega arith) went) (rw same (some_ahead s.0 some)) in
+      grind (arith, pages_alike None (ended s times).0.passes (filter (up_to None) (ahead s)) (begun s), still.beside)
+
+  -- a pass is as many visits as there are pages ahead, and so are several, where the first is whole and still
+  pub passes_made : (times : ℕ) → 1 ≤ times
+      → (1 < times → ((visit_begun s.0).cursor ≡ None) × IsStill (begun s) (passed s))
+      → ended s times ≡ visits_beside (times * size) s
+  passes_made zero one more = absurd (omega arith)
+  passes_made (suc zero) one more =
+      let once : 1 * size ≡ size = omega arith in
+      rw once (sym (pass_made s sound (some_ahead s.0 some)))
+  passes_made (suc (suc n)) one more =
+      let whole = more (omega arith) in
+      sym (again whole.0 whole.1 (suc n)) ∙ ap (visits_beside size) (passes_made (suc n) (omega arith) (λ lt. whole))
+      ∙ sym (beside_on (suc n * size) size (suc (suc n) * size) s (omega (arith, suc-mul (suc n) size)))
+
+-- visits that stop before a page that was ahead
+module _ (s : Stage) (sound : IsSound s.0) (page : GuestPage) (there : has_item page (ahead s) ≡ true) where
+  abbrev before_it : List GuestPage
+  before_it = filter (λ p. comes_before p page) (ahead s)
+
+  abbrev stopped : Stage
+  stopped = after s before_it
+
+  abbrev place : ℕ
+  place = (place_of page (ahead s) there).0
+
+  stands : slice_get (ahead s) place ≡ Some page
+  stands = (place_of _ _ there).1
+
+  first_is : before_it ≡ take place (ahead s)
+  first_is = (place_splits _ _ _ (ascending s sound) stands).0
+
+  still_ahead : ahead_before page stopped.0 ≡ before_it
+  still_ahead =
+      let going = pages_go before_it (begun s) (begun_sound s sound) in
+      grind (arith, pages_stay before_it (begun s))
+
+  many : length (ahead_before page stopped.0) ≡ place
+  many = grind (arith, still_ahead, first_is, length-take-le, slice_get_within)
+
+  -- visits of the pages ahead before the page, with the cursor at the last, are as many visits and one more begun
+  pub stopped_made : (record stopped.0 { cursor = last_of stopped.0.cursor (ahead_before page stopped.0) }, stopped.1)
+      ≡ begun (visits_beside (length (ahead_before page stopped.0)) s)
+  stopped_made =
+      let folded = begun_folded s sound place page stands in
+      grind (arith, many, first_is, still_ahead, pages_stay before_it (begun s))
+
+  -- where so many visits would visit the page, fewer pages ahead come before it
+  pub stopped_fewer : {most : ℕ} (a : Ahead) → 1 ≤ most → EndsAt (ahead s) most a
+      → up_to (last_visited a) page ≡ true
+      → length (ahead_before page stopped.0) < most
+  stopped_fewer {most} (At last) some comes passes =
+      let order = ascending s sound (most - 1) place page in
+      grind (arith, many, stands, get_or_from_slice_get, slice_get_within (ahead s) place page stands)
+  stopped_fewer (End made) some comes passes = omega (arith, many, slice_get_within (ahead s) place page stands)
+
+-- as a pass begins nothing changes but which rows wait
+pub begins_still : (s : Stage) → IsStill s (pass_begun s.0, s.1)
+begins_still s = grind (arith, settled_twice)
+
+-- what changed only which rows wait changed no more once a pass begins
+pub begun_still : (b : BookState) (x : Deed) (new : Stage) → IsStill (b, x) new → IsStill (pass_begun b, x) new
+begun_still b x new still = grind (arith, settled_twice)

@@ -32,7 +32,6 @@ module _ {page : GuestPage} {old now : BookValue} {last : Option GuestPage} (h :
   -- the next page
   module _ (rise : InPageOrder old.state.rows) (at : GuestPage)
       (told : option_map (λ r. r.page) (find (is_next None last) now.state.rows) ≡ Some at) where
-    -- once that is so of it too, it is so up to there
     hiding_next : (w : BookValue) → view_of w ≡ with_rows (view_of now) (change_row at (hide page) now.state.rows)
         → Hides page old w (Some at)
     hiding_next w hides = record {

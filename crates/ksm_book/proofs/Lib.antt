@@ -25,7 +25,6 @@ pub mod Unshared
 pub mod Standing
 pub mod Promised
 pub mod Folded
-pub mod Scanned
 pub mod DuePasses
 pub mod Reached
 pub mod RowVisits

@@ -1,8 +1,6 @@
 -- What becomes of rows and dups that lie lawfully, where the note of one frame changes.
-use Rattle.ksm_book.proofs.Names.{All-weaker, ap, arith, DupFits, DupRow, FitsBase, frame_at, Frames, frames_of, GenerationFits, get_or-set_other, get_or-set_same, in_hand, IsServed, Ledger, length}
-use Rattle.ksm_book.proofs.Names.{length-set, List, None, Note, Option, PAGE_WORDS, Placed, Private, refl, Row, Shape, Some, uses, with_frame, ℕ, ◌+◌, ◌<◌, ◌≡◌, ◌≢◌, ◌≤◌, ◌⊎◌}
-use mathlib.Core.Logic.{dite}
-use native.Mathlib.Decide.{ℕ_discrete}
+use Rattle.ksm_book.proofs.Names.{All-weaker, arith, cases_eq, DupFits, DupRow, FitsBase, frame_at, Frames, frames_of, GenerationFits, get_or-set_other, get_or-set_same, in_hand, IsServed}
+use Rattle.ksm_book.proofs.Names.{Ledger, length, length-set, List, None, Note, Option, PAGE_WORDS, Placed, Private, Row, Shape, Some, uses, with_frame, ℕ, ◌+◌, ◌<◌, ◌≡◌, ◌≢◌, ◌≤◌, ◌⊎◌}
 use Rattle.ksm_book.proofs.ByPage.{uses_some}
 
 -- kind, content and generation are the same
@@ -44,19 +42,13 @@ module _ {sh : Shape} {across : ℕ} {k : Ledger} {rows : List Row} {frame : Fra
   ruleset notes = (at_it, at_other)
 
   module _ (hand' : Option ℕ) (n : Follows sh.last_generation (uses g frame rows) (in_hand g hand') old new) where
-    -- a frame that a dup's place names serves the dup still
     fits : (d : DupRow) → DupFits sh across k d → DupFits sh across next d
     fits d m = grind (arith, notes, n.life)
-
-    -- a frame on which a row lies is as it was
-    on : (f : ℕ) → (f ≡ g → 1 ≤ uses g frame rows) → Stays (frame_at next f) (frame_at k f)
-    on f used = dite (ℕ_discrete f g) (λ e. rw (e, at_it) (n.same (used e)))
-        (λ ne. rw (at_other f ne) (refl, refl, refl))
 
     served : (r : Row) (o : Option ℕ) → (o ≡ Some g → 1 ≤ uses g frame rows) → IsServed sh k dups r o
         → IsServed sh next dups r o
     served r None used h = h
-    served r (Some f) used h = let same = on f (λ e. used (ap Some e)) in grind arith
+    served r (Some f) used h = grind (arith, notes, cases_eq f g, n.same)
 
     -- rows and dups lie lawfully where one note follows the old one and no other frame comes into or leaves the hand
     pub noted : ((f : ℕ) → f ≢ g → in_hand f hand' ≡ in_hand f hand) → Placed sh across next rows frame dups hand'

@@ -96,7 +96,6 @@ module _ {p : PagesView} {k : KeeperView} {cursor : Option GuestPage} {passes : 
     abbrev dup : DupRow
     dup = told.0
 
-    -- what holds of all dups holds of this one, and what holds of all rows of its first item
     among : (P : DupRow → Type 0) → All P p.dups → P dup
     among P all = find_all _ P _ dup told.1 all
 

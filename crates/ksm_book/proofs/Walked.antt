@@ -4,10 +4,9 @@ use Rattle.ksm_book.proofs.Names.{cases_Bool, Comes, comes_before, Deed, false, 
 use Rattle.ksm_book.proofs.Names.{has_item, HasVisited, if◌then◌else◌, inl, inr, is_restless, IsSound, IsStill, List, mergeable_pages, nat_lt, None, not, one_before, Option, page_visited}
 use Rattle.ksm_book.proofs.Names.{pages_ahead, pairs_head, pairs_tail, Reached, refl, restless_at, same_page_eq, slice_get_within, Some, Stage, StaysStill, subst, suc, sym, take, take-suc, true}
 use Rattle.ksm_book.proofs.Names.{true≢false, up_to, [], ℕ, ◌&&◌, ◌*◌, ◌+◌, ◌-◌, ◌<◌, ◌^◌, ◌∙◌, ◌∷◌, ◌≡◌}
-use Rattle.ksm_book.proofs.Folded.{ascending_ahead, by_row, Goes, page_goes, still_on}
 use Rattle.ksm_book.proofs.Along.{Before, FitsPage, after_later, has_filter, place_of, place_splits}
 use Rattle.ksm_book.proofs.Reached.{Agree, agrees, comes_to}
-use Rattle.ksm_book.proofs.Scanned.{restless_mergeable}
+use Rattle.ksm_book.proofs.Folded.{ascending_ahead, by_row, Goes, page_goes, restless_mergeable, still_on}
 
 -- the visit of a page, with what it does beside
 abbrev pub Visit : Type 0
@@ -156,7 +155,6 @@ module _ {visit : Visit} (is : IsVisit visit) {last : Option GuestPage} {old mid
     before_it = agrees old (λ from deed there. sym (before visit reached mid.state (old.state, deed) pages rises
         (w.comes from _ there).0 page behind between))
 
-    -- with its visit the pages ahead up to it were visited
     step : Agree old (walked_to visit (Some page)) (λ s. visit (walked_to visit reached s) page)
     step = agrees old (λ from deed there. next visit reached mid.state (old.state, deed) pages rises
         (w.comes from _ there).0 page behind between (λ off. is.calm mid.state page (grind (arith, is_ahead))))

@@ -10,7 +10,7 @@ use Rattle.ksm_base.specs.State.{BookState}
 use Rattle.ksm_rmap.specs.Items.{has_item}
 use Rattle.ksm_book.specs.Commands.{Performs, row_visiting}
 use Rattle.ksm_book.specs.Whole.{BookValue, BookView, mapped, view_of}
-use Rattle.ksm_book.specs.Folded.{IsStill, Stage, begun, pages_ahead, pages_visited, visits_beside}
+use Rattle.ksm_book.specs.Folded.{IsStill, Stage, begun, pages_ahead, visits_beside}
 use Rattle.ksm_pages.specs.Ahead.{FindsNext, mergeable_pages, pages_between}
 use Rattle.ksm_pages.specs.declared.ahead.Ahead.{Ahead}
 use Rattle.ksm_pages.specs.declared.ahead.Ahead.TheVariants.{At, End}

@@ -1,5 +1,5 @@
 use Rattle.ksm_book.proofs.Names.{arith, pass_ended, pass_ended_at_last, ◌≡◌}
-use Rattle.ksm_book.proofs.Scanned.{nowhere_is}
+use Rattle.ksm_book.proofs.Folded.{nowhere_is}
 use Rattle.ksm_book.proofs.state.State.close_pass.Goals as goal
 
 pub returns-then-under_way-clause-comes : goal.returns-then-under_way-clause-comes

@@ -1,8 +1,7 @@
 use Rattle.ksm_book.proofs.Names.{arith, HasVisited, part_before, part_visited, pass_begun, Stops, sym, ◌∙◌}
 use Rattle.ksm_book.proofs.DueKept.{more_due}
-use Rattle.ksm_book.proofs.Folded.{still_on}
 use Rattle.ksm_book.proofs.Reached.{comes_own, comes_to}
-use Rattle.ksm_book.proofs.Scanned.{begins_still, begun_ahead}
+use Rattle.ksm_book.proofs.Folded.{begins_still, begun_ahead, still_on}
 use Rattle.ksm_book.proofs.state.State.visit_part.Goals as goal
 use Rattle.ksm_book.proofs.state.State.visit_part.Goals.{In_ok-quiet}
 
