@@ -7,8 +7,6 @@ use Rattle.ksm_book.proofs.Names.{one_of_each_page, Option, Row, row_at, same_pa
 pub same_frames : (f g : Frames) → ((page : GuestPage) → f page ≡ g page) → f ≡ g
 same_frames f g each = λ i page. each page i
 
--- ---------------------------------------------------------------- a page
-
 -- the row that is found at a page is of that page
 pub found_page : (page : GuestPage) (rows : List Row) (row : Row) → row_at page rows ≡ Some row → row.page ≡ page
 found_page page rows row found = same_page_eq _ _ (grind (arith, find_passes))
@@ -21,8 +19,6 @@ lies_again page o n frame = grind (arith, same_frames)
 pub lies_still : (page : GuestPage) (o : Option ℕ) (frame : Frames) → frame page ≡ o → lies_on page o frame ≡ frame
 lies_still page o frame there = grind (arith, same_frames)
 
--- ---------------------------------------------------------------- the rows
-
 -- of rows in page order, each row of a page is the one found at that page
 pub row_of_page : (page : GuestPage) (rows : List Row) (row : Row) → InPageOrder rows → row_at page rows ≡ Some row → All (λ r. same_page r.page page ≡ true → r ≡ row) rows
 row_of_page page rows row rise found =
@@ -34,8 +30,6 @@ pub all_changed_row : (P Q : Row → Type 0) (page : GuestPage) (c : Row → Row
     → ((r : Row) → same_page r.page page ≡ false → P r → Q r) → (P row → Q (c row)) → All Q (change_row page c rows)
 all_changed_row P Q page c rows row rise found all others here =
     All-map Q _ _ (grind (arith, row_of_page page rows row rise found))
-
--- ---------------------------------------------------------------- how many lie on a frame
 
 -- as many rows lie on a frame once they are changed, each on its page
 pub uses_mapped : (f : ℕ) (frame : Frames) (c : Row → Row) (rows : List Row) → ((r : Row) → (c r).page ≡ r.page) → uses f frame (map c rows) ≡ uses f frame rows

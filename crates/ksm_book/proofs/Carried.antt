@@ -15,14 +15,10 @@ use Rattle.ksm_book.proofs.Made.{made_none}
 use Rattle.ksm_book.proofs.Singles.{place_is}
 use Rattle.ksm_book.proofs.Shown.{each_does, GivesNone, lost, moved, none_left, provides_does, quiet_both, quiet_does, quiet_leaving, quiet_map, quiet_puts, resettles_does, unmerges_does}
 
--- ---------------------------------------------------------------- visits give no frame
-
 -- what visits do to the frames gives no frame
 pub quiet_scanning : (n : ℕ) (b : BookState) (frame : Frames) → GivesNone (scanning n b frame).steps
 quiet_scanning zero b frame = tt
 quiet_scanning (suc n) b frame = grind (arith, quiet_both, quiet_scanning n b frame, quiet_leaving)
-
--- ---------------------------------------------------------------- the frames that were given
 
 -- where no step was made, no frame was given
 idle_does : {v w : Mapped} → IsIdle v w → AllocatesOn v.keeper w.keeper []
@@ -66,8 +62,6 @@ frames_given v w _ (Ok Done) h = idle_does h
 frames_given v w _ (Ok (Scanned made stop)) h = idle_does h
 frames_given v w _ (Ok (Pruned count)) h = idle_does h
 frames_given v w _ _ h = idle_does h
-
--- ---------------------------------------------------------------- what the log shows of the answer
 
 shown_so : (v w : BookView) (command : Command) (answer : Answer) → IsAnswerOrMemory v.state command answer → TakesSteps v w command answer
     → HasShown v.state v.keeper w.keeper answer command

@@ -1,12 +1,10 @@
 -- Frames written, read, found and filled, and a dup's place that comes to name another frame.
 use Rattle.ksm_book.proofs.Names.{Add, added, ap, arith, blank, did, Dying, Finds, frame_at, frames_of, Free, get_or-set_other, get_or-set_same, HasNewFrame, holding, IsLawful, KeeperView, Keeps}
-use Rattle.ksm_book.proofs.Names.{Ledger, length, length-set, List, loads, MakesSteps, mounting, None, Note, Open, opened, PAGE_WORDS, Placed, Provides, Publish, puts, Raise, raised, refl, replicate}
-use Rattle.ksm_book.proofs.Names.{set-get_or, set-set, Shape, Some, stepped, suc, with_frame, with_more, zero, ℕ, ◌-◌, ◌<◌, ◌∙◌, ◌≡◌}
+use Rattle.ksm_book.proofs.Names.{Ledger, length, length-set, List, loads, MakesSteps, mounting, None, Note, Open, opened, PAGE_WORDS, Placed, Provides, puts, Raise, raised, refl, replicate}
+use Rattle.ksm_book.proofs.Names.{set-get_or, set-set, Shape, Some, stepped, suc, with_frame, with_more, zero, ℕ, ◌-◌, ◌<◌, ◌∙◌, ◌≡◌, dying_from, dying_kind, FindsNone, free_kind, NoneOf, true, ◌*◌, ◌+◌, ◌≤◌, ◌∷◌, []}
 use Rattle.ksm_book.proofs.Keeping.{searched_placed, searched_spends, spent_kept}
-use Rattle.ksm_book.proofs.Made.{first_made, made_one, made_part, made_then, none_made}
+use Rattle.ksm_book.proofs.Made.{first_made, made_one, made_part, made_then, none_made, made_none}
 use Rattle.ksm_book.proofs.Noted.{noted}
-
--- ---------------------------------------------------------------- one frame's note
 
 module _ (k : Ledger) (g : ℕ) (lt : g < length k.frames) where
   -- the frame has the note that it got
@@ -20,8 +18,6 @@ module _ (k : Ledger) (g : ℕ) (lt : g < length k.frames) where
   -- a change of the frame's note that follows another is one change by both
   pub follow : {l m : Ledger} (a : Note) (F : Note → Note) → m ≡ with_frame l g (F (frame_at l g)) → l ≡ with_frame k g a → m ≡ with_frame k g (F a)
   follow a F is was = grind (arith, again a F)
-
--- ---------------------------------------------------------------- a frame is found
 
 module _ {v w : KeeperView} {shape : Shape} {node g : ℕ} (same : shape ≡ v.table.shape) (less : node < shape.nodes) (l : IsLawful v None)
     (finds : Finds v w node g) where
@@ -41,8 +37,6 @@ module _ {v w : KeeperView} {shape : Shape} {node g : ℕ} (same : shape ≡ v.t
   pub raised_ready : {r : KeeperView} (n : ℕ) → r ≡ did w (Raise g) n
       → (g < length r.ledger.frames) × (frame_at r.ledger g ≡ raised (frame_at w.ledger g)) × (length (frame_at r.ledger g).content ≡ PAGE_WORDS)
   raised_ready n is = grind (arith, length-set, at_again, found_placed)
-
--- ---------------------------------------------------------------- a frame is taken
 
 module _ {v w : KeeperView} {shape : Shape} {node : ℕ} {bytes : List ℕ} {g : ℕ} (same : shape ≡ v.table.shape) (less : node < shape.nodes) (l : IsLawful v None)
     (long : length bytes ≡ PAGE_WORDS) (h : Provides v w node bytes g) where
@@ -64,8 +58,6 @@ module _ {v w : KeeperView} {shape : Shape} {node : ℕ} {bytes : List ℕ} {g :
       rw taken_ledger (noted q g (found_inside same less l h.finds) own _ (grind arith) (grind arith)) in
       grind (arith, found_inside same less l h.finds)
 
--- ---------------------------------------------------------------- a place comes to name another frame
-
 -- n references that came to a frame change its note alone
 pub adds_ledger : (n : ℕ) {v w : KeeperView} (f : ℕ) → f < length v.ledger.frames → MakesSteps v w (replicate n (Add f))
     → w.ledger ≡ with_frame v.ledger f (with_more (frame_at v.ledger f) n)
@@ -81,10 +73,35 @@ pub words_kept : (v w : KeeperView) (f g found : ℕ) → (frame_at v.ledger g).
     → (frame_at w.ledger f).content ≡ (frame_at v.ledger f).content
 words_kept v w f g found free dying is = grind (arith, get_or-set_other)
 
--- a frame is raised, words of another are loaded and stored there, it is opened, references come, and the place names it
-pub mounts : (v a b c d e w : KeeperView) (f g place count found opened' : ℕ) (bytes : List ℕ) → a ≡ did v (Raise g) found → b ≡ stepped a (loads f 0 bytes)
-    → c ≡ stepped b (puts g 0 bytes) → d ≡ did c (Open g) opened' → MakesSteps d e (replicate (count - 1) (Add g)) → w ≡ did e (Publish place g) 0 → MakesSteps v w (mounting f g place count bytes)
-mounts v a b c d e w f g place count found opened' bytes raises loads' stores opens adds shows =
+-- a frame is raised, words of another are loaded and stored there, it is opened, and references come
+pub mounts : (v a b c d e : KeeperView) (f g count found opened' : ℕ) (bytes : List ℕ) → a ≡ did v (Raise g) found → b ≡ stepped a (loads f 0 bytes)
+    → c ≡ stepped b (puts g 0 bytes) → d ≡ did c (Open g) opened' → MakesSteps d e (replicate (count - 1) (Add g)) → MakesSteps v e (mounting f g count bytes)
+mounts v a b c d e f g count found opened' bytes raises loads' stores opens adds =
     made_then (made_one v a _ _ raises)
-    (made_then (made_part a b _ loads')
-    (made_then (made_part b c _ stores) (made_then (made_one c d _ _ opens) (made_then adds (made_one e w _ 0 shows)))))
+    (made_then (made_part a b _ loads') (made_then (made_part b c _ stores) (made_then (made_one c d _ _ opens) adds)))
+
+-- where none of the first n frames is dying, the dying ones are those of the others
+passed : (k : Ledger) (low n total more : ℕ) → total ≡ n + more → NoneOf dying_kind k low (low + n) → dying_from k low total ≡ dying_from k (low + n) more
+passed k low zero total more sum none = grind arith
+passed k low (suc n) zero more sum none = absurd (omega arith)
+passed k low (suc n) (suc total) more sum none =
+    grind (arith, none low, passed k (low + 1) n total more (omega arith) (λ f ge lt. none f (omega arith) (omega arith)))
+
+-- where no frame of a range is dying, there are no dying ones
+pub none_dies : (k : Ledger) (from end : ℕ) → from ≤ end → NoneOf dying_kind k from end → dying_from k from (end - from) ≡ []
+none_dies k from end le none = passed k from (end - from) (end - from) 0 (omega arith) (λ f ge lt. none f ge (omega arith))
+
+-- the first dying frame of a range comes first among the dying ones
+pub next_dies : (k : Ledger) (from to end : ℕ) → from ≤ to → to < end → NoneOf dying_kind k from to → dying_kind (frame_at k to).kind ≡ true
+    → dying_from k from (end - from) ≡ to ∷ dying_from k (to + 1) (end - (to + 1))
+next_dies k from to end le lt none there =
+    let past = passed k from (to - from) (end - from) (suc (end - (to + 1))) (omega arith) (λ f ge lt. none f ge (omega arith)) in
+    let at : from + (to - from) ≡ to = omega arith in
+    grind arith
+
+-- a node without a free or dying frame is searched by no step, and in vain
+pub in_vain : (v : KeeperView) (node : ℕ) → let size = v.table.shape.frames_per_node in NoneOf free_kind v.ledger (node * size) (node * size + size)
+    → NoneOf dying_kind v.ledger (node * size) (node * size + size) → FindsNone v v node
+in_vain v node free dying =
+    let size = v.table.shape.frames_per_node in
+    record { reaped = grind (arith, made_none, passed v.ledger (node * size) size size 0 (omega arith) dying); none = free }

@@ -1,12 +1,10 @@
 -- The keeper's steps as changes of a placement, and the lives that they spend.
-use Rattle.ksm_book.proofs.Names.{Add, added, All, arith, blank, cases_eq, cases_lt, did, DupRow, dying_on, filter_passes, frame_at, Frames, frames_of, get_or, get_or-set_other, get_or-set_same}
+use Rattle.ksm_book.proofs.Names.{All, arith, blank, cases_eq, cases_lt, did, DupRow, dying_on, filter_passes, frame_at, Frames, frames_of, get_or, get_or-set_other, get_or-set_same}
 use Rattle.ksm_book.proofs.Names.{get_or_past, IfSome, KeeperView, Keeps, leaving, Ledger, length, length-set, List, MakesSteps, map, MayLeave, None, Note, Option, Placed, Reap, reaped, refl, Row}
-use Rattle.ksm_book.proofs.Names.{set, Shape, Some, spent, spent_on, Stable, suc, sum_by-set, with_frame, ℕ, [], ◌+◌, ◌<◌, ◌∷◌, ◌≡◌, ◌≤◌}
+use Rattle.ksm_book.proofs.Names.{set, Shape, Some, spent, spent_on, suc, sum_by-set, with_frame, ℕ, [], ◌+◌, ◌<◌, ◌∷◌, ◌≡◌, ◌≤◌}
 use Rattle.std.proofs.lemmas.List.{set_past}
 use Rattle.ksm_book.proofs.Made.{first_made, none_made, step_made}
 use Rattle.ksm_book.proofs.Noted.{noted}
-
--- ---------------------------------------------------------------- lives
 
 -- the lives spent, where one frame's note is another, differ by those of this frame
 pub spent_set : (k : Ledger) (g : ℕ) (fr : Note) → g < length k.frames → spent (with_frame k g fr) + spent_on (frame_at k g) ≡ spent k + spent_on fr
@@ -15,8 +13,6 @@ spent_set k g fr lt = sum_by-set _ _ g fr _ lt
 -- where a frame has spent no fewer lives, neither has the table
 pub spent_kept : (k : Ledger) (g : ℕ) (fr : Note) → spent_on (frame_at k g) ≤ spent_on fr → spent k ≤ spent (with_frame k g fr)
 spent_kept k g fr le = grind (arith, cases_lt, spent_set, set_past)
-
--- ---------------------------------------------------------------- a reference goes
 
 -- a frame with a reference is one that the keeper knows
 pub held_within : (k : Ledger) (f : ℕ) → 1 ≤ (frame_at k f).base → f < length k.frames
@@ -41,22 +37,10 @@ module _ {sh : Shape} {across : ℕ} {rows : List Row} {frame : Frames} {dups : 
   left_placed (Some g) m p =
       rw (step_made m).1 (noted p g (held_inside p).0 _ None (grind (arith, held_inside p)) (grind arith))
 
-  -- a reference came on a stable frame, and is in hand: rows and dups lie lawfully
-  pub added_placed : {v w : KeeperView} {g : ℕ} → MakesSteps v w (Add g ∷ []) → (frame_at v.ledger g).kind ≡ Stable
-      → g < frames_of sh → Placed sh across v.ledger rows frame dups None → Placed sh across w.ledger rows frame dups
-      (Some g)
-  added_placed {g = g} m stable inside p = rw (step_made m).1 (noted p g inside _ _ (grind arith) (grind arith))
-
 -- a reference given back ends no life
 pub left_spends : {v w : KeeperView} (o : Option ℕ) → MakesSteps v w (leaving o) → spent v.ledger ≤ spent w.ledger
 left_spends None m = grind (arith, m, none_made m)
 left_spends (Some g) m = grind (arith, step_made m, spent_kept)
-
--- a reference that came ends no life
-pub added_spends : {v w : KeeperView} {g : ℕ} → MakesSteps v w (Add g ∷ []) → spent v.ledger ≤ spent w.ledger
-added_spends {v} {w} {g} m = grind (arith, step_made m, spent_kept v.ledger g (added (frame_at v.ledger g)) (omega arith))
-
--- ---------------------------------------------------------------- frames are reaped
 
 -- a frame that the keeper knows, on which nothing is
 abbrev IsLeft : Ledger → ℕ → Type 0

@@ -1,11 +1,15 @@
 -- What becomes of pages that lie lawfully, where the keeper makes its steps.
 use Rattle.ksm_book.proofs.Names.{All, arith, blank, cases_lt, change_row, cond_both, default_knobs, DupRow, false, find_all, first_ledger, frame_at, Frames, get_or, get_or_past, GuestPage}
 use Rattle.ksm_book.proofs.Names.{HasNewFrame, Houses, inl, InPageOrder, IsLaid, IsServed, IsShape, KeeperView, Keeps, Knobs, Ledger, length-replicate, lies_on, List, map, None, nowhere, Option}
-use Rattle.ksm_book.proofs.Names.{PagesView, Placed, refl, Row, row_at, Shape, shared_state, Some, spent, subst, with_row, ℕ, [], ◌≡◌, ◌≤◌, ◌⊎◌}
+use Rattle.ksm_book.proofs.Names.{PagesView, Placed, refl, Row, row_at, Shape, shared_state, Some, spent, subst, with_row, ℕ, [], ◌≡◌, ◌≤◌, ◌⊎◌, ap, FindsNone, IfSome, IsKnown, leaving, MakesSteps}
+use Rattle.ksm_book.proofs.Names.{MayLeave, on_its_own, Provides, Resettled, TurnedAway}
 use Rattle.ksm_base.specs.declared.row.PageState.TheVariants.{Private as OwnPage}
-use Rattle.ksm_book.proofs.ByPage.{found_page, row_of_page}
+use Rattle.ksm_book.proofs.ByPage.{found_page, row_of_page, change_twice}
 use Rattle.std.proofs.lemmas.List.{get_or-replicate}
 use Rattle.ksm_book.proofs.Moves.{inserted, remapped, Serves, swapped}
+use Rattle.ksm_pages.specs.Paged.{relaid}
+use Rattle.ksm_book.proofs.Shown.{provides_does}
+use Rattle.ksm_book.proofs.Keeping.{left_placed, left_spends, may_leave, searched_placed, searched_spends}
 
 -- a row may stand in the stead of another on its frame: same home and bytes, and the same state, or neither is shared
 abbrev pub LodgesAs : Row → Row → Type 0
@@ -74,8 +78,6 @@ module _ {p : PagesView} {k : KeeperView} (h : IsLaid p k) where
 pub retuned : {p : PagesView} {tuned : Knobs} {k : KeeperView} → (tuned.merge_across_nodes ≡ p.knobs.merge_across_nodes) ⊎ (p.dups ≡ []) → IsLaid p k → IsLaid (record p { knobs = tuned }) k
 retuned either h = grind arith
 
--- ---------------------------------------------------------------- no rows
-
 pub first_note : (sh : Shape) (f : ℕ) → frame_at (first_ledger sh) f ≡ blank
 first_note sh f = grind (arith, get_or-replicate, get_or_past, length-replicate, cases_lt)
 
@@ -83,3 +85,41 @@ first_note sh f = grind (arith, get_or-replicate, get_or_past, length-replicate,
 pub first_laid : {sh : Shape} {k : KeeperView} → IsShape sh → k.table.shape ≡ sh → k.ledger ≡ first_ledger sh
     → IsLaid (record { shape = sh; rows = []; frame = nowhere; dups = []; knobs = default_knobs; next = 0 }) k
 first_laid {sh} is same first = grind (arith, length-replicate, first_note, get_or-replicate, get_or_past, cases_lt)
+
+module _ {p : PagesView} {k w : KeeperView} (h : IsLaid p k) (rise : InPageOrder p.rows) (page : GuestPage) (known : IsKnown page p.rows) {node : ℕ} {bytes : List ℕ} {g : ℕ}
+    (provides : Provides k w node bytes g) (taken : HasNewFrame k w node bytes g) where
+  -- the pages as they would be if the page got its frame alone
+  abbrev pub settled : PagesView
+  settled = record p { rows = change_row page on_its_own p.rows; frame = lies_on page (Some g) p.frame }
+
+  -- pages of which the row changed with the frame are those, of which the row changed then
+  pub settled_as : (change : Row → Row) → ((r : Row) → change (on_its_own r) ≡ change r) → {q : PagesView} → q ≡ relaid page change (Some g) p
+      → q ≡ record settled { rows = change_row page change settled.rows }
+  settled_as change alike goes =
+      rw (change_twice page on_its_own change change p.rows (λ x. refl) (λ i x lt at. alike (get_or p.rows i x))) goes
+
+  module _ (left : Option ℕ) (was : left ≡ p.frame page) where
+    -- once a page has a new frame in hand, the frame that it had, if it had one, may be left
+    pub may_left : IfSome left (MayLeave w)
+    may_left =
+        let change = λ (r : Row). record r { home = node; bytes = bytes; state = OwnPage } in
+        rw was (may_leave w (rw (provides_does provides).1.table h.same) _ (moved_there h.same taken h.placed page change rise (grind arith)))
+
+    -- a page that took a frame with its bytes on a node, and left the one that it had, is resettled there
+    pub resettled : (q : PagesView) (u : KeeperView) → q ≡ settled → MakesSteps w u (leaving left) → Resettled p q k u page node bytes
+    resettled q u goes made =
+        let leaves = subst (λ o. MakesSteps w u (leaving o)) was made in
+        let lies = ap (λ (x : PagesView). x.frame) goes in
+        record {
+          pages = grind arith;
+          resettles = grind arith;
+          placed = λ change by_this. rw lies (left_placed _ leaves (moved_there h.same taken h.placed page change rise by_this));
+          spent = omega (arith, left_spends _ leaves);
+        }
+
+-- where no frame of a node was found, pages that lie lawfully are turned away, and no page changed
+pub turned : {p : PagesView} {k w : KeeperView} {node : ℕ} → IsLaid p k → FindsNone k w node → TurnedAway p p k w node
+turned {k = k} {w} h none =
+    let placed = kept k h.same w _ (searched_placed _ none.reaped) h.placed in
+    let spends = searched_spends _ none.reaped in
+    grind arith

@@ -42,8 +42,6 @@ word_written (w ∷ ws) (c ∷ cs) zero same lt = refl
 word_written (w ∷ ws) (c ∷ cs) (suc i) same lt = grind (arith, word_written ws cs i)
 word_written ws cs i same lt = absurd (grind arith)
 
--- ---------------------------------------------------------------- steps, and no others
-
 -- where the keeper stays as it is, no step was made
 pub made_none : {v w : KeeperView} → w ≡ v → MakesSteps v w []
 made_none {v} e = grind (arith, append-nil)

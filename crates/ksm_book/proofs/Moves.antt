@@ -3,7 +3,7 @@ use Rattle.ksm_book.proofs.Names.{Agrees, All, All-filter, All-map, all_with_dup
 use Rattle.ksm_book.proofs.Names.{DupFits, DupRow, elsewhere, eq-eqb, false, filter, filter_passes, find_all, find_none, FitsBase, frame_at, Frames, frames_of, GenerationFits, get_or}
 use Rattle.ksm_book.proofs.Names.{get_or-set_other, get_or-set_same, GuestPage, holding, in_hand, inl, InPageOrder, inr, is_frame, IsInLife, IsServed, item_count, Ledger, length, length-set, lies_on}
 use Rattle.ksm_book.proofs.Names.{List, lt-ltb, map, Merged, merged_into, named_at, nat_lt, None, not, Note, Option, ordered_change, PAGE_WORDS, place_frame, Placed, Private, refl, Row, row_at}
-use Rattle.ksm_book.proofs.Names.{RowFits, same_page, same_page_refl, set, Shape, shared_state, shown, Some, Stable, stored, suc, sym, true, uses, with_dup, with_frame, with_row, without_page, Zero}
+use Rattle.ksm_book.proofs.Names.{RowFits, same_page, same_page_refl, set, Shape, shared_state, shown, Some, Stable, stored, suc, sym, uses, with_dup, with_frame, with_row, without_page, Zero}
 use Rattle.ksm_book.proofs.Names.{zero_state, ℕ, ◌+◌, ◌/◌, ◌<◌, ◌∙◌, ◌∷◌, ◌≡◌, ◌≢◌}
 use Rattle.ksm_book.proofs.Noted.{at_it, at_other, noted}
 use Rattle.ksm_book.proofs.ByPage.{all_changed_row, at_changed, change_twice, found_page, lies_again, lies_still, row_of_page, uses_changed, uses_come, uses_gone, uses_mapped, uses_some}
@@ -220,13 +220,6 @@ module _ {sh : Shape} {across : ℕ} {k : Ledger} {rows : List Row} {frame : Fra
     -- a dup without items has no Stable frame in the life that its place names
     pub stale_is_loose : item_count rows dup ≡ 0 → IsInLife k dup.place → ¬ ((frame_at k (place_frame k dup.place)).kind ≡ Stable)
     stale_is_loose none life stable = grind (arith, base_is_items life)
-
-  -- where a page joins an item with a reference in hand on the item's frame, its own frame comes into the hand
-  pub joined : (page : GuestPage) (row item : Row) (g : ℕ) (c : Row → Row) → InPageOrder rows → row_at page rows ≡ Some row → ((r : Row) → (c r).page ≡ r.page)
-      → Serves sh k dups item g → (c row).state ≡ item.state → (c row).bytes ≡ item.bytes → shared_state item.state ≡ true
-      → Placed sh across k rows frame dups (Some g) → Placed sh across k (change_row page c rows) (lies_on page (Some g) frame) dups (frame page)
-  joined page row item g c rise found keeps on_it state bytes merged p =
-      swapped _ c row rise found keeps p (grind arith)
 
   -- a place is emptied, and the dup that stood there goes
   module _ {hand : Option ℕ} (q : ℕ) (inside : q < frames_of sh) (p : Placed sh across k rows frame dups hand) where

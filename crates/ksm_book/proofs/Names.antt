@@ -62,16 +62,13 @@ pub use Rattle.ksm_book.specs.Due.{AreDue, comes_later, due_visited, due_visits,
 pub use Rattle.ksm_book.specs.Due.{takes_over, TakesOver, TellsDue, waits_on, with_rows}
 pub use Rattle.ksm_book.specs.Folded.{begun, IsStill, next_visited, page_visited, pages_ahead, pages_visited, restless_at, restless_row, row_done, Stage, visited, visits_beside}
 pub use Rattle.ksm_tree.specs.NumberSets.{has, Marks}
-pub use Rattle.ksm_book.specs.FrameSets.{AreSets, MayLeave}
-pub use Rattle.ksm_book.specs.Keeping.{HasNewFrame, holding, IsLawful, Keeps, NoneLeft, spent, spent_on, with_more}
-pub use Rattle.ksm_book.specs.Laid.{HasRemounted, Houses, IsLaid, lying, MayMove, Resettled, state_of, TurnedAway}
-pub use Rattle.ksm_book.specs.Mounted.{HasLost, HasMoved, MayMount, once_mounted}
+pub use Rattle.ksm_book.specs.Keeping.{AreSets, MayLeave, HasNewFrame, holding, IsLawful, Keeps, NoneLeft, spent, spent_on, with_more, HasLost, HasMoved, MayMount, once_mounted}
+pub use Rattle.ksm_book.specs.Laid.{HasRemounted, Houses, IsLaid, lying, MayMove, Resettled, state_of, TurnedAway, HasLeft, is_shared_of, left_by, MayNotLeave, Unshares}
 pub use Rattle.ksm_book.specs.Placement.{Agrees, DupFits, FitsBase, in_hand, is_frame, IsInLife, IsServed, life_or, node_of, place_frame, Placed, RowFits, uses}
 pub use Rattle.ksm_book.specs.Promised.{dup_frames, FindsPlace, is_in_use, IsOutlived, LieOn, own_frames, StandsOn}
 pub use Rattle.ksm_book.specs.Scanned.{ahead_before, ahead_up_to, Comes, FindsStill, FindsUpTo, HasVisited, is_nowhere, is_quiet, last_visited, passes_ended, Reached, StaysStill, Stops, up_to, VisitsPage}
 pub use Rattle.ksm_book.specs.Steps.{Allocates, AllocatesOn, along, dying_from, dying_kind, dying_on, free_kind, given_by, Gives, IsLowestFree, loads, Log, MakesSteps, needed_after, puts}
 pub use Rattle.ksm_book.specs.Steps.{NoneOf, replayed, stepped, steps_of}
-pub use Rattle.ksm_book.specs.Unmerged.{HasLeft, is_shared_of, left_by, MayNotLeave, Unshares}
 pub use Rattle.ksm_book.specs.Whole.{BookValue, BookView, HasShown, listed, mapped, nodes_got, view_of}
 pub use Rattle.ksm_book.specs.Worked.{apart, page}
 pub use Rattle.ksm_pages.proofs.Found.{find_changed, find_changed_other, find_put}

@@ -8,8 +8,7 @@ use Rattle.ksm_book.proofs.Names.{shared_state, Some, Stable, StandsOn, subst, s
 use Rattle.ksm_base.proofs.Changes.{contains_filter}
 use Rattle.ksm_base.proofs.Edits.{count_filter_le}
 use Rattle.ksm_book.proofs.Moves.{base_is_items, stale_is_loose}
-use Rattle.ksm_book.proofs.Standing.{empty_from_most, frames_apart, Lives, lives}
-use Rattle.ksm_book.proofs.Sharing.{first_found}
+use Rattle.ksm_book.proofs.Sharing.{empty_from_most, frames_apart, Lives, lives, first_found}
 use Rattle.ksm_book.proofs.Pruning.{none_stale}
 
 -- what passes a test is among those that pass, and so is what is made of it

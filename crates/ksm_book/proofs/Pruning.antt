@@ -1,12 +1,12 @@
 -- Stale dups go one by one.
-use Rattle.ksm_book.proofs.Names.{All, ap, append-nil, append_assoc, arith, count_by, count_by-le-length, did, DupRow, elsewhere, eqb-true, filter, filter_all, filter_none, find, find_all, find_none}
-use Rattle.ksm_book.proofs.Names.{find_passes, frames_at_most, frames_of, has_items, InPlaceOrder, is_stale, IsLaid, IsVacant, KeeperView, length, length-append, length-filter, List, lying}
-use Rattle.ksm_book.proofs.Names.{MakesSteps, map, map-append, May, None, one_of_each_place, option_map, ordered_filter, PagesView, pairs_tail, Performs, pruning, Row, Some, suc, true, Withdraw, ℕ}
-use Rattle.ksm_book.proofs.Names.{[], ◌++◌, ◌+◌, ◌<◌, ◌==◌, ◌^◌, ◌∷◌, ◌≡◌, ◌≤◌}
+use Rattle.ksm_book.proofs.Names.{All, ap, arith, count_by, count_none, count_by-le-length, did, DupRow, elsewhere, eqb-true, filter, filter_all, filter_none, find, find_all, find_none}
+use Rattle.ksm_book.proofs.Names.{find_passes, frames_at_most, frames_of, has_items, InPlaceOrder, is_stale, IsLaid, IsVacant, KeeperView, length, length-filter, List, lying}
+use Rattle.ksm_book.proofs.Names.{MakesSteps, May, None, one_of_each_place, option_map, ordered_filter, PagesView, pairs_tail, Performs, pruning, Row, Some, suc, true, Withdraw, ℕ}
+use Rattle.ksm_book.proofs.Names.{[], ◌+◌, ◌<◌, ◌==◌, ◌^◌, ◌∷◌, ◌≡◌, ◌≤◌}
 use Rattle.std.proofs.lemmas.Bool.{eq-eqb}
 use Rattle.ksm_base.proofs.Orders.{Lower}
 use Rattle.ksm_book.proofs.Sharing.{inside_of, laid_cleared, vacant_loose}
-use Rattle.ksm_book.proofs.Made.{made_one, made_then}
+use Rattle.ksm_book.proofs.Made.{made_none, made_one, made_then}
 
 -- where no stale dup is found, all dups have items
 pub none_stale : (rows : List Row) (dups : List DupRow) → find (is_stale rows) dups ≡ None → filter (has_items rows) dups ≡ dups
@@ -35,14 +35,13 @@ pub record Drops (p q : PagesView) (k l : KeeperView) (count : ℕ) : Type 0 whe
   pub pages : q ≡ record p { dups = q.dups }
   -- the dups with items are those that there were
   pub live : filter (has_items p.rows) q.dups ≡ filter (has_items p.rows) p.dups
-  -- the stale dups that went
-  pub gone : List DupRow
-  -- those that were stale at first are those that went and those still stale
-  pub all : filter (is_stale p.rows) p.dups ≡ gone ++ filter (is_stale p.rows) q.dups
-  -- the count is that of those that went
-  pub many : count ≡ length gone
-  -- their places were withdrawn, in their order
-  pub made : MakesSteps k l (map (λ d. Withdraw d.place) gone)
+  -- the stale dups are those that went and those still stale
+  pub counted : count + count_by (is_stale p.rows) q.dups ≡ count_by (is_stale p.rows) p.dups
+  -- the keeper is of the same table
+  pub own : l.table ≡ k.table
+  -- once the places of those still stale are withdrawn, those of all are, in their order
+  pub made : (w : KeeperView) → MakesSteps l w (pruning p.rows q.dups p.frame).steps
+      → MakesSteps k w (pruning p.rows p.dups p.frame).steps
   -- now the dups are in the order of their places
   pub rise : InPlaceOrder q.dups
   -- now rows and dups lie lawfully
@@ -87,18 +86,16 @@ module _ {p q : PagesView} {k l : KeeperView} {count : ℕ} (h : Drops p q k l c
   pub drop_few : InPlaceOrder p.dups → IsLaid p k → count + 1 < 2 ^ 64
   drop_few first before =
       let frames = few_from 0 _ _ (omega arith) first (λ n d lt. (omega arith, (before.placed.each_dup n d lt).place)) in
-      let all = simp (length-filter, length-append) at (ap length h.all) in
-      omega (arith, count_by-le-length (is_stale p.rows) p.dups, frames_at_most p.shape before.small)
+      omega (arith, h.counted, drop_fewer, count_by-le-length (is_stale p.rows) p.dups, frames_at_most p.shape before.small)
 
   -- where the place of the first stale dup is withdrawn and that dup goes, one stale dup more went
   pub drops_more : (q' : PagesView) (l' : KeeperView) → l' ≡ did l (Withdraw place) 0 → q' ≡ record q { dups = filter (elsewhere place) q.dups } → Drops p q' k l' (count + 1)
   drops_more q' l' is goes = record {
     pages = grind (arith, h.pages);
     live = grind (arith, h.live, live);
-    gone = h.gone ++ stale.0 ∷ [];
-    all = grind (arith, next, append_assoc);
-    many = grind (arith, length-append);
-    made = grind (arith, map-append (λ (d : DupRow). Withdraw d.place) h.gone (stale.0 ∷ []), made_then, made_one);
+    counted = grind (arith, h.counted, drop_fewer);
+    own = rw is h.own;
+    made = λ w m. h.made w (rw (next, stale.2) (made_then (made_one l l' _ 0 is) (rw goes at m)));
     rise = rw goes (ordered_filter _ _ h.rise);
     laid = rw goes (laid_cleared l' h.laid inside (rw is) (rw is));
   }
@@ -113,5 +110,8 @@ module _ {p q : PagesView} {k l : KeeperView} {count : ℕ} (h : Drops p q k l c
   pub dropped : (q ≡ record p { dups = filter (has_items p.rows) p.dups }) × (count ≡ count_by (is_stale p.rows) p.dups)
       × Performs (lying p k) (lying q l) (pruning p.rows p.dups p.frame)
   dropped =
-      let gone = filter_none (is_stale p.rows) q.dups (find_none (is_stale p.rows) q.dups none) in
-      grind (arith, none_stale p.rows q.dups none, length-filter, append-nil)
+      let each = find_none (is_stale p.rows) q.dups none in
+      let gone = filter_none (is_stale p.rows) q.dups each in
+      let made = h.made l (grind (arith, gone, made_none)) in
+      let counted = count_none (is_stale p.rows) q.dups each in
+      grind (arith, h.counted, none_stale p.rows q.dups none)

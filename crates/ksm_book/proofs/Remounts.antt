@@ -9,7 +9,7 @@ use Rattle.ksm_book.proofs.Filling.{at_again}
 use Rattle.ksm_book.proofs.Keeping.{searched_placed, searched_spends, spent_kept}
 use Rattle.ksm_book.proofs.Laying.{kept}
 use Rattle.ksm_book.proofs.Moves.{base_is_items, lies_as_item, Serves}
-use Rattle.ksm_book.proofs.Standing.{Lives, lives}
+use Rattle.ksm_book.proofs.Sharing.{Lives, lives}
 use mathlib.Core.Logic.{dite}
 use native.Mathlib.Decide.{ℕ_discrete}
 
@@ -85,8 +85,6 @@ module _ {sh : Shape} {across : ℕ} {k : Ledger} {rows : List Row} {frame : Fra
       kinds = grind (arith, notes);
       empty = grind (arith, named_off);
     }
-
--- ---------------------------------------------------------------- the dup that is to move
 
 -- a dup may move to a frame of the node, each item of a dup at its place lies on frame g, and a page without a row on none
 module _ {v : PagesView} {k : KeeperView} {dup : DupRow} {node g : ℕ} (may : MayMove v k dup node)
@@ -204,7 +202,8 @@ module _ {v : PagesView} {k : KeeperView} {dup : DupRow} {node g : ℕ} (may : M
 
         -- and the dup stands on the new frame
         module _ {x : KeeperView} {items : ℕ} (items_are : items ≡ n.base)
-            (does : MakesSteps u x (mounting g f dup.place items (frame_at u.ledger g).content))
+            (does : (before : KeeperView) × MakesSteps u before (mounting g f items (frame_at u.ledger g).content)
+            × (x ≡ did before (Publish dup.place f) 0))
             (knows : x.ledger ≡ once_mounted u.ledger g f dup.place items)
             (q : PagesView) (goes : q ≡ record v { frame = items_on dup.number f v.rows v.frame }) where
           ledger_is : x.ledger ≡ next p dup among g f on_frame
@@ -220,8 +219,8 @@ module _ {v : PagesView} {k : KeeperView} {dup : DupRow} {node g : ℕ} (may : M
           })
 
           -- once the new frame is mounted and the items lie there, the dup has moved to a frame of the node
-          pub has_remounted : (before : KeeperView) × (x ≡ did before (Publish dup.place f) 0) → HasRemounted v q k x dup node (Ok Done)
-          has_remounted shows = grind (arith, laid_moved_dup, item_lies, known, may_mount, base, at_g, goes, items_go f)
+          pub has_remounted : HasRemounted v q k x dup node (Ok Done)
+          has_remounted = grind (arith, laid_moved_dup, item_lies, known, may_mount, base, at_g, goes, items_go f)
 
 -- where a dup is to move from a place, a dup stands at that place
 pub taken_place : {v : PagesView} {k : KeeperView} {dup : DupRow} {node : ℕ} → MayMove v k dup node

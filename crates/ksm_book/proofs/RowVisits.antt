@@ -9,9 +9,8 @@ use Rattle.ksm_book.proofs.ByPage.{found_page, row_of_page}
 use Rattle.ksm_book.proofs.Keeping.{left_placed, left_spends, may_leave}
 use Rattle.ksm_book.proofs.Made.{made_one, made_then}
 use Rattle.ksm_book.proofs.Moves.{swapped}
-use Rattle.ksm_book.proofs.Sharing.{laid_joined, may_join as join_may, may_part, state_of_item}
+use Rattle.ksm_book.proofs.Sharing.{laid_joined, may_join as join_may, may_part, state_of_item, Lives, lives}
 use Rattle.ksm_book.proofs.Singles.{book}
-use Rattle.ksm_book.proofs.Standing.{Lives, lives}
 use Rattle.ksm_pages.specs.declared.pages.Find.TheVariants as finds
 use Rattle.ksm_base.specs.declared.row.PageState.TheVariants.{Private}
 use Rattle.ksm_book.proofs.Folded.{then_idle}

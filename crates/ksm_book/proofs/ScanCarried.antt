@@ -8,8 +8,6 @@ use Rattle.ksm_book.proofs.Reached.{begins, first}
 pub some_pages : (rows : List Row) → length (mergeable_pages rows) ≡ mergeable_count rows
 some_pages rows = length-map (filter (λ (r : Row). r.mergeable) rows) (λ (r : Row). r.page) ∙ length-filter (λ (r : Row). r.mergeable) rows
 
--- ---------------------------------------------------------------- the scan
-
 -- where there are pages to visit, some row is mergeable
 pub any_some : (rows : List Row) → 1 ≤ length (mergeable_pages rows) → list_any (λ r. r.mergeable) rows ≡ true
 any_some [] some = absurd (omega arith)

@@ -1,14 +1,16 @@
 -- What becomes of the layout where rows change together, join a dup, or make or lose one.
 use Rattle.frame_core.specs.Ledger.{named_anew}
 use Rattle.ksm_base.specs.declared.limits.TheConstants.{MOST_FRAMES, MOST_LIVES, MOST_REFERENCES}
-use Rattle.ksm_book.proofs.Names.{Add, All, All-filter, ap, arith, blank, Bool, change_row, Contains, count_by, count_none, did, DupRow, elsewhere, eq-eqb, false, filter, filter_passes, find}
+use Rattle.ksm_book.proofs.Names.{Add, added, All, All-filter, ap, arith, blank, Bool, change_row, Contains, count_by, count_none, did, DupRow, elsewhere, eq-eqb, false, filter, filter_passes, find}
 use Rattle.ksm_book.proofs.Names.{find_all, find_none, find_passes, frame_at, Frames, frames_of, get_or-set_same, get_or_default, GuestPage, IfSome, if◌then◌else◌, InPageOrder, IsInLife, IsLaid}
-use Rattle.ksm_book.proofs.Names.{IsLoose, IsVacant, item_count, KeeperView, leaving, Ledger, length, lies_on, List, list_any, MakesSteps, May, MayLeave, Merged, merged_into}
-use Rattle.ksm_book.proofs.Names.{merged_state, named_at, None, none_found, Note, Option, PageState, PagesView, place_frame, Placed, Private, Publish, refl, Row, row_at, RowFits, set-get_or}
-use Rattle.ksm_book.proofs.Names.{Shape, shared_state, Some, spent, spent_on, Stable, suc, sum_by-le, sym, true, with_dup, Withdraw, withdrawing, ℕ, [], ◌*◌, ◌+◌, ◌-◌, ◌<◌, ◌==◌, ◌∙◌, ◌∷◌, ◌≡◌, ◌≤◌}
-use Rattle.ksm_book.proofs.Moves.{base_is_items, emptied, joined, published, Serves, stale_is_loose, withdrawn}
+use Rattle.ksm_book.proofs.Names.{IsLoose, IsVacant, item_count, KeeperView, leaving, Ledger, length, lies_on, List, list_any, MakesSteps, May, MayLeave, Merged, merged_into, merged_state, named_at}
+use Rattle.ksm_book.proofs.Names.{None, none_found, Note, Option, PageState, PagesView, place_frame, Placed, Private, Publish, refl, Row, row_at, RowFits, set-get_or, Shape, shared_state, Some, spent}
+use Rattle.ksm_book.proofs.Names.{spent_on, Stable, suc, sum_by-le, sym, true, with_dup, Withdraw, withdrawing, ℕ, [], ◌*◌, ◌+◌, ◌-◌, ◌<◌, ◌==◌, ◌∙◌, ◌∷◌, ◌≡◌, ◌≤◌, empty_from, get_or, InPlaceOrder}
+use Rattle.ksm_book.proofs.Names.{IsServed, ◌≢◌}
+use Rattle.ksm_book.proofs.Moves.{base_is_items, emptied, framed, published, Serves, stale_is_loose, swapped, withdrawn}
 use Rattle.ksm_book.proofs.Laying.{laid_rows, serves_at}
-use Rattle.ksm_book.proofs.Keeping.{added_placed, added_spends, left_placed, left_spends, may_leave, spent_set}
+use Rattle.ksm_book.proofs.Keeping.{left_placed, left_spends, may_leave, spent_kept, spent_set}
+use Rattle.ksm_book.proofs.Noted.{noted}
 use Rattle.ksm_book.proofs.Made.{none_made, parts_made, step_made}
 
 -- the state of an item of a dup is Merged with the dup's number
@@ -43,8 +45,9 @@ module _ {p : PagesView} {k : KeeperView} (h : IsLaid p k) (rise : InPageOrder p
     joined_hand : (w : KeeperView) → MakesSteps k w (Add g ∷ []) → Placed p.shape across w.ledger (change_row page c p.rows)
         (lies_on page (Some g) p.frame) p.dups (p.frame page)
     joined_hand w comes =
-        let q = added_placed comes (grind (arith, item_fits)) item_fits.0.frame h.placed in
-        joined _ row _ g c rise found keeps (serves_at q found_item there) state bytes (grind arith) q
+        let q : Placed p.shape across w.ledger p.rows p.frame p.dups (Some g) = rw (step_made comes).1
+        (noted h.placed g item_fits.0.frame _ (Some g) (grind (arith, item_fits)) (grind arith)) in
+        swapped (Some g) c row rise found keeps q (grind (arith, serves_at q found_item there))
 
     -- once a reference came to the item's frame, the frame of the page that joins, if it has one, may be left
     pub may_part : (w : KeeperView) → MakesSteps k w (Add g ∷ []) → IfSome (p.frame page) (MayLeave w)
@@ -55,7 +58,8 @@ module _ {p : PagesView} {k : KeeperView} (h : IsLaid p k) (rise : InPageOrder p
         → IsLaid (record p { rows = change_row page c p.rows; frame = lies_on page (Some g) p.frame }) u
     laid_joined u m =
         let parts = parts_made _ _ m in
-        laid_rows h u (rw m.after) (omega (arith, added_spends parts.1, left_spends _ parts.2))
+        let more = spent_kept k.ledger g (added (frame_at k.ledger g)) (omega arith) in
+        laid_rows h u (rw m.after) (grind (arith, step_made parts.1, left_spends _ parts.2))
         (left_placed _ parts.2 (joined_hand _ parts.1))
 
 -- a place where no dup with items stands names no frame that is Stable in the life named
@@ -151,3 +155,41 @@ module _ {p : PagesView} {k : KeeperView} (h : IsLaid p k) (rise : InPageOrder p
       (grind (arith, filter_passes, eq-eqb)) in
       let ledger : w.ledger ≡ named_anew (emptied k.ledger d.place) d.place f = grind arith in
       grind (arith, with_elsewhere, own, fits, spent_set)
+
+-- a dup with items: an item lies on the frame that its place names, which is stable in the life named
+pub record Lives (k : Ledger) (dups : List DupRow) (sh : Shape) (rows : List Row) (frame : Frames) (d : DupRow) : Type 0 where
+  -- the first item of the dup
+  pub item : Row
+  -- it is found as the first
+  pub first : find (λ r. merged_into d.number r.state) rows ≡ Some item
+  -- the item is served by its frame
+  pub served : IsServed sh k dups item (frame item.page)
+  -- the item is merged into the dup
+  pub merged : merged_into d.number item.state ≡ true
+  -- the item lies on the frame that the dup's place names
+  pub lies : frame item.page ≡ Some (place_frame k d.place)
+  -- the frame that the dup's place names is in the life named
+  pub life : IsInLife k d.place
+  -- the frame that the dup's place names is Stable
+  pub kind : (frame_at k (place_frame k d.place)).kind ≡ Stable
+
+module _ {sh : Shape} {across : ℕ} {k : Ledger} {rows : List Row} {frame : Frames} {dups : List DupRow} (p : Placed sh across k rows frame dups None) where
+  -- a dup with items has one on the frame that its place names, in the life that it names
+  pub lives : (n : ℕ) (d : DupRow) → n < length dups → (item_count rows (get_or dups n d) ≡ 0 → ⊥) → Lives k dups sh rows frame (get_or dups n d)
+  lives n d lt some =
+      let e = get_or dups n d in
+      let first = first_found (λ r. merged_into e.number r.state) rows (omega arith) in
+      let row = first.0 in
+      let into = find_passes (λ r. merged_into e.number r.state) rows row first.1 in
+      let served = find_all _ (λ r. IsServed sh k dups r (frame r.page)) _ row first.1 p.each_row in
+      grind (arith, framed, state_of_item)
+
+  -- two dups with items stand on frames that differ, where the dups are in the order of their places
+  pub frames_apart : InPlaceOrder dups → (n m : ℕ) (d : DupRow) → n < m → m < length dups → Lives k dups sh rows frame (get_or dups n d) → Lives k dups sh rows frame (get_or dups m d)
+      → place_frame k (get_or dups n d).place ≢ place_frame k (get_or dups m d).place
+  frames_apart rise n m d before lt a b same = grind arith
+
+-- from p on there are at most as many places taken as dups
+pub empty_from_most : (p : ℕ) (dups : List DupRow) → empty_from p dups ≤ p + length dups
+empty_from_most p [] = omega arith
+empty_from_most p (d ∷ ds) = grind (arith, empty_from_most (p + 1) ds)

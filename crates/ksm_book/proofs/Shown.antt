@@ -1,12 +1,14 @@
 -- The frames that steps give, and what the log shows of a frame that was not found, of one in use, and of a dup that moved.
-use Rattle.ksm_book.proofs.Names.{Add, Allocates, AllocatesOn, ap, append-nil, append_cancel_left, arith, blank, Bool, cases_Bool, cond, Contains, Contains-append_right, Contains-push, count_in, did}
-use Rattle.ksm_book.proofs.Names.{drop, dup_frame, DupRow, Dying, dying_kind, dying_on, false, Fault, FindsHeld, FindsNone, frame_at, free_kind, Freeze, frozen, get_or, get_or-range_with_len}
-use Rattle.ksm_book.proofs.Names.{get_or-set_other, get_or-set_same, get_or_past, given_by, Gives, GuestPage, HasLost, HasMoved, inl, inr, IsLowestFree, item_count, KeeperStep, KeeperView, leaving}
-use Rattle.ksm_book.proofs.Names.{Ledger, ledger_after, length, length-append, length-range_with_len, length-set, List, loads, Log, MakesSteps, map, Mapped, Moves, NoFrame, None, NoneLeft, Note}
-use Rattle.ksm_book.proofs.Names.{Open, Option, Provides, Publish, puts, Raise, Reap, reaped, refl, replicate, Resettles, ResettlesEach, Row, set, Shape, Some, Stable, stepped, steps_of, subst, suc}
-use Rattle.ksm_book.proofs.Names.{sym, UnmergesTo, with_frame, zero, ℕ, [], ◌*◌, ◌++◌, ◌+◌, ◌-◌, ◌<◌, ◌==◌, ◌∙◌, ◌∷◌, ◌≡◌, ◌≢◌, ◌≤◌}
+use Rattle.ksm_book.proofs.Names.{Add, Allocates, AllocatesOn, append-nil, arith, blank, Bool, cond, Contains, Contains-append_right, Contains-push, count_in}
+use Rattle.ksm_book.proofs.Names.{dup_frame, DupRow, Dying, dying_on, false, Fault, FindsHeld, FindsNone, frame_at, free_kind, Freeze, frozen, get_or, get_or-range_with_len}
+use Rattle.ksm_book.proofs.Names.{get_or-set_other, get_or-set_same, get_or_past, given_by, Gives, GuestPage, HasLost, HasMoved, IsLowestFree, KeeperStep, KeeperView, leaving}
+use Rattle.ksm_book.proofs.Names.{Ledger, ledger_after, length-range_with_len, length-set, List, loads, Log, MakesSteps, map, Mapped, Moves, NoFrame, None, NoneLeft, Note}
+use Rattle.ksm_book.proofs.Names.{Option, Provides, Publish, puts, Raise, Reap, refl, replicate, Resettles, ResettlesEach, Row, set, Shape, Some, Stable, stepped, steps_of, subst, suc}
+use Rattle.ksm_book.proofs.Names.{sym, UnmergesTo, with_frame, zero, ℕ, [], ◌*◌, ◌++◌, ◌+◌, ◌-◌, ◌<◌, ◌==◌, ◌∷◌, ◌≡◌, ◌≢◌, ◌≤◌}
+use Rattle.ksm_book.proofs.Names.{cases_eq, cases_lt, replayed, Contains-append_right}
+use Rattle.std.proofs.lemmas.List.{set_past}
 use Rattle.ksm_book.proofs.Keeping.{set_holds}
-use Rattle.ksm_book.proofs.Made.{chained, first_made, made_none, made_then, none_made, step_made, stepped_then}
+use Rattle.ksm_book.proofs.Made.{chained, first_made, made_none, step_made}
 use Rattle.ksm_base.proofs.Changes.{contains_filter}
 
 -- none of these steps gives a frame
@@ -66,10 +68,12 @@ pub does_then : {u v w : KeeperView} {ms ns : List ℕ} → AllocatesOn u v ms �
 does_then a b = (a.0 ++ b.0, chained a.1 b.1)
 
 -- the lowest free frame of a node was raised, and no other was given
-pub raised_does : {v w : KeeperView} {g node : ℕ} {steps : List KeeperStep} → IsLowestFree v.table.shape v.ledger node g → MakesSteps v w (Raise g ∷ steps) → GivesNone steps → AllocatesOn v w (node ∷ [])
-raised_does {v} {g = g} {node} lowest m quiet =
+raised_did : {v w : KeeperView} {g node : ℕ} {steps : List KeeperStep} → IsLowestFree v.table.shape v.ledger node g → MakesSteps v w (Raise g ∷ steps) → GivesNone steps
+    → (found : ℕ) × (part : Log) × Allocates v w (node ∷ []) ((Raise g, found) ∷ part)
+raised_did {v} {g = g} {node} lowest m quiet =
     let first = first_made m in
-    does_then {ms = node ∷ []} ((Raise g, first.0) ∷ [], grind arith) (quiet_does first.1 quiet)
+    let rest = quiet_does first.1 quiet in
+    (first.0, rest.0, chained {ms = node ∷ []} {xs = (Raise g, first.0) ∷ []} (grind arith) rest.1)
 
 -- a keeper that reaped the dying frames of a node gave no frame
 pub searched_does : {v w : KeeperView} (node : ℕ) → MakesSteps v w (map Reap (dying_on v.table.shape v.ledger node)) → AllocatesOn v w []
@@ -81,7 +85,8 @@ provides_does {node = node} {bytes} {g} h =
     let searched = searched_does _ h.finds.reaped in
     let lowest : IsLowestFree h.searched.table.shape h.searched.ledger node g =
     grind (arith, searched.1.table, h.finds.lowest) in
-    does_then searched (raised_does lowest h.fills (grind (arith, quiet_both, quiet_puts)))
+    let raise = raised_did lowest h.fills (grind (arith, quiet_both, quiet_puts)) in
+    does_then searched (_, raise.2)
 
 -- a page that was resettled was given one frame, on the node asked for
 pub resettles_does : {v w : Mapped} {page : GuestPage} {node : ℕ} {bytes : List ℕ} → Resettles v w page node bytes → AllocatesOn v.keeper w.keeper (node ∷ [])
@@ -92,49 +97,33 @@ pub each_does : (rows : List Row) (v w : Mapped) → ResettlesEach rows v w → 
 each_does [] v w h = quiet_does (made_none h.keeper) tt
 each_does (r ∷ rows) v w h = does_then (resettles_does h.1) (each_does rows h.0 w h.2)
 
--- ---------------------------------------------------------------- what the log shows
-
 -- a note that was put at a frame is there, if the keeper knows the frame
 set_here : (P : Note → Type 0) (xs : List Note) (i : ℕ) (y : Note) → P y → P blank → P (get_or (set xs i y) i blank)
 set_here P xs i y new none = grind (arith, get_or-set_same, get_or_past, length-set)
 
--- ---------------------------------------------------------------- no frame was found
+-- a frame that is dying once a frame was reaped was dying before, and a count above zero was found if it is that frame
+dies_still : (sh : Shape) (k : Ledger) (g n f : ℕ) → (frame_at (ledger_after sh k (Reap g) n) f).kind ≡ Dying → ((frame_at k f).kind ≡ Dying) × (f ≡ g → 1 ≤ count_in n)
+dies_still sh k g n f still = grind (arith, cases_eq, cases_lt, set_past, get_or-set_same, get_or-set_other, get_or_past)
 
--- a frame that is not dying does not become so where frames are reaped
-lives_on : (fs : List ℕ) (v w : KeeperView) (f : ℕ) → MakesSteps v w (map Reap fs) → ¬ ((frame_at v.ledger f).kind ≡ Dying) → ¬ ((frame_at w.ledger f).kind ≡ Dying)
-lives_on [] v w f m alive = rw (none_made m) alive
-lives_on (g ∷ fs) v w f m alive =
-    let first = first_made m in
-    let note = reaped v.table.shape.last_generation (frame_at v.ledger g) in
-    lives_on fs (did v (Reap g) first.0) w f first.1
-    (grind (arith, set_holds (λ x. ¬ (x.kind ≡ Dying)) v.ledger.frames g f note (grind arith) alive))
+-- a frame that is dying once frames were reaped was dying before
+was_dying : (sh : Shape) (k : Ledger) (fs : List ℕ) (part : Log) (f : ℕ) → steps_of part ≡ map Reap fs → (frame_at (replayed sh k part) f).kind ≡ Dying → (frame_at k f).kind ≡ Dying
+was_dying sh k fs [] f are still = still
+was_dying sh k [] (s ∷ part) f are still = absurd (grind arith)
+was_dying sh k (g ∷ fs) (s ∷ part) f are still =
+    (dies_still sh k g s.1 f (grind (arith, was_dying sh (ledger_after sh k s.0 s.1) fs part f (grind arith) still))).0
 
 -- a frame that was reaped and is dying still was found with a count above zero
-waits : (fs : List ℕ) (v w : KeeperView) (f : ℕ) (part : Log) → w ≡ stepped v part → steps_of part ≡ map Reap fs → Contains fs f → (frame_at w.ledger f).kind ≡ Dying
+waits : (sh : Shape) (k : Ledger) (fs : List ℕ) (part : Log) (f : ℕ) → steps_of part ≡ map Reap fs → Contains fs f → (frame_at (replayed sh k part) f).kind ≡ Dying
     → (n : ℕ) × (1 ≤ count_in n) × Contains part (Reap f, n)
-waits [] v w f part after are has still = absurd (omega arith)
-waits (g ∷ fs) v w f [] after are has still = absurd (grind arith)
-waits (g ∷ fs) v w f (s ∷ part) after are (suc i, lt, is) still =
-    let later =
-    waits fs (did v s.0 s.1) w f part (after ∙ sym (stepped_then v _ _)) (grind arith) (i, omega arith, is) still in
+waits sh k [] part f are has still = absurd (omega arith)
+waits sh k (g ∷ fs) [] f are has still = absurd (grind arith)
+waits sh k (g ∷ fs) (s ∷ part) f are (suc i, lt, is) still =
+    let later = waits sh (ledger_after sh k s.0 s.1) fs part f (grind arith) (i, omega arith, is) still in
     (later.0, later.1, (suc later.2.0, (omega arith), later.2.2))
-waits (g ∷ fs) v w f (s ∷ part) after are (zero, lt, is) still =
+waits sh k (g ∷ fs) (s ∷ part) f are (zero, lt, is) still =
     let first : s.0 ≡ Reap f = grind arith in
-    let u = did v (Reap f) s.1 in
-    let m : MakesSteps u w (map Reap fs) = record {
-      part = part;
-      after = after ∙ sym (stepped_then v _ _) ∙ ap (λ x. stepped (did v x s.1) part) first;
-      are = grind
-          arith;
-    } in
-    (s.1, found _ (λ gone. lives_on fs u w f m gone still), (0, omega arith, (λ t. (first t, s.1))))
-  where
-    note : Note
-    note = reaped v.table.shape.last_generation (frame_at v.ledger f)
-
-    found : (n : ℕ) → (¬ ((frame_at (cond (n == 0) (with_frame v.ledger f note) v.ledger) f).kind ≡ Dying) → ⊥) → 1 ≤ n
-    found n dies =
-        grind (arith, set_here (λ x. ¬ (x.kind ≡ Dying)) v.ledger.frames f note (grind arith) (λ e. grind arith))
+    let now = was_dying sh (ledger_after sh k s.0 s.1) fs part f (grind arith) still in
+    (s.1, (dies_still sh k f s.1 f (rw first at now)).1 refl, (0, omega arith, (λ t. (first t, s.1))))
 
 -- where no frame of a node was found, each that is dying still was found with a count above zero
 pub none_left : {v w : KeeperView} {node : ℕ} → FindsNone v w node → NoneLeft v w node
@@ -146,18 +135,14 @@ none_left {v} {w} {node} h =
     record {
       part = m.part;
       did = quiet_did m (quiet_map Reap (λ f. refl) fs);
-      waited = λ f low high still. elim (cases_Bool (dying_kind (frame_at v.ledger f).kind)) [
-        | inl dies ↦
-            let lt : f - node * size < size = omega arith in
-            let at = get_or-range_with_len (node * size) _ _ f lt in
-            let long = length-range_with_len (node * size) size in
-            waits fs v w f _ m.after m.are (grind (arith, contains_filter)) still
-        | inr alive ↦ absurd (lives_on fs v w f m (λ is. (grind arith)) still)
-      ];
+      waited = λ f low high still.
+          let dying : (frame_at (replayed sh v.ledger m.part) f).kind ≡ Dying = grind (arith, m.after) in
+          let lt : f - node * size < size = omega arith in
+          let at = get_or-range_with_len (node * size) _ _ f lt in
+          let long = length-range_with_len (node * size) size in
+          waits sh v.ledger fs _ f m.are (grind (arith, contains_filter, was_dying sh v.ledger fs m.part f m.are dying)) dying;
       none = h.none;
     }
-
--- ---------------------------------------------------------------- a dup's frame is held, or moves
 
 -- a frame that is stable after an exchange was tried was found with another count
 pub lost : {v w : Mapped} {rows : List Row} (dup : DupRow) {node : ℕ} → FindsHeld v w rows dup node → HasLost v.keeper w.keeper
@@ -189,40 +174,27 @@ lowest_still : (sh : Shape) (k : Ledger) (node f g : ℕ) (b : Bool) → IsLowes
 lowest_still sh k node f g b h stable =
     grind (arith, get_or-set_other, set_holds (λ x. free_kind x.kind ≡ false) k.frames f)
 
--- a step that is told is in the log, with what it found
-found_in : (part : Log) (step : KeeperStep) → Contains (steps_of part) step → (found : ℕ) × Contains part (step, found)
-found_in [] step (i, lt, is) = absurd (omega arith)
-found_in (e ∷ part) step (zero, lt, is) = (e.1, (0, omega arith, rw is))
-found_in (e ∷ part) step (suc i, lt, is) = let more = found_in part step (i, omega arith, is) in (more.0, (suc more.1.0, (omega arith), more.1.2))
-
--- a part of the log that is not empty ends as the log does
-ends_so : {X : Type 0} (xs part ys : List X) (e : X) → 1 ≤ length part → xs ++ part ≡ ys ++ e ∷ [] → Contains part e
-ends_so [] part ys e some same = rw same (Contains-push ys e)
-ends_so (x ∷ xs) part [] e some same = absurd (omega (arith, ap length same, length-append xs part))
-ends_so (x ∷ xs) part (y ∷ ys) e some same = ends_so xs part ys e some (ap (drop 1) same)
-
 -- a dup that moved: a frame of the node was raised, and published at the dup's place
 pub moved : (v w : Mapped) (rows : List Row) (dup : DupRow) (node : ℕ) → Moves v w rows dup node → HasMoved v.keeper w.keeper dup.place node
 moved v w rows dup node h =
     let f : ℕ = dup_frame v.frame rows dup.number in
-    let g : ℕ = h.got in
-    let stores = steps_of (puts g 0 dup.bytes) ++ Open g ∷
-    (replicate (item_count rows dup - 1) (Add g) ++ Publish dup.place g ∷ []) in
-    let rest = steps_of (loads f 0 dup.bytes) ++ stores in
-    let reaps = map Reap (dying_on v.keeper.table.shape v.keeper.ledger node) in
     let searched = searched_does node h.finds.reaped in
     let step = step_made h.freezes in
-    let lowest : IsLowestFree h.frozen.table.shape h.frozen.ledger node g = rw step.1
-    (lowest_still h.searched.table.shape h.searched.ledger node f g (count_in step.0 == (frame_at h.searched.ledger f).base)
+    let lowest : IsLowestFree h.frozen.table.shape h.frozen.ledger node h.got = rw step.1
+    (lowest_still h.searched.table.shape h.searched.ledger node f h.got (count_in step.0 == (frame_at h.searched.ledger f).base)
     (rw searched.1.table h.finds.lowest) h.stood) in
-    let mounts = raised_does lowest h.mounts (grind (arith, quiet_both, quiet_loads, quiet_puts, quiet_adds)) in
-    let does = does_then (does_then searched (quiet_does h.freezes (refl, tt))) mounts in
-    let made = made_then h.finds.reaped (made_then h.freezes h.mounts) in
-    let told : steps_of does.0 ≡ reaps ++ (Freeze f ∷ Raise g ∷ rest) = grind (arith, append_cancel_left) in
-    let raised = found_in does.0 (Raise g) (rw told (Contains-append_right reaps (Freeze f ∷ Raise g ∷ rest) (Raise g) (1, omega arith, refl))) in
-    grind (arith, ends_so)
-
--- ---------------------------------------------------------------- pages that are unmerged
+    let raise = raised_did lowest h.mounts (grind (arith, quiet_both, quiet_loads, quiet_puts, quiet_adds)) in
+    let raised : Log = (Raise h.got, raise.0) ∷ raise.1 in
+    let before = searched.0 ++ h.freezes.part in
+    let shows : KeeperStep × ℕ = (Publish dup.place h.got, 0) in
+    record {
+      part = before ++ (raised ++ shows ∷ []);
+      did = chained (chained searched.1 (quiet_did h.freezes (refl, tt))) (chained raise.2 (part_did _ _ {part = shows ∷ []} h.named (refl, tt)));
+      frame = h.got;
+      before = raise.0;
+      raised = Contains-append_right before (raised ++ shows ∷ []) _ (0, omega arith, refl);
+      published = Contains-append_right before _ _ (Contains-push raised shows);
+    }
 
 -- rows that were unmerged, to the last or up to a stop, were given a frame each, on their homes
 pub unmerges_does : (rows : List Row) (stop : Option Fault) (v w : Mapped) → UnmergesTo rows stop v w → AllocatesOn v.keeper w.keeper (map (λ r. r.home) rows)

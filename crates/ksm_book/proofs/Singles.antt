@@ -9,9 +9,8 @@ use Rattle.ksm_book.proofs.Names.{with_frame, with_row, without_between, without
 use Rattle.ksm_base.specs.declared.row.PageState.TheVariants.{Private}
 use Rattle.ksm_base.proofs.SoundEdits.{sound_settings}
 use Rattle.ksm_book.proofs.ByPage.{at_changed, change_twice, found_page, lies_again, lies_still, row_of_page}
-use Rattle.ksm_book.proofs.Laying.{come_there, laid_rows, retuned, serves_at}
+use Rattle.ksm_book.proofs.Laying.{come_there, laid_rows, retuned, serves_at, turned}
 use Rattle.ksm_book.proofs.Keeping.{left_placed, left_spends, may_leave, spent_kept}
-use Rattle.ksm_book.proofs.Resettled.{turned}
 use Rattle.ksm_book.proofs.Shown.{provides_does}
 use Rattle.ksm_book.proofs.Moves.{removed, written_in}
 
@@ -50,8 +49,6 @@ carried_so same told h = grind (arith, h)
 pub row_held : {p : PagesView} {page : GuestPage} {held : Held} (h : IsHeld p page held) → row_at held.spot.page p.rows ≡ Some h.row
 row_held h = rw h.spot h.found
 
--- ---------------------------------------------------------------- a page with another frame
-
 module _ {p m q : PagesView} {k l : KeeperView} {page : GuestPage} {node : ℕ} {bytes : List ℕ} {row : Row} (h : IsLaid p k)
     (rise : InPageOrder p.rows) (found : row_at page p.rows ≡ Some row) (r : Resettled p m k l page node bytes) where
   -- a page was resettled, and then its row changed to tell of home and bytes: the pages differ in that row, in where pages lie and in the
@@ -85,8 +82,6 @@ pub found_resettled : {p m : PagesView} {k l : KeeperView} {page : GuestPage} {n
     → Resettled p m k l page node bytes → row_at page p.rows ≡ Some row → row_at page m.rows ≡ Some (on_its_own row)
 found_resettled r found = grind (arith, r.pages, at_changed)
 
--- ---------------------------------------------------------------- a store
-
 module _ {p : PagesView} {k l : KeeperView} {cursor : Option GuestPage} {passes : ℕ} {page : GuestPage} {bytes : List ℕ} {row : Row}
     (h : IsLaid p k) (rise : InPageOrder p.rows) (found : row_at page p.rows ≡ Some row) where
   -- `Store` is carried out, and all lies lawfully, where the bytes are stored to the page's own frame, and its row tells them
@@ -104,8 +99,6 @@ module _ {p : PagesView} {k l : KeeperView} {cursor : Option GuestPage} {passes 
       → Carries p k q l cursor passes (Store page bytes) (Ok Done)
   store_copied r goes shared =
       grind (arith, settled_then h rise found r _ (stored bytes) goes (λ x. refl) refl (refl, refl, refl))
-
--- ---------------------------------------------------------------- a move to another node
 
 -- a change that leaves the rows of a page as they are changes nothing
 pub change_still : (page : GuestPage) (f : Row → Row) (rows : List Row) → All (λ r. same_page r.page page ≡ true → f r ≡ r) rows → change_row page f rows ≡ rows
@@ -125,8 +118,6 @@ module _ {p : PagesView} {k : KeeperView} {cursor : Option GuestPage} {passes : 
       let there : nat_le p.shape.nodes node ≡ false = grind (arith, less) in
       grind arith
 
--- ---------------------------------------------------------------- a page that goes
-
 module _ {p : PagesView} {k : KeeperView} (h : IsLaid p k) (rise : InPageOrder p.rows) {page : GuestPage} {row : Row}
     (found : row_at page p.rows ≡ Some row) {left : Option ℕ} (was : left ≡ p.frame page) where
   -- the frame of a page that goes, if it has one, may be left
@@ -142,8 +133,6 @@ module _ {p : PagesView} {k : KeeperView} (h : IsLaid p k) (rise : InPageOrder p
         rw goes (laid_rows h l (rw made.after) (left_spends _ leaves)
             (left_placed _ leaves (removed _ row rise found h.placed))),
       )
-
--- ---------------------------------------------------------------- a page that comes
 
 -- a row that came and goes leaves the rows as they were
 without_come : (row : Row) (rows : List Row) → InPageOrder rows → row_at row.page rows ≡ None → without_page row.page (with_row row rows) ≡ rows
@@ -199,8 +188,6 @@ module _ {p m : PagesView} {page : GuestPage} {node : ℕ} {bytes : List ℕ} (n
         let frame : lies_on page None m.frame ≡ p.frame = grind (arith, new.others, lies_again, lies_still) in
         let back : q ≡ p = grind (arith, goes, new.comes) in
         (grind arith, rw back (turned h searched).laid)
-
--- ---------------------------------------------------------------- a dup that moves
 
 -- the dup that was found stands at the place that was asked for
 pub place_is : (b : BookState) (place : ℕ) (dup : DupRow) → Some dup ≡ live_dup_at b place → dup.place ≡ place

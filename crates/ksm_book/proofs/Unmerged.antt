@@ -2,15 +2,16 @@
 use Rattle.ksm_book.proofs.Names.{All, append-nil, arith, Bool, change_row, change_rows, false, Fault, filter, filter_none, find, find_all, find_passes, GuestPage, HasLeft, Held, InPageOrder, is_next}
 use Rattle.ksm_book.proofs.Names.{is_shared_of, is_some, IsHeld, IsLaid, KeeperView, left_by, length, length-append, let_go, List, lying, Mapped, MayNotLeave, None, not, of_guest, on_its_own, Option}
 use Rattle.ksm_book.proofs.Names.{option_map, PagesView, refl, Resettled, ResettlesEach, Row, row_at, same_page, same_Some, shared_state, slice_get, Some, take-append_seam, true, Unshares, ℕ, []}
-use Rattle.ksm_book.proofs.Names.{◌++◌, ◌+◌, ◌<◌, ◌∷◌, ◌≡◌, ◌≤◌}
+use Rattle.ksm_book.proofs.Names.{◌++◌, ◌+◌, ◌<◌, ◌∷◌, ◌≡◌, ◌≤◌, All-map, any_found, BookState, Done, Err, inl, is_of, IsCarried, Knobs, list_any, if◌then◌else◌, map, map_mapped, MatchOption, Mergeable, Ok, SetRun}
+use Rattle.ksm_book.proofs.Names.{slice_get_past, state_of, UnknownPage, Unmerge, Unmerged, unshare_stopped, unshared, ◌∙◌}
 use Rattle.ksm_base.proofs.Edits.{count_more}
 use Rattle.ksm_base.specs.Counting.{mergeable_count}
 use Rattle.ksm_base.specs.declared.row.PageState.TheVariants.{Private}
 use Rattle.std.proofs.lemmas.List.Sums.{count_by-le-length}
 use Rattle.ksm_book.proofs.Along.{along_end, along_next, along_none, along_stop, FitsPage, further, IsAlong, next_is, parted, passed, passed_all, position, there}
 use Rattle.ksm_book.proofs.ByPage.{row_of_page}
-use Rattle.ksm_book.proofs.Laying.{laid_changed}
-use Rattle.ksm_book.proofs.Singles.{change_still, settled_then}
+use Rattle.ksm_book.proofs.Laying.{laid_changed, laid_mapped, retuned}
+use Rattle.ksm_book.proofs.Singles.{change_still, settled_then, book, Carries}
 
 -- where all rows are mergeable, none changes by becoming so
 pub stay_in_scan : (test : Row → Bool) (rows : List Row) → mergeable_count rows ≡ length rows
@@ -27,8 +28,6 @@ stay_in_scan test (r ∷ rows) all =
 -- a row that is left keeps its page
 pub page_left : (guest : Option ℕ) (r : Row) → (left_by guest r).page ≡ r.page
 page_left guest r = grind arith
-
--- ---------------------------------------------------------------- one page
 
 -- the row of a page is left: a guest's, or any
 module _ {p : PagesView} {k : KeeperView} (guest : Option ℕ) {page : GuestPage} {held : Held} (told : IsHeld p page held) (h : IsLaid p k)
@@ -69,18 +68,11 @@ module _ {p : PagesView} {k : KeeperView} (guest : Option ℕ) {page : GuestPage
         (grind (arith, same row shared)) in
         grind (arith, shared, s)
 
-    -- a shared row of a guest is left once its page was resettled and it is let go, and one frame is given for it
-    pub left_guest : is_some guest ≡ true → {q : PagesView} → q ≡ record m { rows = change_row page let_go m.rows }
+    -- a shared row is left once its page was resettled, and a guest's is let go, or any other is not unchanged
+    pub left_there : {q : PagesView}
+        → q ≡ record m { rows = change_row page (if is_some guest then let_go else λ x. record x { unchanged = false }) m.rows }
         → HasLeft p q k l guest page 1
-    left_guest some {q} goes = grind (arith, left_shared)
-
-    -- where all pages are asked for, a shared row is left once its page was resettled and it is not unchanged
-    pub left_any : is_some guest ≡ false → {q : PagesView}
-        → q ≡ record m { rows = change_row page (λ x. record x { unchanged = false }) m.rows }
-        → HasLeft p q k l guest page 1
-    left_any none {q} goes = grind (arith, left_shared)
-
--- ---------------------------------------------------------------- pages one after another
+    left_there {q} goes = grind (arith, left_shared)
 
 -- rows that are resettled after others
 each_then : (xs ys : List Row) (u v w : Mapped) → ResettlesEach xs u v → ResettlesEach ys v w → ResettlesEach (xs ++ ys) u w
@@ -182,8 +174,69 @@ module _ {p q : PagesView} {k l : KeeperView} {guest : Option ℕ} {count : ℕ}
     take-append_seam met [],
   )
 
--- ---------------------------------------------------------------- pages that come into the scan
-
 -- the row is visited by the scan
 abbrev pub in_scan : Row → Row
 in_scan r = record r { mergeable = true }
+
+-- the first row of a guest is told, if it has one
+abbrev pub IsTold : PagesView → ℕ → Option Held → Type 0
+IsTold p guest told = MatchOption told (find (is_next (Some guest) None) p.rows ≡ None) (λ held. IsHeld p held.spot.page held
+    × (option_map (λ r. r.page) (find (is_next (Some guest) None) p.rows) ≡ Some held.spot.page))
+
+-- a guest has a row exactly where a first row of the guest is told
+has_told : (p : PagesView) (guest : ℕ) (o : Option Held) → IsTold p guest o → list_any (is_of guest) p.rows ≡ is_some o
+has_told p guest o told = any_found (is_of guest) p.rows ∙ (grind (arith, told))
+
+-- it was asked for the first row of a guest
+module _ (p : PagesView) {k : KeeperView} {cursor : Option GuestPage} {passes guest : ℕ} (o : Option Held) (told : IsTold p guest o) where
+  -- where the guest has no row, `Unmerge` and `Mergeable` of it are refused, and nothing changes
+  pub guest_refused : is_some o ≡ false → let b = book p k cursor passes in IsCarried b b (Unmerge guest) (Err UnknownPage) × IsCarried b b (Mergeable guest) (Err UnknownPage)
+  guest_refused none = grind (arith, has_told p guest o told)
+
+  -- `Unmerge` of a guest that has a row is carried out where its shared rows are unshared up to a stop or the end
+  pub unmerge_carried : {q : PagesView} {l : KeeperView} {count : ℕ} {stop : Option Fault} → is_some o ≡ true → Unshares p q k l (Some guest) count stop
+      → Carries p k q l cursor passes (Unmerge guest) (Ok (Unmerged count stop))
+  unmerge_carried some u = (grind (arith, has_told p guest o told, slice_get_past), u.laid)
+
+  -- `Mergeable` of a guest that has a row is carried out where all its rows are put in the scan
+  pub mergeable_carried : {q : PagesView} → is_some o ≡ true → IsLaid p k → q ≡ record p { rows = change_rows (is_of guest) in_scan p.rows }
+      → Carries p k q k cursor passes (Mergeable guest) (Ok Done)
+  mergeable_carried {q} some h goes =
+      (grind (arith, has_told p guest o told), rw goes (laid_mapped h _ (grind arith) (grind arith)))
+
+-- a run of 2
+module _ {p m : PagesView} {k l : KeeperView} (cursor : Option GuestPage) (passes : ℕ) {count : ℕ} {stop : Option Fault}
+    (u : Unshares p m k l None count stop) {knobs : Knobs} (same : knobs ≡ p.knobs) where
+  abbrev b : BookState
+  b = state_of p cursor passes
+
+  -- whatever it does to the rows and knobs once the pages have left
+  carried : (q : PagesView) (cursor' : Option GuestPage) → q.frame ≡ m.frame → state_of q cursor' passes ≡ unshare_stopped stop count b
+      → IsCarried (book p k cursor passes) (book q l cursor' passes) (SetRun 2) (Ok (Unmerged count stop))
+  carried q cursor' frame state = grind arith
+
+  across : knobs.merge_across_nodes ≡ m.knobs.merge_across_nodes
+  across = grind arith
+
+  -- `SetRun` 2 is carried out, and all lies lawfully, where the unsharing of all rows stopped and run is 0 then
+  pub unshare_stops : is_some stop ≡ true → {q : PagesView} → q ≡ record m { knobs = record knobs { run = 0 } }
+      → IsCarried (book p k cursor passes) (book q l cursor passes) (SetRun 2) (Ok (Unmerged count stop)) × IsLaid q l
+  unshare_stops some {q} goes = (carried q _ (rw goes) (grind arith), rw goes (retuned (inl across) u.laid))
+
+  -- it went through
+  module _ (none : is_some stop ≡ false) where
+    went : m.rows ≡ map (left_by None) p.rows
+    went = grind arith
+
+    -- where the unsharing of all rows did not stop, no row is merged or Zero
+    pub unshare_none : All (λ r. shared_state r.state ≡ false) m.rows
+    unshare_none = rw went (All-map (λ r. shared_state r.state ≡ false) _ _ (grind arith))
+
+    -- `SetRun` 2 is carried out, and all lies lawfully, where the unsharing of all rows went through and run is 2 then
+    pub unshare_ends : {w q : PagesView} → w ≡ record m { rows = map unshared m.rows }
+        → q ≡ record w { knobs = record knobs { run = 2 } }
+        → IsCarried (book p k cursor passes) (book q l None passes) (SetRun 2) (Ok (Unmerged count stop)) × IsLaid q l
+    unshare_ends {w} {q} wide goes =
+        let there = laid_mapped u.laid unshared (λ r. refl) (grind (arith, unshare_none)) in
+        let rows : map unshared m.rows ≡ map unshared p.rows = grind (arith, went, map_mapped) in
+        grind (arith, carried q None, retuned)

@@ -89,12 +89,12 @@ ResettlesEach [] v w = IsIdle v w
 ResettlesEach (row ∷ rows) v w =
     (between : Mapped) × Resettles v between row.page row.home row.bytes × ResettlesEach rows between w
 
--- a raised frame gets the bytes of another, so many references and a place: each word is loaded and each is stored, the
--- frame is opened, the further references come, and the place names it
-abbrev pub mounting : ℕ → ℕ → ℕ → ℕ → List ℕ → List KeeperStep
-mounting left frame place count bytes =
-    let named = replicate (count - 1) (Add frame) ++ Publish place frame ∷ [] in
-    Raise frame ∷ (steps_of (loads left 0 bytes) ++ (steps_of (puts frame 0 bytes) ++ (Open frame ∷ named)))
+-- a raised frame gets the bytes of another and so many references: each word is loaded and each is stored, the frame is
+-- opened, and the further references come
+abbrev pub mounting : ℕ → ℕ → ℕ → List ℕ → List KeeperStep
+mounting left frame count bytes =
+    let opening = Open frame ∷ replicate (count - 1) (Add frame) in
+    Raise frame ∷ (steps_of (loads left 0 bytes) ++ (steps_of (puts frame 0 bytes) ++ opening))
 
 -- a dup, whose items are among the rows, moves: a frame of the node is found, the exchange of its own frame's count is
 -- made, and the one found is mounted in its stead. All its items lie there
@@ -107,10 +107,11 @@ pub record Moves (v w : Mapped) (rows : List Row) (dup : DupRow) (node : ℕ) : 
   -- its own frame is shown until then, and dying after it
   pub stood : (frame_at searched.ledger (dup_frame v.frame rows dup.number)).kind ≡ Stable
   pub exchanged : (frame_at frozen.ledger (dup_frame v.frame rows dup.number)).kind ≡ Dying
-  pub mounts : MakesSteps frozen w.keeper
-      (mounting (dup_frame v.frame rows dup.number) got dup.place (item_count rows dup) dup.bytes)
+  pub mounted : KeeperView
+  pub mounts : MakesSteps frozen mounted
+      (mounting (dup_frame v.frame rows dup.number) got (item_count rows dup) dup.bytes)
   -- last the place names the one found
-  pub named : (before : KeeperView) × (w.keeper ≡ did before (Publish dup.place got) 0)
+  pub named : w.keeper ≡ did mounted (Publish dup.place got) 0
   pub frame : w.frame ≡ instead (dup_frame v.frame rows dup.number) got v.frame
 
 -- a dup's frame is held: a frame of the node was found, and the exchange of the dup's frame's count was tried and not

@@ -1,20 +1,24 @@
 -- What the keeper's steps mean: for the log, for every lawful placement, and for the lives that were spent (own).
-use Rattle.std.specs.Prelude.{◌≡◌, ℕ, ◌+◌, ◌-◌, ◌*◌, ◌<◌, ◌≤◌, List, [], Contains, Option, Some, None}
+use Rattle.std.specs.Prelude.{◌≡◌, ℕ, ◌+◌, ◌-◌, ◌*◌, ◌<◌, ◌≤◌, List, [], Contains, Option, Some, None, ◌≢◌, ◌∷◌, length, slice_set, Bool, false}
 use Rattle.std.specs.List.{sum_by}
 use Rattle.ksm_base.specs.declared.row.Row.{Row}
 use Rattle.ksm_base.specs.declared.row.DupRow.{DupRow}
 use Rattle.ksm_base.specs.Values.{frames_of}
-use Rattle.frame_core.specs.declared.event.KeeperStep.TheVariants.{Reap}
+use Rattle.frame_core.specs.declared.event.KeeperStep.TheVariants.{Reap, Raise, Publish, Freeze, Sub}
 use Rattle.frame_core.specs.declared.frame.Kind.{Kind}
-use Rattle.frame_core.specs.declared.frame.Kind.TheVariants.{Private, Dying}
+use Rattle.frame_core.specs.declared.frame.Kind.TheVariants.{Private, Dying, Free, Stable}
 use Rattle.frame_core.specs.declared.ledger.Ledger.{Ledger}
 use Rattle.frame_core.specs.declared.ledger.Note.{Note}
 use Rattle.frame_core.specs.State.{count_in}
-use Rattle.frame_core.specs.Ledger.{frame_at}
+use Rattle.frame_core.specs.Ledger.{frame_at, named_at, IsLoose}
 use Rattle.frame_table.specs.Named.{KeeperView}
 use Rattle.ksm_pages.specs.Paged.{Frames}
 use Rattle.ksm_book.specs.Placement.{Placed, node_of}
-use Rattle.ksm_book.specs.Steps.{Log, Allocates, HasNoFree}
+use Rattle.ksm_book.specs.Steps.{Log, Allocates, HasNoFree, free_kind, dying_kind}
+use Rattle.ksm_base.specs.declared.limits.TheConstants.{MOST_REFERENCES}
+use Rattle.ksm_base.specs.declared.page.TheConstants.{PAGE_WORDS}
+use Rattle.frame_table.specs.Kept.{May}
+use Rattle.ksm_tree.specs.NumberSets.{has}
 
 -- every lawful placement is still lawful, with another frame in hand
 abbrev pub Keeps : KeeperView → KeeperView → Option ℕ → Option ℕ → Type 0
@@ -71,3 +75,63 @@ pub record HasNewFrame (v w : KeeperView) (home : ℕ) (bytes : List ℕ) (g : �
   pub content : (frame_at w.ledger g).content ≡ bytes
   pub given : 1 ≤ (frame_at w.ledger g).generation
   pub node : node_of v.table.shape g ≡ home
+
+-- a frame may take the place of another at a place, with so many references
+pub record MayMount (v : KeeperView) (left frame place count : ℕ) : Type 0 where
+  -- it is a free one
+  pub exists : frame < frames_of v.table.shape
+  pub known : frame < length v.ledger.frames
+  pub free : (frame_at v.ledger frame).kind ≡ Free
+  -- the other is dying
+  pub old : left < frames_of v.table.shape
+  pub dying : (frame_at v.ledger left).kind ≡ Dying
+  -- each frame holds the words of a page
+  pub wide : (f : ℕ) → length (frame_at v.ledger f).content ≡ PAGE_WORDS
+  -- there is such a place, and what it names is not shown
+  pub at : place < frames_of v.table.shape
+  pub loose : IsLoose v.ledger (named_at v.ledger place)
+  -- of references there is one at least, and not too many
+  pub some : 1 ≤ count
+  pub few : count ≤ MOST_REFERENCES
+
+-- a frame, in its next life, has the bytes of another and so many references, and a place names it
+abbrev pub once_mounted : Ledger → ℕ → ℕ → ℕ → ℕ → Ledger
+once_mounted k left frame place count =
+    let generation = (frame_at k frame).generation + 1 in
+    record {
+      frames = slice_set k.frames frame
+          (record { kind = Stable; base = count; generation = generation; content = (frame_at k left).content });
+      places = slice_set k.places place (Some (record { frame = frame; generation = generation }));
+    }
+
+-- the exchange of a frame word was tried, and found another count than the keeper's references
+pub record HasLost (v w : KeeperView) : Type 0 where
+  pub part : Log
+  pub did : Allocates v w [] part
+  pub frame : ℕ
+  pub found : ℕ
+  pub tried : Contains part (Freeze frame, found)
+  pub other : count_in found ≢ (frame_at w.ledger frame).base
+
+-- a frame was raised and then published at the place
+pub record HasMoved (v w : KeeperView) (place node : ℕ) : Type 0 where
+  pub part : Log
+  pub did : Allocates v w (node ∷ []) part
+  pub frame : ℕ
+  pub before : ℕ
+  pub raised : Contains part (Raise frame, before)
+  pub published : Contains part (Publish place frame, 0)
+
+-- the set has the frames of this kind, and no others
+pub record IsSetOf (asked : Kind → Bool) (v : KeeperView) (words : List ℕ) : Type 0 where
+  pub room : frames_of v.table.shape ≤ 64 * length words
+  pub marked : (f : ℕ) → f < frames_of v.table.shape → has words f ≡ asked (frame_at v.ledger f).kind
+
+-- the sets of the free and of the dying frames
+pub record AreSets (v : KeeperView) (free_set dying_set : List ℕ) : Type 0 where
+  pub free : IsSetOf free_kind v free_set
+  pub dying : IsSetOf dying_kind v dying_set
+
+-- a frame in use may lose a reference of the keeper
+abbrev pub MayLeave : KeeperView → ℕ → Type 0
+MayLeave v f = May v (Sub f) × (free_kind (frame_at v.ledger f).kind ≡ false)

@@ -3,12 +3,9 @@ pub mod Steps
 pub mod Commands
 pub mod Keeping
 pub mod Laid
-pub mod Mounted
-pub mod FrameSets
 pub mod Whole
 pub mod Carried
 pub mod Promised
-pub mod Unmerged
 pub mod Worked
 pub mod Folded
 pub mod Due

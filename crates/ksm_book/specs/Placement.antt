@@ -10,7 +10,7 @@ use Rattle.ksm_base.specs.Values.{frames_of}
 use Rattle.ksm_base.specs.Rows.{zero_state, shared_state, merged_into}
 use Rattle.ksm_pages.specs.Paged.{Frames}
 use Rattle.frame_core.specs.declared.frame.Kind.{Kind}
-use Rattle.frame_core.specs.declared.frame.Kind.TheVariants.{Free, Filling, Private, Stable, Dying, Retired}
+use Rattle.frame_core.specs.declared.frame.Kind.TheVariants.{Free, Filling, Private, Stable}
 use Rattle.frame_core.specs.declared.ledger.Ledger.{Ledger}
 use Rattle.frame_core.specs.declared.seat.Life.{Life}
 use Rattle.frame_core.specs.Ledger.{frame_at, named_at}
@@ -42,12 +42,10 @@ kind_for Zero = Free
 
 -- what a kind says of the number of the keeper's references
 abbrev pub FitsBase : Kind → ℕ → Type 0
-FitsBase Free n = n ≡ 0
 FitsBase Filling n = ⊥
 FitsBase Private n = n ≡ 1
 FitsBase Stable n = 1 ≤ n
-FitsBase Dying n = n ≡ 0
-FitsBase Retired n = n ≡ 0
+FitsBase _ n = n ≡ 0
 
 -- the life that a place names; where it names none, one that no frame has
 abbrev pub life_or : Option Life → Life

@@ -10,7 +10,7 @@ use Rattle.ksm_base.specs.State.{BookState, place_count}
 use Rattle.ksm_base.specs.Values.{frames_of}
 use Rattle.ksm_base.specs.Visit.{new_place}
 use Rattle.frame_core.specs.declared.frame.Kind.{Kind}
-use Rattle.frame_core.specs.declared.frame.Kind.TheVariants.{Free, Filling, Private, Stable, Dying, Retired}
+use Rattle.frame_core.specs.declared.frame.Kind.TheVariants.{Filling, Private, Stable}
 use Rattle.frame_core.specs.declared.ledger.Ledger.{Ledger}
 use Rattle.frame_core.specs.declared.seat.Life.{Life}
 use Rattle.frame_core.specs.Ledger.{frame_at, named_at}
@@ -28,12 +28,10 @@ dup_frames b k = map (λ d. place_frame k d.place) (filter (has_items b.rows) b.
 
 -- a frame of this kind is in use: it is written, or one page's own, or shown at a place
 abbrev pub is_in_use : Kind → Bool
-is_in_use Free = false
 is_in_use Filling = true
 is_in_use Private = true
 is_in_use Stable = true
-is_in_use Dying = false
-is_in_use Retired = false
+is_in_use _ = false
 
 -- a row with a frame of its own has it for itself, on its home and with its bytes
 pub record HasItsOwn (shape : Shape) (k : Ledger) (row : Row) (frame : ℕ) : Type 0 where

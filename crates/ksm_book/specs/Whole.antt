@@ -10,8 +10,7 @@ use Rattle.ksm_base.specs.State.{BookState}
 use Rattle.frame_table.specs.Named.{KeeperView}
 use Rattle.ksm_book.specs.Steps.{AllocatesOn}
 use Rattle.ksm_book.specs.Commands.{Mapped}
-use Rattle.ksm_book.specs.Keeping.{NoneLeft}
-use Rattle.ksm_book.specs.Mounted.{HasLost, HasMoved}
+use Rattle.ksm_book.specs.Keeping.{NoneLeft, HasLost, HasMoved}
 use Rattle.ksm_pages.specs.Paged.{Frames, Lodging, frame_of}
 
 -- what is seen of the book: its state, the frame of each page, and the keeper

@@ -10,7 +10,7 @@ ghost use Rattle.frame_core.specs.Ledger.{frame_at, first_ledger};
 ghost use Rattle.frame_core.specs.State.{frame_word, count_in};
 ghost use Rattle.frame_table.specs.Kept.{May, did, Did};
 ghost use Rattle.ksm_tree.specs.NumberSets.{Marks};
-ghost use Rattle.ksm_book.specs.FrameSets.{MayLeave};
+ghost use Rattle.ksm_book.specs.Keeping.{MayLeave};
 ghost use Rattle.ksm_book.specs.Steps.{NoneOf, IsFirstOf, free_kind, dying_kind};
 
 use frame_core::Kind;
@@ -32,7 +32,7 @@ pub struct FrameKeeper {
 
 impl Model for FrameKeeper {
     ghost use Rattle.frame_table.specs.Named.{KeeperView};
-    ghost use Rattle.ksm_book.specs.FrameSets.{AreSets};
+    ghost use Rattle.ksm_book.specs.Keeping.{AreSets};
 
     ghost Value = { KeeperView };
 

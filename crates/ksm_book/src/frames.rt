@@ -7,10 +7,9 @@ ghost use Rattle.ksm_base.specs.Values.{frames_of, IsShape};
 ghost use Rattle.frame_core.specs.declared.event.KeeperStep.TheVariants.{Reap, Withdraw};
 ghost use Rattle.frame_core.specs.Ledger.{frame_at, with_frame, IsReadable, IsWritable};
 ghost use Rattle.frame_table.specs.Kept.{May};
-ghost use Rattle.ksm_book.specs.FrameSets.{MayLeave};
+ghost use Rattle.ksm_book.specs.Keeping.{MayLeave, holding, IsLawful, HasNewFrame};
 ghost use Rattle.ksm_book.specs.Steps.{dying_from, loads, puts, stepped, MakesSteps};
 ghost use Rattle.ksm_book.specs.Commands.{Finds, FindsNone, Provides, leaving};
-ghost use Rattle.ksm_book.specs.Keeping.{holding, IsLawful, HasNewFrame};
 
 use crate::frame_keeper::FrameKeeper;
 use frame_table::FrameTable;
@@ -52,7 +51,7 @@ pub fn find_frame(
 }
 
 /// Whether no frame of a node is free or dying: then a search for one would make no step, and find none.
-#[tactic(auto, using(crate::proofs::Sweeps::in_vain))]
+#[tactic(auto, using(crate::proofs::Filling::in_vain))]
 #[inline(always)]
 pub fn is_used_up(keeper: &FrameKeeper, shape: Shape, node: u32) -> bool
     requires shape { shape ≡ keeper.now.table.shape }

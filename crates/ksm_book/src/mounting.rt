@@ -8,8 +8,7 @@ ghost use Rattle.frame_core.specs.Ledger.{frame_at, with_frame};
 ghost use Rattle.frame_table.specs.Kept.{did};
 ghost use Rattle.frame_table.specs.Named.{KeeperView};
 ghost use Rattle.ksm_book.specs.Commands.{mounting};
-ghost use Rattle.ksm_book.specs.Keeping.{with_more};
-ghost use Rattle.ksm_book.specs.Mounted.{MayMount, once_mounted};
+ghost use Rattle.ksm_book.specs.Keeping.{with_more, MayMount, once_mounted};
 ghost use Rattle.ksm_book.specs.Steps.{MakesSteps};
 
 use crate::frame_keeper::FrameKeeper;
@@ -43,10 +42,10 @@ pub fn mount(
 )
     requires own { keeper.old.table ≡ table.now }
     requires may { MayMount keeper.old left frame place count }
-    ensures made { MakesSteps keeper.old keeper.new
-        (mounting left frame place count (frame_at keeper.old.ledger left).content) }
+    ensures made { (before : KeeperView)
+        × MakesSteps keeper.old before (mounting left frame count (frame_at keeper.old.ledger left).content)
+        × (keeper.new ≡ did before (Publish place frame) 0) }
     ensures ledger { keeper.new.ledger ≡ once_mounted keeper.old.ledger left frame place count }
-    ensures published { (before : KeeperView) × (keeper.new ≡ did before (Publish place frame) 0) }
 {
     keeper.raise(table, frame);
     let bytes = load(keeper, table, left);

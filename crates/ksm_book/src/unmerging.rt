@@ -5,9 +5,8 @@ ghost use Rattle.std.specs.Prelude.{◌≡◌, ◌<◌, All, IfErr, IfOk, true};
 ghost use Rattle.ksm_base.specs.Refusals.{is_of};
 ghost use Rattle.ksm_base.specs.Rows.{change_rows};
 ghost use Rattle.ksm_book.specs.Carried.{CarriesOut};
-ghost use Rattle.ksm_book.specs.Laid.{IsLaid};
+ghost use Rattle.ksm_book.specs.Laid.{IsLaid, HasLeft, MayNotLeave, Unshares};
 ghost use Rattle.ksm_pages.specs.Paged.{IsHeld, seen};
-ghost use Rattle.ksm_book.specs.Unmerged.{HasLeft, MayNotLeave, Unshares};
 
 use crate::frame_keeper::FrameKeeper;
 use crate::frames::{release_if, take_frame};

@@ -1,29 +1,23 @@
-use Rattle.ksm_book.proofs.Names.{arith, map-append}
+use Rattle.ksm_book.proofs.Names.{arith, refl}
 use Rattle.ksm_book.proofs.FrameKinds.{other_if}
-use Rattle.ksm_book.proofs.Made.{made_one, made_then}
-use Rattle.ksm_book.proofs.Sweeps.{next_reaped, passed}
+use Rattle.ksm_book.proofs.Made.{made_none, made_one, made_then}
+use Rattle.ksm_book.proofs.Filling.{next_dies, none_dies}
 use Rattle.ksm_book.proofs.frames.reap_each.Goals as goal
 
 pub dying-preserved : goal.dying-preserved
 dying-preserved c =
-    let v = c.args.keeper.now in
     let so_far = c.dying.invariant in
     let first = c.in-Some.ensures in
+    let next = next_dies c.args.keeper.now.ledger _ _ _ first.low_is first.high_is
+    (λ f ge lt. rw (← so_far.later f ge) (first.least f ge lt)) (rw (← so_far.later _ first.low_is) first.there) in
     record {
-      low = omega (arith, first.low_is);
-      high = omega (arith, first.low_is);
-      made = grind (
-        arith,
-        next_reaped v.ledger _ c.dying.keeper.ledger _ so_far.low so_far.later _ first.low_is first.least first.there,
-        map-append,
-        made_then,
-        made_one,
-      );
+      own = grind arith;
+      high = omega (arith, first.high_is);
+      made = λ w m. so_far.made w (rw next (made_then (made_one _ _ _ _ c.reap.ensures.1) m));
       later = grind (arith, other_if);
     }
 
 pub returns : goal.returns
 returns c =
-    let v = c.args.keeper.now in
     let so_far = c.dying.invariant in
-    rw (passed v.ledger _ c.dying.keeper.ledger _ so_far.low so_far.later _ so_far.high c.in_default.ensures) so_far.made
+    so_far.made _ (rw (none_dies c.args.keeper.now.ledger _ _ so_far.high (λ f ge lt. rw (← so_far.later f ge) (c.in_default.ensures f ge lt))) (made_none refl))

@@ -1,6 +1,6 @@
 use Rattle.ksm_book.proofs.Names.{arith, find_all, has_items, items_on, refl, seen, ◌&&◌, ◌==◌, ◌≡◌}
 use Rattle.ksm_book.proofs.Remounts.{has_remounted, may_freeze, may_mount, stays, taken_place}
-use Rattle.ksm_book.proofs.Resettled.{turned}
+use Rattle.ksm_book.proofs.Laying.{turned}
 use Rattle.ksm_book.proofs.moving.remount.Goals as goal
 
 pub returns-in_default : goal.returns-in_default
@@ -36,4 +36,3 @@ returns c =
     (λ d. d.place ≡ c.args.dup.place → seen c.set_dup_frame.new.self
     ≡ record (seen c.args.pages.now) { frame = items_on d.number c.in-Some.frame c.args.pages.now.rows (seen c.args.pages.now).frame })
     c.args.pages.now.dups c.args.dup c.requires.may.live c.set_dup_frame.ensures refl)
-    c.mount.ensures.published

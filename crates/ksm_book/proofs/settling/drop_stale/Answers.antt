@@ -9,7 +9,8 @@ pub drop_stale-requires : goal.drop_stale-requires
 drop_stale-requires c = drop_vacant c.stale.invariant (sym c.in-Some.is ∙ c.stale_place.ensures)
 
 pub stale-preserved : goal.stale-preserved
-stale-preserved c = grind (arith, drops_more)
+stale-preserved c =
+    drops_more c.stale.invariant (sym c.in-Some.is ∙ c.stale_place.ensures) _ _ c.withdraw.ensures c.drop_stale.ensures
 
 pub overflow_add-count : goal.overflow_add-count
 overflow_add-count c =

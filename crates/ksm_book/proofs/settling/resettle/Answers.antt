@@ -1,5 +1,5 @@
 use Rattle.ksm_book.proofs.Names.{refl}
-use Rattle.ksm_book.proofs.Resettled.{may_left, resettled, turned}
+use Rattle.ksm_book.proofs.Laying.{may_left, resettled, turned}
 use Rattle.ksm_book.proofs.settling.resettle.Goals as goal
 
 pub returns-in_default-clause-turned : goal.returns-in_default-clause-turned

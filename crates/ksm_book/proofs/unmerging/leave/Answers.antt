@@ -1,7 +1,7 @@
 use Rattle.ksm_book.proofs.Names.{IsKnown, let_go, refl, rules, sym, ◌∙◌}
-use Rattle.ksm_book.proofs.Resettled.{may_left, resettled, settled_as, turned}
+use Rattle.ksm_book.proofs.Laying.{may_left, resettled, settled_as, turned}
 use Rattle.ksm_book.proofs.Singles.{found_resettled, row_held}
-use Rattle.ksm_book.proofs.Unmerged.{left_alone, left_any, left_guest, left_still}
+use Rattle.ksm_book.proofs.Unmerged.{left_alone, left_still, left_there}
 use Rattle.ksm_book.proofs.unmerging.leave.Goals as goal
 use Rattle.ksm_book.proofs.unmerging.leave.Goals.{After-let_go_on-left}
 
@@ -31,13 +31,13 @@ returns-then-is_some-2-clause-left c =
     let rise = c.lie_in_order.ensures.rise in
     let got = resettled c.requires.laid rise _ (known s) c.in-Some.ensures.provides c.in-Some.ensures.took
     _ c.let_go_on-left.ensures.left _ _ refl c.release_if.ensures in
-    left_guest _ c.requires.held c.requires.laid c.lie_in_order.ensures.rise c.if-not-held.false
-    c.bytes-bytes.ensures got (sym c.is_some-2.ensures ∙ c.if-is_some-2.true) (settled_as c.requires.laid rise _ (known s) c.in-Some.ensures.provides c.in-Some.ensures.took let_go (λ r. refl) c.let_go_on-left.ensures.gone)
+    left_there c.args.guest c.requires.held c.requires.laid c.lie_in_order.ensures.rise c.if-not-held.false
+    c.bytes-bytes.ensures got (rw (sym c.is_some-2.ensures ∙ c.if-is_some-2.true) (settled_as c.requires.laid rise _ (known s) c.in-Some.ensures.provides c.in-Some.ensures.took let_go (λ r. refl) c.let_go_on-left.ensures.gone))
 
 pub forget_unchanged-requires : goal.forget_unchanged-requires
 forget_unchanged-requires c = rw (found_resettled c.in_ok-resettle.ensures.resettled (row_held c.requires.held)) refl
 
 pub returns-clause-left : goal.returns-clause-left
-returns-clause-left c = left_any _ c.requires.held c.requires.laid c.lie_in_order.ensures.rise
+returns-clause-left c = left_there c.args.guest c.requires.held c.requires.laid c.lie_in_order.ensures.rise
     c.if-not-held.false c.bytes-bytes.ensures c.in_ok-resettle.ensures.resettled
-    (sym c.is_some-2.ensures ∙ c.if-is_some-2.false) c.forget_unchanged.ensures
+    (rw (sym c.is_some-2.ensures ∙ c.if-is_some-2.false) c.forget_unchanged.ensures)

@@ -1,8 +1,7 @@
 use Rattle.ksm_book.proofs.Names.{arith, Done, find_all, length, Ok, PAGE_WORDS, IsKnown, refl, rules, seen, Store, sym, ◌<◌, ◌∙◌, ◌≡◌}
 use Rattle.ksm_base.specs.Apply.{stored}
-use Rattle.ksm_book.proofs.Laying.{served_at}
+use Rattle.ksm_book.proofs.Laying.{served_at, may_left, resettled, settled_as, turned}
 use Rattle.ksm_book.proofs.Singles.{carried_so, Carries, own_ready, row_held, lawful, store_copied, store_written}
-use Rattle.ksm_book.proofs.Resettled.{may_left, resettled, settled_as, turned}
 use Rattle.ksm_book.proofs.state.State.store.Goals as goal
 
 pub known_frame-frame-requires : goal.known_frame-frame-requires
