@@ -92,12 +92,6 @@ module _ {p : PagesView} {k w : KeeperView} (h : IsLaid p k) (rise : InPageOrder
   abbrev pub settled : PagesView
   settled = record p { rows = change_row page on_its_own p.rows; frame = lies_on page (Some g) p.frame }
 
-  -- pages of which the row changed with the frame are those, of which the row changed then
-  pub settled_as : (change : Row → Row) → ((r : Row) → change (on_its_own r) ≡ change r) → {q : PagesView} → q ≡ relaid page change (Some g) p
-      → q ≡ record settled { rows = change_row page change settled.rows }
-  settled_as change alike goes =
-      rw (change_twice page on_its_own change change p.rows (λ x. refl) (λ i x lt at. alike (get_or p.rows i x))) goes
-
   module _ (left : Option ℕ) (was : left ≡ p.frame page) where
     -- once a page has a new frame in hand, the frame that it had, if it had one, may be left
     pub may_left : IfSome left (MayLeave w)
@@ -116,6 +110,14 @@ module _ {p : PagesView} {k w : KeeperView} (h : IsLaid p k) (rise : InPageOrder
           placed = λ change by_this. rw lies (left_placed _ leaves (moved_there h.same taken h.placed page change rise by_this));
           spent = omega (arith, left_spends _ leaves);
         }
+
+    -- where its row changed with the frame, it is resettled, and then its row changed
+    pub resettled_as : (change : Row → Row) → ((r : Row) → change (on_its_own r) ≡ change r) → {q : PagesView} {u : KeeperView} → q ≡ relaid page change (Some g) p
+        → MakesSteps w u (leaving left) → Resettled p settled k u page node bytes × (q ≡ record settled { rows = change_row page change settled.rows })
+    resettled_as change alike {u = u} goes made = (
+      resettled settled u refl made,
+      rw (change_twice page on_its_own change change p.rows (λ x. refl) (λ i x lt at. alike (get_or p.rows i x))) goes,
+    )
 
 -- where no frame of a node was found, pages that lie lawfully are turned away, and no page changed
 pub turned : {p : PagesView} {k w : KeeperView} {node : ℕ} → IsLaid p k → FindsNone k w node → TurnedAway p p k w node

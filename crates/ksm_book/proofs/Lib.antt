@@ -3,10 +3,8 @@ pub mod ByPage
 pub mod Moves
 pub mod Made
 pub mod Keeping
-pub mod Filling
 pub mod Laying
 pub mod Sharing
-pub mod Pruning
 pub mod Remounts
 pub mod FrameKinds
 pub mod Noted

@@ -1,15 +1,14 @@
 -- A lawful placement says the sentences that are promised, and so a new dup finds a place.
-use Rattle.ksm_book.proofs.Names.{Agrees, All, All-append, All-contains_itself, All-filter, All-map, AllPairs, AllPairs-cons, AllPairs-filter, ap, arith, BookState, Bool, cases_Bool, Contains}
+use Rattle.ksm_book.proofs.Names.{All, All-append, All-contains_itself, All-filter, All-map, AllPairs, AllPairs-cons, AllPairs-filter, ap, arith, BookState, Bool, cases_Bool, Contains}
 use Rattle.ksm_book.proofs.Names.{Contains-append_left, Contains-append_right, Contains-from_any, count_by, count_mapped, count_more, counts_one, dup_frames, DupRow, eq-eqb, eqb, eqb-true, false}
 use Rattle.ksm_book.proofs.Names.{filter, filter_passes, find, find_all, find_passes, FindsPlace, frame_at, frame_number, Frames, frames_of, get_or, get_or-map, GuestPage, has_items, home_of_item}
 use Rattle.ksm_book.proofs.Names.{inl, inr, is_frame, is_in_use, is_stale, IsDistinct-from_apart, IsOutlived, IsSound, item_count, Ledger, length-append, length-le_from_distinct_below, length-map}
-use Rattle.ksm_book.proofs.Names.{LieOn, List, lt-ltb, map, Merged, merged_into, None, none_counted, not, own_frames, pairs_append, pairs_mapped, place_frame, Placed, Private, Row, row_at, RowFits}
+use Rattle.ksm_book.proofs.Names.{LieOn, List, lt-ltb, map, Merged, merged_into, None, none_counted, not, own_frames, pairs_append, pairs_mapped, place_frame, Placed, Private, Row, row_at}
 use Rattle.ksm_book.proofs.Names.{shared_state, Some, Stable, StandsOn, subst, suc, true, uses, ℕ, [], ◌++◌, ◌<◌, ◌==◌, ◌∙◌, ◌∷◌, ◌≡◌, ◌≢◌, ◌≤◌}
 use Rattle.ksm_base.proofs.Changes.{contains_filter}
 use Rattle.ksm_base.proofs.Edits.{count_filter_le}
 use Rattle.ksm_book.proofs.Moves.{base_is_items, stale_is_loose}
-use Rattle.ksm_book.proofs.Sharing.{empty_from_most, frames_apart, Lives, lives, first_found}
-use Rattle.ksm_book.proofs.Pruning.{none_stale}
+use Rattle.ksm_book.proofs.Sharing.{empty_from_most, frames_apart, Lives, lives, first_found, none_stale}
 
 -- what passes a test is among those that pass, and so is what is made of it
 passing : {X : Type 0} (f : X → ℕ) (test : X → Bool) (xs : List X) {x : X} → Contains xs x → test x ≡ true
@@ -88,7 +87,6 @@ module _ (b : BookState) (k : Ledger) (s : IsSound b) (frame : Frames) (p : Plac
   listed : (f : ℕ) (r : Row) → Contains b.rows r → frame r.page ≡ Some f → Contains (own ++ shown) f
   listed f r has on = elim (cases_Bool (shared_state r.state)) [
     | inl is ↦
-        let fits : RowFits b.shape k r f × All (Agrees k r f) b.dups = grind arith in
         let number : (n : ℕ) × (r.state ≡ Merged n) = grind arith in
         let its = s.items has.0 r has.1 _ (rw has.2 number.1) in
         let at = find_all (λ d. d.number == number.0) (Contains b.dups) b.dups its.0 its.1.stands

@@ -5,8 +5,7 @@ use Rattle.ksm_book.proofs.Names.{instead, InUse, is_frame, IsInLife, IsLaid, Is
 use Rattle.ksm_book.proofs.Names.{MayMount, MayMove, merged_into, mounting, named_at, ne_eqb, node_of, None, none_counted, Note, Ok, once_mounted, PagesView, place_frame, Placed, Publish, refl, Row}
 use Rattle.ksm_book.proofs.Names.{row_at, same_Some, set, Shape, Some, Stable, true, uses, with_frame, ℕ, ◌&&◌, ◌+◌, ◌<◌, ◌==◌, ◌∙◌, ◌≡◌, ◌≢◌, ◌≤◌}
 use Rattle.ksm_book.proofs.ByPage.{found_page, same_frames}
-use Rattle.ksm_book.proofs.Filling.{at_again}
-use Rattle.ksm_book.proofs.Keeping.{searched_placed, searched_spends, spent_kept}
+use Rattle.ksm_book.proofs.Keeping.{at_again, searched_placed, searched_spends, spent_kept}
 use Rattle.ksm_book.proofs.Laying.{kept}
 use Rattle.ksm_book.proofs.Moves.{base_is_items, lies_as_item, Serves}
 use Rattle.ksm_book.proofs.Sharing.{Lives, lives}

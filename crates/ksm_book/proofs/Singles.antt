@@ -1,8 +1,9 @@
 -- The commands on single pages, and on one dup, carried out.
-use Rattle.ksm_pages.specs.Paged.{IsAlone}
+use Rattle.ksm_pages.specs.Paged.{seen}
+use Rattle.ksm_book.specs.declared.state.State.TheInside.{Inside}
 use Rattle.ksm_book.proofs.Names.{absent_parts, All, Answer, ap, arith, BookState, BookValue, BookView, change_row, comes_before, Command, Done, Drop, DupRow, Err, false, filter, filter_passes}
 use Rattle.ksm_book.proofs.Names.{find_passes, find_put, FindsNone, frame_at, frames_of, fresh_row, GuestPage, HasNewFrame, HasRemounted, Held, holding, Houses, IfSome, if◌then◌else◌, inl}
-use Rattle.ksm_book.proofs.Names.{InPageOrder, is_some, IsCarried, IsHeld, IsLaid, IsReadable, IsSound, IsWritable, KeeperView, leaving, length, lies_on, List, live_dup_at, lying, MakesSteps}
+use Rattle.ksm_book.proofs.Names.{InPageOrder, IsCarried, IsHeld, IsLaid, IsReadable, IsSound, IsWritable, KeeperView, leaving, length, lies_on, List, live_dup_at, lying, MakesSteps}
 use Rattle.ksm_book.proofs.Names.{map_fixed, MayLeave, MayMove, MoveDup, MovePage, nat_le, NoFrame, None, Ok, on_its_own, Option, PAGE_WORDS, pages_ordered, PagesView, Provides, puts}
 use Rattle.ksm_book.proofs.Names.{refl, Register, Resettled, Resettles, Row, row_at, same_page, same_page_refl, shared_state, Some, sound_after, state_of, stepped, Store, stored, true, view_of}
 use Rattle.ksm_book.proofs.Names.{with_frame, with_row, without_between, without_page, ℕ, [], ◌<◌, ◌==◌, ◌∙◌, ◌∷◌, ◌≡◌, ◌≤◌}
@@ -21,6 +22,10 @@ book p k cursor passes = record { state = state_of p cursor passes; frame = p.fr
 -- a command was carried out on the pages and their keeper, with the cursor and the passes as they were, and all lies lawfully
 abbrev pub Carries : PagesView → KeeperView → PagesView → KeeperView → Option GuestPage → ℕ → Command → Answer → Type 0
 Carries p k q l cursor passes command answer = IsCarried (book p k cursor passes) (book q l cursor passes) command answer × IsLaid q l
+
+-- the same of the parts of a state
+abbrev pub Does : Inside → PagesView → KeeperView → Command → Answer → Type 0
+Does s q l = Carries (seen s.pages) s.keeper q l s.cursor s.passes
 
 -- a command that was carried out leaves a sound state
 pub sound_carried : {v w : BookView} {command : Command} {answer : Answer} → IsSound v.state → IsCarried v w command answer → IsSound w.state
@@ -157,16 +162,9 @@ module _ {p m : PagesView} {page : GuestPage} {node : ℕ} {bytes : List ℕ} (n
   abbrev fresh : Row
   fresh = fresh_row page node bytes
 
-  found_fresh : row_at page (with_row fresh p.rows) ≡ Some fresh
-  found_fresh = find_put (λ (r : Row). r.page) _ _ p.rows refl
-
-  -- a page that came has a row
-  pub come_known : is_some (row_at page m.rows) ≡ true
-  come_known = grind (arith, found_fresh)
-
-  -- and a frame of its own
-  pub come_alone : IsAlone page m.rows
-  come_alone = grind (arith, found_fresh)
+  -- the row of a page that came is found
+  pub come_found : row_at page m.rows ≡ Some fresh
+  come_found = ap (λ (x : PagesView). row_at page x.rows) new.comes ∙ find_put (λ (r : Row). r.page) _ _ p.rows refl
 
   module _ {k l : KeeperView} {cursor : Option GuestPage} {passes : ℕ} {q : PagesView} (h : IsLaid p k) where
     -- `Register` is carried out, and all lies lawfully, where the page comes on a frame taken with its bytes

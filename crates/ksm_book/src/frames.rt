@@ -51,7 +51,7 @@ pub fn find_frame(
 }
 
 /// Whether no frame of a node is free or dying: then a search for one would make no step, and find none.
-#[tactic(auto, using(crate::proofs::Filling::in_vain))]
+#[tactic(auto, using(crate::proofs::Keeping::in_vain))]
 #[inline(always)]
 pub fn is_used_up(keeper: &FrameKeeper, shape: Shape, node: u32) -> bool
     requires shape { shape ≡ keeper.now.table.shape }

@@ -31,7 +31,7 @@ fn add_times(keeper: &mut FrameKeeper, table: &FrameTable, frame: u32, count: u6
 }
 
 /// A free frame gets the bytes of a dying one and so many references, and the place names it.
-#[tactic(auto, using(crate::proofs::Filling::words_kept, crate::proofs::Filling::mounts))]
+#[tactic(auto, using(crate::proofs::Keeping::words_kept, crate::proofs::Keeping::mounts))]
 pub fn mount(
     keeper: &mut FrameKeeper,
     table: &FrameTable,

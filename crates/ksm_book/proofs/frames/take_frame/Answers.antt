@@ -1,17 +1,17 @@
 use Rattle.ksm_book.proofs.Names.{ap, arith, holding, KeeperView, opened, Provides, rules}
-use Rattle.ksm_book.proofs.Filling.{at_again, follow, found_inside, found_within, raised_ready, took}
+use Rattle.ksm_book.proofs.Keeping.{at_again, follow, found_within, raised_ready, took}
 use Rattle.ksm_book.proofs.Made.{made_one, made_part, made_then}
 use Rattle.ksm_book.proofs.frames.take_frame.Goals as goal
 
 pub write-requires : goal.write-requires
 write-requires c =
     let ready = raised_ready c.requires.shape c.requires.node c.requires.lawful c.in_ok-frame.ensures _ c.raise.ensures.1 in
-    grind (arith, found_inside c.requires.shape c.requires.node c.requires.lawful c.in_ok-frame.ensures)
+    grind arith
 
 pub open-requires-clause-may : goal.open-requires-clause-may
 open-requires-clause-may c =
     let ready = raised_ready c.requires.shape c.requires.node c.requires.lawful c.in_ok-frame.ensures _ c.raise.ensures.1 in
-    grind (arith, found_inside c.requires.shape c.requires.node c.requires.lawful c.in_ok-frame.ensures, at_again)
+    grind (arith, at_again)
 
 abbrev provided : (c : goal.After-open) → Provides c.args.keeper.now c.open.new.self c.args.node c.args.bytes.now c.in_ok-frame.frame
 provided c = record {

@@ -1,5 +1,5 @@
 use Rattle.ksm_book.proofs.Names.{arith, sym, ◌∙◌}
-use Rattle.ksm_book.proofs.Pruning.{drop_few, drop_fewer, drop_may, drop_vacant, dropped, drops_more}
+use Rattle.ksm_book.proofs.Sharing.{drop_few, drop_fewer, drop_may, drop_vacant, dropped, drops_more}
 use Rattle.ksm_book.proofs.settling.drop_stale.Goals as goal
 
 pub withdraw-requires-clause-may : goal.withdraw-requires-clause-may

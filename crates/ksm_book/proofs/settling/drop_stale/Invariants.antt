@@ -1,5 +1,5 @@
 use Rattle.ksm_book.proofs.Names.{count_by, is_stale, seen}
-use Rattle.ksm_book.proofs.Pruning.{Drops}
+use Rattle.ksm_book.proofs.Sharing.{Drops}
 use Rattle.ksm_book.proofs.settling.drop_stale.Given as goal
 
 abbrev pub invariant-stale : goal.invariant-stale

@@ -1,5 +1,5 @@
 use Rattle.ksm_book.proofs.Names.{IsKnown, let_go, refl, rules, sym, ◌∙◌}
-use Rattle.ksm_book.proofs.Laying.{may_left, resettled, settled_as, turned}
+use Rattle.ksm_book.proofs.Laying.{may_left, resettled_as, turned}
 use Rattle.ksm_book.proofs.Singles.{found_resettled, row_held}
 use Rattle.ksm_book.proofs.Unmerged.{left_alone, left_still, left_there}
 use Rattle.ksm_book.proofs.unmerging.leave.Goals as goal
@@ -29,10 +29,10 @@ pub returns-then-is_some-2-clause-left : goal.returns-then-is_some-2-clause-left
 returns-then-is_some-2-clause-left c =
     let s = (goal.at.returns-then-is_some-2-clause-left c).After-let_go_on-left in
     let rise = c.lie_in_order.ensures.rise in
-    let got = resettled c.requires.laid rise _ (known s) c.in-Some.ensures.provides c.in-Some.ensures.took
-    _ c.let_go_on-left.ensures.left _ _ refl c.release_if.ensures in
-    left_there c.args.guest c.requires.held c.requires.laid c.lie_in_order.ensures.rise c.if-not-held.false
-    c.bytes-bytes.ensures got (rw (sym c.is_some-2.ensures ∙ c.if-is_some-2.true) (settled_as c.requires.laid rise _ (known s) c.in-Some.ensures.provides c.in-Some.ensures.took let_go (λ r. refl) c.let_go_on-left.ensures.gone))
+    let got = resettled_as c.requires.laid rise _ (known s) c.in-Some.ensures.provides c.in-Some.ensures.took
+    _ c.let_go_on-left.ensures.left let_go (λ r. refl) c.let_go_on-left.ensures.gone c.release_if.ensures in
+    left_there c.args.guest c.requires.held c.requires.laid rise c.if-not-held.false
+    c.bytes-bytes.ensures got.0 (rw (sym c.is_some-2.ensures ∙ c.if-is_some-2.true) got.1)
 
 pub forget_unchanged-requires : goal.forget_unchanged-requires
 forget_unchanged-requires c = rw (found_resettled c.in_ok-resettle.ensures.resettled (row_held c.requires.held)) refl

@@ -1,5 +1,5 @@
 use Rattle.ksm_book.proofs.Names.{ap, Done, MovePage, ne_eqb, Ok, option_map, refl, same_Some, seen, sym, view_of, ◌∙◌}
-use Rattle.ksm_book.proofs.Singles.{carried_so, Carries, found_resettled, move_home, move_moved, row_held, lawful}
+use Rattle.ksm_book.proofs.Singles.{carried_so, Does, found_resettled, move_home, move_moved, row_held, lawful}
 use Rattle.ksm_book.proofs.state.State.move_page.Goals as goal
 
 pub returns-then-held-node : goal.returns-then-held-node
@@ -12,8 +12,8 @@ returns-then-held-node c =
 pub set_home-requires : goal.set_home-requires
 set_home-requires c = rw (found_resettled c.in_ok-resettle.ensures.resettled (row_held c.in-Some.ensures)) refl
 
-moved_there : (c : goal.After-set_home) → Carries (seen c.self.inside.pages) c.self.inside.keeper (seen c.set_home.new.self)
-    c.resettle.new.keeper c.self.inside.cursor c.self.inside.passes (MovePage c.in-Some.held.spot.page c.args.node) (Ok Done)
+moved_there : (c : goal.After-set_home) → Does c.self.inside (seen c.set_home.new.self)
+    c.resettle.new.keeper (MovePage c.in-Some.held.spot.page c.args.node) (Ok Done)
 moved_there c =
     let found = row_held c.in-Some.ensures in
     let bytes = same_Some _ _ (sym c.bytes-bytes.ensures ∙ ap (option_map (λ r. r.bytes)) found) in

@@ -1,6 +1,6 @@
 use Rattle.std.proofs.Common.{arith}
 use Rattle.ksm_book.proofs.Names.{Done, Err, NoFrame, Ok, refl, Register, seen}
-use Rattle.ksm_book.proofs.Singles.{carried_so, Carries, come_alone, come_known, HasCome, register_come, register_turned, lawful}
+use Rattle.ksm_book.proofs.Singles.{carried_so, Does, come_found, HasCome, register_come, register_turned, lawful}
 use Rattle.ksm_book.proofs.state.State.register.Goals as goal
 use Rattle.ksm_book.proofs.state.State.register.Goals.{In_ok-spot}
 
@@ -9,10 +9,10 @@ new : (c : In_ok-spot) → HasCome (seen c.self.inside.pages) (seen c.insert.new
 new c = grind arith
 
 pub remove-requires : goal.remove-requires
-remove-requires c = rw c.in_ok-spot.ensures.spot (come_known (new ((goal.at.remove-requires c).In_ok-spot)))
+remove-requires c = rw (c.in_ok-spot.ensures.spot, come_found (new ((goal.at.remove-requires c).In_ok-spot))) refl
 
-turned : (c : goal.After-remove) → Carries (seen c.self.inside.pages) c.self.inside.keeper (seen c.remove.new.self)
-    c.take_frame.new.keeper c.self.inside.cursor c.self.inside.passes (Register c.args.page c.args.node c.args.bytes.now) (Err (NoFrame c.args.node))
+turned : (c : goal.After-remove) → Does c.self.inside (seen c.remove.new.self)
+    c.take_frame.new.keeper (Register c.args.page c.args.node c.args.bytes.now) (Err (NoFrame c.args.node))
 turned c =
     register_turned {m = seen c.insert.new.self} (grind arith) c.self.invariant.1 c.in_ok-spot.ensures.nowhere
     (rw (← c.in_ok-spot.ensures.spot) c.remove.ensures.gone) c.in_default.ensures.provides
@@ -24,10 +24,10 @@ pub invariant_of-self-in_default : goal.invariant_of-self-in_default
 invariant_of-self-in_default c = lawful c.self.invariant.0 (turned c)
 
 pub lay-requires : goal.lay-requires
-lay-requires c = rw c.in_ok-spot.ensures.spot (come_alone (new ((goal.at.lay-requires c).In_ok-spot)))
+lay-requires c = rw (c.in_ok-spot.ensures.spot, come_found (new ((goal.at.lay-requires c).In_ok-spot))) refl
 
-come : (c : goal.After-lay) → Carries (seen c.self.inside.pages) c.self.inside.keeper (seen c.lay.new.self)
-    c.take_frame.new.keeper c.self.inside.cursor c.self.inside.passes (Register c.args.page c.args.node c.args.bytes.now) (Ok Done)
+come : (c : goal.After-lay) → Does c.self.inside (seen c.lay.new.self)
+    c.take_frame.new.keeper (Register c.args.page c.args.node c.args.bytes.now) (Ok Done)
 come c =
     register_come {m = seen c.insert.new.self} (grind arith) c.self.invariant.1
     (rw (← c.in_ok-spot.ensures.spot) c.lay.ensures) c.in-Some.ensures.provides c.in-Some.ensures.took
