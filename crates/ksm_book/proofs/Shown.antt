@@ -1,10 +1,10 @@
 -- The frames that steps give, and what the log shows of a frame that was not found, of one in use, and of a dup that moved.
-use Rattle.ksm_book.proofs.Names.{Add, Allocates, AllocatesOn, append-nil, arith, blank, Bool, cond, Contains, Contains-append_right, Contains-push, count_in}
-use Rattle.ksm_book.proofs.Names.{dup_frame, DupRow, Dying, dying_on, false, Fault, FindsHeld, FindsNone, frame_at, free_kind, Freeze, frozen, get_or, get_or-range_with_len}
+use Rattle.ksm_book.proofs.Names.{Add, Allocates, AllocatesOn, append-nil, arith, Contains, Contains-append_right, Contains-push, count_in}
+use Rattle.ksm_book.proofs.Names.{dup_frame, DupRow, Dying, dying_on, false, Fault, FindsHeld, FindsNone, frame_at, free_kind, Freeze, get_or-range_with_len}
 use Rattle.ksm_book.proofs.Names.{get_or-set_other, get_or-set_same, get_or_past, given_by, Gives, GuestPage, HasLost, HasMoved, IsLowestFree, KeeperStep, KeeperView, leaving}
-use Rattle.ksm_book.proofs.Names.{Ledger, ledger_after, length-range_with_len, length-set, List, loads, Log, MakesSteps, map, Mapped, Moves, NoFrame, None, NoneLeft, Note}
-use Rattle.ksm_book.proofs.Names.{Option, Provides, Publish, puts, Raise, Reap, refl, replicate, Resettles, ResettlesEach, Row, set, Shape, Some, Stable, stepped, steps_of, subst, suc}
-use Rattle.ksm_book.proofs.Names.{sym, UnmergesTo, with_frame, zero, ℕ, [], ◌*◌, ◌++◌, ◌+◌, ◌-◌, ◌<◌, ◌==◌, ◌∷◌, ◌≡◌, ◌≢◌, ◌≤◌}
+use Rattle.ksm_book.proofs.Names.{Ledger, ledger_after, length-range_with_len, length-set, List, loads, Log, MakesSteps, map, Mapped, Moves, NoFrame, None, NoneLeft}
+use Rattle.ksm_book.proofs.Names.{Option, Provides, Publish, puts, Raise, Reap, refl, replicate, Resettles, ResettlesEach, Row, Shape, Some, Stable, stepped, steps_of, subst, suc}
+use Rattle.ksm_book.proofs.Names.{sym, UnmergesTo, zero, ℕ, [], ◌*◌, ◌++◌, ◌+◌, ◌-◌, ◌<◌, ◌∷◌, ◌≡◌, ◌≢◌, ◌≤◌}
 use Rattle.ksm_book.proofs.Names.{cases_eq, cases_lt, replayed, Contains-append_right}
 use Rattle.std.proofs.lemmas.List.{set_past}
 use Rattle.ksm_book.proofs.Keeping.{set_holds}
@@ -97,10 +97,6 @@ pub each_does : (rows : List Row) (v w : Mapped) → ResettlesEach rows v w → 
 each_does [] v w h = quiet_does (made_none h.keeper) tt
 each_does (r ∷ rows) v w h = does_then (resettles_does h.1) (each_does rows h.0 w h.2)
 
--- a note that was put at a frame is there, if the keeper knows the frame
-set_here : (P : Note → Type 0) (xs : List Note) (i : ℕ) (y : Note) → P y → P blank → P (get_or (set xs i y) i blank)
-set_here P xs i y new none = grind (arith, get_or-set_same, get_or_past, length-set)
-
 -- a frame that is dying once a frame was reaped was dying before, and a count above zero was found if it is that frame
 dies_still : (sh : Shape) (k : Ledger) (g n f : ℕ) → (frame_at (ledger_after sh k (Reap g) n) f).kind ≡ Dying → ((frame_at k f).kind ≡ Dying) × (f ≡ g → 1 ≤ count_in n)
 dies_still sh k g n f still = grind (arith, cases_eq, cases_lt, set_past, get_or-set_same, get_or-set_other, get_or_past)
@@ -145,33 +141,28 @@ none_left {v} {w} {node} h =
     }
 
 -- a frame that is stable after an exchange was tried was found with another count
+found_other : (sh : Shape) (k : Ledger) (f n : ℕ) → (frame_at (ledger_after sh k (Freeze f) n) f).kind ≡ Stable → count_in n ≢ (frame_at (ledger_after sh k (Freeze f) n) f).base
+found_other sh k f n stable = grind (arith, cases_lt, get_or-set_same, get_or_past, length-set)
+
+-- the log shows it of a dup's frame that is held
 pub lost : {v w : Mapped} {rows : List Row} (dup : DupRow) {node : ℕ} → FindsHeld v w rows dup node → HasLost v.keeper w.keeper
 lost {v} {rows = rows} dup h =
     let f = dup_frame v.frame rows dup.number in
     let step = step_made h.freezes in
     let searched = searched_does _ h.finds.reaped in
-    let base = (frame_at h.searched.ledger f).base in
     record {
       part = searched.0 ++ (Freeze f, step.0) ∷ [];
-      did = chained searched.1 (quiet_did (record { part = (Freeze f, step.0) ∷ []; after = step.1; are = refl })
-          (refl, tt));
+      did = chained searched.1 (part_did _ _ {part = (Freeze f, step.0) ∷ []} step.1 (refl, tt));
       frame = f;
       found = step.0;
       tried = Contains-push _ (Freeze f, step.0);
       other = subst (λ (z : KeeperView). count_in step.0 ≢ (frame_at z.ledger f).base) (sym step.1)
-          (by h.searched.ledger f (count_in step.0) (count_in step.0 == base) refl (grind arith));
+          (found_other h.searched.table.shape h.searched.ledger f step.0 (grind arith));
     }
-  where
-    by : (k : Ledger) (f n : ℕ) (b : Bool) → b ≡ (n == (frame_at k f).base) → (frame_at (cond b (with_frame k f (frozen (frame_at k f))) k) f).kind ≡ Stable
-        → n ≢ (frame_at (cond b (with_frame k f (frozen (frame_at k f))) k) f).base
-    by k f n b e stable =
-        let here = set_here (λ x. ¬ (x.kind ≡ Stable)) k.frames f (frozen (frame_at k f)) (λ is. grind arith)
-        (λ is. grind arith) in
-        grind arith
 
 -- the lowest free frame of a node is so still where a stable one begins to die
-lowest_still : (sh : Shape) (k : Ledger) (node f g : ℕ) (b : Bool) → IsLowestFree sh k node g → (frame_at k f).kind ≡ Stable → IsLowestFree sh (cond b (with_frame k f (frozen (frame_at k f))) k) node g
-lowest_still sh k node f g b h stable =
+lowest_still : (sh : Shape) (k : Ledger) (node f g n : ℕ) → IsLowestFree sh k node g → (frame_at k f).kind ≡ Stable → IsLowestFree sh (ledger_after sh k (Freeze f) n) node g
+lowest_still sh k node f g n h stable =
     grind (arith, get_or-set_other, set_holds (λ x. free_kind x.kind ≡ false) k.frames f)
 
 -- a dup that moved: a frame of the node was raised, and published at the dup's place
@@ -181,8 +172,7 @@ moved v w rows dup node h =
     let searched = searched_does node h.finds.reaped in
     let step = step_made h.freezes in
     let lowest : IsLowestFree h.frozen.table.shape h.frozen.ledger node h.got = rw step.1
-    (lowest_still h.searched.table.shape h.searched.ledger node f h.got (count_in step.0 == (frame_at h.searched.ledger f).base)
-    (rw searched.1.table h.finds.lowest) h.stood) in
+    (lowest_still h.searched.table.shape h.searched.ledger node f h.got step.0 (rw searched.1.table h.finds.lowest) h.stood) in
     let raise = raised_did lowest h.mounts (grind (arith, quiet_both, quiet_loads, quiet_puts, quiet_adds)) in
     let raised : Log = (Raise h.got, raise.0) ∷ raise.1 in
     let before = searched.0 ++ h.freezes.part in

@@ -27,14 +27,10 @@ Carries p k q l cursor passes command answer = IsCarried (book p k cursor passes
 abbrev pub Does : Inside → PagesView → KeeperView → Command → Answer → Type 0
 Does s q l = Carries (seen s.pages) s.keeper q l s.cursor s.passes
 
--- a command that was carried out leaves a sound state
-pub sound_carried : {v w : BookView} {command : Command} {answer : Answer} → IsSound v.state → IsCarried v w command answer → IsSound w.state
-sound_carried s h = grind (arith, sound_after)
-
 -- a command that was carried out leaves a sound state, with what is known beside
 pub lawful : {v w : BookView} {command : Command} {answer : Answer} {L : Type 0} → IsSound v.state → IsCarried v w command answer × L
     → IsSound w.state × L
-lawful s h = (sound_carried s h.0, h.1)
+lawful s h = (grind (arith, sound_after), h.1)
 
 -- where a knob on which no dup hangs gets a value in its range, the state is sound, and all lies lawfully
 pub tuned : {p q : PagesView} {k : KeeperView} {cursor : Option GuestPage} {passes run pages zero_pages : ℕ} → IsSound (state_of p cursor passes) × IsLaid p k

@@ -47,7 +47,7 @@ spent k = sum_by spent_on k.frames
 
 -- the note of a frame with these bytes
 abbrev pub holding : Note → List ℕ → Note
-holding note bytes = record { kind = note.kind; base = note.base; generation = note.generation; content = bytes }
+holding note bytes = record note { content = bytes }
 
 -- what is known of a frame, but for so many references more
 abbrev pub with_more : Note → ℕ → Note
@@ -100,7 +100,7 @@ once_mounted k left frame place count =
     let generation = (frame_at k frame).generation + 1 in
     record {
       frames = slice_set k.frames frame
-          (record { kind = Stable; base = count; generation = generation; content = (frame_at k left).content });
+          (record (frame_at k left) { kind = Stable; base = count; generation = generation });
       places = slice_set k.places place (Some (record { frame = frame; generation = generation }));
     }
 

@@ -33,7 +33,7 @@ steps_of part = map (λ e. e.0) part
 
 -- the keeper once it has made these steps
 abbrev pub stepped : KeeperView → Log → KeeperView
-stepped v part = record { table = v.table; ledger = replayed v.table.shape v.ledger part; log = v.log ++ part }
+stepped v part = record v { ledger = replayed v.table.shape v.ledger part; log = v.log ++ part }
 
 -- the keeper went from v to w by these steps in this order, and by no others
 pub record MakesSteps (v w : KeeperView) (steps : List KeeperStep) : Type 0 where

@@ -41,20 +41,6 @@ impl Model for FrameKeeper {
     ghost invariant = { λ k. AreSets k.keeper k.free k.dying };
 }
 
-#[inline(always)]
-fn is_free(kind: Kind) -> bool
-    ensures { result ≡ free_kind kind }
-{
-    matches!(kind, Kind::Free)
-}
-
-#[inline(always)]
-fn is_dying(kind: Kind) -> bool
-    ensures { result ≡ dying_kind kind }
-{
-    matches!(kind, Kind::Dying)
-}
-
 impl FrameKeeper {
     /// Begins with a keeper that has made no step: all frames are free, none is dying. Refused for memory alone, it
     /// gives the keeper back.
@@ -155,8 +141,8 @@ impl FrameKeeper {
     {
         let alone = self.keeper.reap(table, frame);
         let now = self.keeper.kind(frame);
-        self.free.mark(frame, is_free(now));
-        self.dying.mark(frame, is_dying(now));
+        self.free.mark(frame, matches!(now, Kind::Free));
+        self.dying.mark(frame, matches!(now, Kind::Dying));
         alone
     }
 
@@ -169,7 +155,7 @@ impl FrameKeeper {
         self.keeper.raise(table, frame);
         // It was free, and not dying.
         let kind = self.keeper.kind(frame);
-        self.free.mark(frame, is_free(kind));
+        self.free.mark(frame, matches!(kind, Kind::Free));
     }
 
     /// Stores a word of a frame.
@@ -219,7 +205,7 @@ impl FrameKeeper {
         let alone = self.keeper.freeze(table, frame);
         // It was shown, and not free.
         let kind = self.keeper.kind(frame);
-        self.dying.mark(frame, is_dying(kind));
+        self.dying.mark(frame, matches!(kind, Kind::Dying));
         alone
     }
 

@@ -1,7 +1,7 @@
 use Rattle.ksm_book.proofs.Names.{All, All-map, arith, Done, false, inr, IsCarried, IsLaid, ne_eqb, no_dup_lives, none_shared, Ok, PagesView, refl, seen, SetAcross, subst, sym, view_of}
 use Rattle.ksm_book.proofs.Names.{waiting_state, [], ◌≡◌}
 use Rattle.ksm_book.proofs.Laying.{laid_mapped, retuned}
-use Rattle.ksm_book.proofs.Singles.{book, sound_carried}
+use Rattle.ksm_book.proofs.Singles.{book, lawful}
 use Rattle.ksm_book.proofs.state.State.set_across.Goals as goal
 
 -- no dup had items, so none is left
@@ -21,7 +21,6 @@ invariant_of-self c =
     let did : IsCarried (view_of c.args.self.now) (book (seen c.set_knobs.new.self) c.drop_stale.new.keeper s.cursor s.passes)
     (SetAcross c.args.across) (Ok Done) = grind arith in
     let there = subst (λ (p : PagesView). IsLaid p c.drop_stale.new.keeper) (sym c.settle_all.ensures)
-    (laid_mapped c.drop_stale.ensures.laid _ (λ r. refl) (grind arith)) in (
-      sound_carried {v = view_of c.args.self.now} (rw (← c.self.view_is) c.self.invariant.0) did,
-      rw c.set_knobs.ensures (retuned (inr (none_left c)) there),
-    )
+    (laid_mapped c.drop_stale.ensures.laid _ (λ r. refl) (grind arith)) in
+    lawful {v = view_of c.args.self.now} (rw (← c.self.view_is) c.self.invariant.0)
+    (did, rw c.set_knobs.ensures (retuned (inr (none_left c)) there))
