@@ -1,4 +1,4 @@
--- What becomes of pages that lie lawfully, where the keeper makes its steps.
+-- What becomes of pages that lie lawfully, where the keeper makes its steps, and where a page gets another frame.
 use Rattle.ksm_book.proofs.Names.{All, arith, blank, cases_lt, change_row, cond_both, default_knobs, DupRow, false, find_all, first_ledger, frame_at, Frames, get_or, get_or_past, GuestPage}
 use Rattle.ksm_book.proofs.Names.{HasNewFrame, Houses, inl, InPageOrder, IsLaid, IsServed, IsShape, KeeperView, Keeps, Knobs, Ledger, length-replicate, lies_on, List, map, None, nowhere, Option}
 use Rattle.ksm_book.proofs.Names.{PagesView, Placed, refl, Row, row_at, Shape, shared_state, Some, spent, subst, with_row, ℕ, [], ◌≡◌, ◌≤◌, ◌⊎◌, ap, FindsNone, IfSome, IsKnown, leaving, MakesSteps}

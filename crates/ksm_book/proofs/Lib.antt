@@ -6,7 +6,6 @@ pub mod Keeping
 pub mod Laying
 pub mod Sharing
 pub mod Remounts
-pub mod FrameKinds
 pub mod Noted
 pub mod Dues
 pub mod DueKept

@@ -1,4 +1,4 @@
--- What becomes of the layout where rows change together, join a dup, or make or lose one.
+-- What becomes of the layout where a page joins a dup, a dup is made, or stale dups go, one by one.
 use Rattle.frame_core.specs.Ledger.{named_anew}
 use Rattle.ksm_base.specs.declared.limits.TheConstants.{MOST_FRAMES, MOST_LIVES, MOST_REFERENCES}
 use Rattle.ksm_book.proofs.Names.{Add, added, All, All-filter, ap, arith, blank, Bool, change_row, Contains, count_by, count_none, did, DupRow, elsewhere, eq-eqb, false, filter, filter_passes, find}

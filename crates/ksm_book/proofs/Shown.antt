@@ -144,7 +144,7 @@ none_left {v} {w} {node} h =
 found_other : (sh : Shape) (k : Ledger) (f n : ℕ) → (frame_at (ledger_after sh k (Freeze f) n) f).kind ≡ Stable → count_in n ≢ (frame_at (ledger_after sh k (Freeze f) n) f).base
 found_other sh k f n stable = grind (arith, cases_lt, get_or-set_same, get_or_past, length-set)
 
--- the log shows it of a dup's frame that is held
+-- where a dup's frame is held, the log shows that the exchange of its count was tried, and what it found
 pub lost : {v w : Mapped} {rows : List Row} (dup : DupRow) {node : ℕ} → FindsHeld v w rows dup node → HasLost v.keeper w.keeper
 lost {v} {rows = rows} dup h =
     let f = dup_frame v.frame rows dup.number in

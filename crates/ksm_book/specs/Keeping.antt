@@ -1,4 +1,5 @@
--- What the keeper's steps mean: for the log, for every lawful placement, and for the lives that were spent (own).
+-- What the keeper's steps mean: for the log, for every lawful placement, for the lives that were spent, for a dup that
+-- moves, and for the sets of its free and dying frames (own).
 use Rattle.std.specs.Prelude.{◌≡◌, ℕ, ◌+◌, ◌-◌, ◌*◌, ◌<◌, ◌≤◌, List, [], Contains, Option, Some, None, ◌≢◌, ◌∷◌, length, slice_set, Bool, false}
 use Rattle.std.specs.List.{sum_by}
 use Rattle.ksm_base.specs.declared.row.Row.{Row}

@@ -1,4 +1,5 @@
--- The pages as they lie in the keeper's frames, and the state of the book that they tell (own).
+-- The pages as they lie in the keeper's frames, the state of the book that they tell, and pages that leave their dups
+-- (own).
 use Rattle.std.specs.Prelude.{◌≡◌, ℕ, ◌<◌, ◌≤◌, ◌&&◌, ◌==◌, find, MatchOption, Ok, Err, Option, None, Some, List, [], Bool, true, ◌∷◌, length, filter, take, slice_get, option_map, if◌then◌else◌}
 use Rattle.ksm_base.specs.declared.page.GuestPage.{GuestPage}
 use Rattle.ksm_base.specs.declared.row.PageState.TheVariants.{Private}

@@ -119,7 +119,7 @@ impl FrameKeeper {
     }
 
     /// One reference less on a frame. With the last it is dying.
-    #[tactic(auto, using(crate::proofs::FrameKinds::sets_lowered))]
+    #[tactic(auto, using(crate::proofs::Keeping::sets_lowered))]
     pub fn sub(&mut self, table: &FrameTable, frame: u32)
         requires own { self.old.table ≡ table.now }
         requires may { MayLeave self.old frame }
