@@ -1,4 +1,4 @@
--- Pages that leave their dups, or the zero page, one after another; and the commands on all pages of a guest, or on all.
+-- Pages that leave their dups, or the zero page, one after another; and the commands on all pages of a guest, or all.
 use Rattle.ksm_book.proofs.Names.{All, append-nil, arith, Bool, change_row, change_rows, false, Fault, filter, filter_none, find, find_all, find_passes, GuestPage, HasLeft, Held, InPageOrder, is_next}
 use Rattle.ksm_book.proofs.Names.{is_shared_of, is_some, IsHeld, IsLaid, KeeperView, left_by, length, length-append, let_go, List, lying, Mapped, MayNotLeave, None, not, of_guest, on_its_own, Option}
 use Rattle.ksm_book.proofs.Names.{option_map, PagesView, refl, Resettled, ResettlesEach, Row, row_at, same_page, same_Some, shared_state, slice_get, Some, take-append_seam, true, Unshares, ℕ, []}
@@ -70,7 +70,9 @@ module _ {p : PagesView} {k : KeeperView} (guest : Option ℕ) {page : GuestPage
 
     -- a shared row is left once its page was resettled, and a guest's is let go, or any other is not unchanged
     pub left_there : {q : PagesView}
-        → q ≡ record m { rows = change_row page (if is_some guest then let_go else λ x. record x { unchanged = false }) m.rows }
+        → q ≡ record m {
+          rows = change_row page (if is_some guest then let_go else λ x. record x { unchanged = false }) m.rows;
+        }
         → HasLeft p q k l guest page 1
     left_there {q} goes = grind (arith, left_shared)
 

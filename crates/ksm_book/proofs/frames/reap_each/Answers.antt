@@ -19,4 +19,6 @@ dying-preserved c =
 pub returns : goal.returns
 returns c =
     let so_far = c.dying.invariant in
-    so_far.made _ (rw (none_dies c.args.keeper.now.ledger _ _ so_far.high (λ f ge lt. rw (← so_far.later f ge) (c.in_default.ensures f ge lt))) (made_none refl))
+    let none = none_dies c.args.keeper.now.ledger _ _ so_far.high
+    (λ f ge lt. rw (← so_far.later f ge) (c.in_default.ensures f ge lt)) in
+    so_far.made _ (rw none (made_none refl))
