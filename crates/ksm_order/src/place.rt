@@ -1,5 +1,5 @@
 //! Where a key stands among elements whose keys do not fall.
-ghost use Rattle.std.specs.Prelude.{◌≡◌, ◌==◌, ℕ, IsTrue, nat_lt};
+ghost use Rattle.std.specs.Prelude.{◌≡◌, ◌==◌, ℕ, IsTrue, nat_lt, true};
 ghost use Rattle.std.specs.List.{list_any};
 ghost use Rattle.ksm_order.specs.Places.{AreInOrder, IsHere, IsPlace};
 
@@ -42,7 +42,8 @@ impl Keyed for u32 {
 #[inline(always)]
 pub fn is_place<T: Keyed>(items: &[T], at: usize, key: u64) -> bool
     requires { AreInOrder T.key_of items.now }
-    ensures { IsTrue result → IsPlace T.key_of key items.now at }
+    ensures place { IsTrue result → IsPlace T.key_of key items.now at }
+    ensures told { IsPlace T.key_of key items.now at → result ≡ true }
 {
     if at > items.len() {
         return false;

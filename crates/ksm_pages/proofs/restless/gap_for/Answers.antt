@@ -13,6 +13,6 @@ returns-then-is_sorted_by c =
     (always_returns_same _ (λ a r. r ≡ nat_le a.0.now.page a.1.0.now.page) _ (λ a r q k. search rules))) in
     let up = IsNonDecreasingBy-from_all_adjacent (λ (l : Listed). l.page) added (λ k d lt. grind (arith, nat_tests, adjacent k d lt)) in
     gap_here c.args.listed.now added c.requires c.place_of-at.result c.place_of-at.ensures.within first.page last.page
-    c.place_of-at.ensures.ahead (c.is_place.ensures c.if-is_place.true).behind (sorted_rise added up)
+    c.place_of-at.ensures.ahead (c.is_place.ensures.place c.if-is_place.true).behind (sorted_rise added up)
     (λ k d lt. grind (arith, up 0 k d, c.in_ok-first.ensures.value, slice_get_read, slice_get_past))
     (λ k d lt. grind (arith, up k (length added - 1) d, c.in_ok-last.ensures.value, slice_get_read, slice_get_past))
