@@ -9,7 +9,7 @@ ghost use Rattle.ksm_pages.specs.Paged.{HasRow, IsAlone, IsKnown, changed, lies_
 
 use crate::left::leave;
 use crate::pages::Pages;
-use crate::row::{Kind, Spot};
+use crate::row::Spot;
 use ksm_base::{Fault, GuestPage, PageBytes};
 
 impl Pages {

@@ -1,10 +1,10 @@
 //! Guesses of the keys of rows, each in the slot of its page. The table has at least twice as many slots as frames, and
 //! as rows: where more rows come, it gets twice as many slots, so a page of a large host is found in a step too.
 ghost use Rattle.std.specs.Prelude.{◌≤◌};
-ghost use Rattle.ksm_base.specs.declared.limits.TheConstants.{MOST_FRAMES as most_frames};
+ghost use Rattle.ksm_base.specs.declared.limits.TheConstants.{MOST_FRAMES};
 
 use crate::row::Entry;
-use ksm_base::{GuestPage, MOST_FRAMES};
+use ksm_base::GuestPage;
 use ksm_tree::{Guesses, NO_NUMBER};
 use slab::Slab;
 use std::alloc::Global;
@@ -29,7 +29,7 @@ pub struct Keys {
 impl Keys {
     /// No guesses, in a table with so many frames.
     pub fn new(alloc: Global, frames: u32) -> Keys
-        requires { frames ≤ most_frames }
+        requires { frames ≤ MOST_FRAMES }
     {
         let most = (2 * frames).checked_next_power_of_two();
         Keys::with_slots(alloc, most.unwrap_or(FEWEST).max(FEWEST))
