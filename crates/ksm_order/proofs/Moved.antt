@@ -3,7 +3,7 @@ use Rattle.std.proofs.Common.{◌≡◌, ℕ, ◌+◌, ◌-◌, ◌<◌, ◌≤�
 use Rattle.std.specs.Prelude.{insert, remove, set}
 use Rattle.std.specs.List.{copy_within}
 use Rattle.std.proofs.Math.Seq.{take-append_seam, take-suc}
-use Rattle.std.proofs.lemmas.List.{append-nil, append_assoc, drop-take, drop_all, length-append, length-drop, length-take-le, set_at, take-append-le, take_rest}
+use Rattle.std.proofs.lemmas.List.{append-nil, append_assoc, drop-drop, drop-take, drop_all, length-append, length-drop, length-take-le, set_at, take-append-le, take_rest}
 
 -- one more behind a list, the elements from an index on moved up by one, and that one written there: it is put in
 pub moved_up : {X : Type 0} (xs : List X) (at : ℕ) (x : X) → at ≤ length xs → set (copy_within (xs ++ x ∷ []) at (length xs) (at + 1)) at x ≡ insert xs at x
@@ -28,4 +28,17 @@ moved_down xs at within =
     let long : length xs - 1 ≡ length kept = grind (arith, length-append (take at xs) (drop (at + 1) xs), length-take-le at xs, length-drop (at + 1) xs) in
     (λ i. take (long i) ((take at xs ++ take_rest xs (at + 1) i) ++ back))
     ∙ take-append_seam kept back
+    ∙ λ i. take at xs ++ drop (add-one at i) xs
+
+-- the elements from one on turned by it, without the last: the element is taken out
+pub turned_down : {X : Type 0} (xs : List X) (at : ℕ) → at < length xs
+    → take (length xs - 1) (take at xs ++ (drop 1 (drop at xs) ++ take 1 (drop at xs))) ≡ remove xs at
+turned_down xs at within =
+    let rest = drop at xs in
+    let behind : drop 1 rest ≡ drop (at + 1) xs = drop-drop 1 at xs in
+    let kept = take at xs ++ drop (at + 1) xs in
+    let long : length xs - 1 ≡ length kept = grind (arith, length-append (take at xs) (drop (at + 1) xs), length-take-le at xs, length-drop (at + 1) xs) in
+    (λ i. take (long i) (take at xs ++ (behind i ++ take 1 rest)))
+    ∙ ap (take (length kept)) (sym (append_assoc (take at xs) (drop (at + 1) xs) (take 1 rest)))
+    ∙ take-append_seam kept (take 1 rest)
     ∙ λ i. take at xs ++ drop (add-one at i) xs

@@ -15,4 +15,4 @@ pub use leaf::Leaf;
 pub use node::Node;
 pub use part::Part;
 pub use place::{Keyed, is_place, place_near_end, place_of, stands_at};
-pub use vector::{insert_at, move_last};
+pub use vector::{insert_at, move_down, move_last};

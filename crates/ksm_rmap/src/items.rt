@@ -10,7 +10,7 @@ ghost use Rattle.ksm_rmap.specs.Keys.{AreKeysAscending, page_of};
 
 use crate::key::{key_of, page_of};
 use ksm_base::{Fault, GuestPage};
-use ksm_order::{move_last, place_near_end, place_of, stands_at};
+use ksm_order::{move_down, move_last, place_near_end, place_of, stands_at};
 use smallvec::SmallVec;
 use std::alloc::{AllocError, Global};
 use std::marker::Model;
@@ -68,12 +68,12 @@ impl Items {
         ensures removed { self.new ≡ without_item page self.old }
     {
         let key = key_of(page);
-        let at = place_of(self.keys.as_slice(), key);
-        let found = stands_at(self.keys.as_slice(), at, key);
+        let keys = self.keys.as_mut_slice();
+        let at = place_of(keys, key);
+        let found = stands_at(keys, at, key);
         if found {
-            let keys = self.keys.as_mut_slice();
             let left = keys.len() - 1;
-            keys.copy_within(at + 1.., at);
+            move_down(keys, at);
             self.keys.truncate(left);
         }
         found

@@ -1,9 +1,8 @@
-use Rattle.std.proofs.Common.{◌≡◌, ◌∙◌, ◌+◌, ◌-◌, ◌<◌, ◌^◌, ap, arith, length, map, refl, sym, take, ℕ}
+use Rattle.std.proofs.Common.{◌≡◌, ◌∙◌, ◌-◌, ◌<◌, ◌^◌, ap, arith, length, map, refl, sym, take, ℕ}
 use Rattle.std.specs.Prelude.{◌==◌, remove}
-use Rattle.std.specs.List.{copy_within, list_any, refill}
+use Rattle.std.specs.List.{list_any, refill}
 use Rattle.std.proofs.lemmas.List.Edits.{length-remove}
 use Rattle.std.proofs.lemmas.List.Elements.{All-filter}
-use Rattle.ksm_order.proofs.Moved.{moved_down}
 use Rattle.ksm_rmap.specs.Items.{has_item, without_item}
 use Rattle.ksm_rmap.specs.Keys.{key_of, page_of, without_key}
 use Rattle.ksm_rmap.proofs.Keys.{has_by_key, without_by_key}
@@ -16,22 +15,20 @@ use Rattle.ksm_rmap.proofs.items.Items.remove.Goals as goal
 use Rattle.ksm_rmap.proofs.items.Items.remove.Goals.{After-stands_at-found}
 
 here : (c : goal.After-truncate) → IsHere (λ k. k) c.key_of-key.result c.self.inside.keys.items c.place_of-at.result
-here c = rw c.as_slice-2.ensures at (c.if-found.ensures.here refl)
+here c = rw c.as_mut_slice-keys.ensures.value at (c.if-found.ensures.here refl)
 
 -- the key at its place goes
 gone : (c : goal.After-truncate) → c.truncate.new.self.items ≡ remove c.self.inside.keys.items c.place_of-at.result
 gone c =
     let keys = c.self.inside.keys.items in
-    let at = c.place_of-at.result in
     let value = c.as_mut_slice-keys.ensures.value in
-    let moved : c.copy_within.new.self ≡ copy_within keys (at + 1) (length keys) at =
-    c.copy_within.ensures.after ∙ λ i. copy_within (value i) (at + 1) (length (value i)) at in
-    let back : refill (length keys) keys c.copy_within.new.self ≡ c.copy_within.new.self =
-    refilled keys c.copy_within.new.self (c.copy_within.ensures.len ∙ ap length value) in
+    let back : refill (length keys) keys c.move_down.new.items ≡ c.move_down.new.items =
+    refilled keys c.move_down.new.items (c.move_down.ensures.same ∙ ap length value) in
     c.truncate.ensures.items
     ∙ (λ i. take (length (value i) - 1) (back i))
-    ∙ ap (take (length keys - 1)) moved
-    ∙ moved_down keys at (here c).within
+    ∙ ap (λ n. take (n - 1) c.move_down.new.items) (sym (ap length value))
+    ∙ c.move_down.ensures.gone
+    ∙ ap (λ xs. remove xs c.place_of-at.result) value
 
 -- so the key is taken out
 removed : (c : goal.After-truncate) → c.truncate.new.self.items ≡ without_key c.key_of-key.result c.self.inside.keys.items
@@ -49,8 +46,8 @@ page_gone c =
 found : (c : After-stands_at-found) → c.stands_at-found.result ≡ has_item c.args.page c.args.self.now
 found c =
     c.stands_at-found.ensures.found
-    ∙ ap (λ n. list_any (λ k. k == n) c.as_slice-2.result.now) c.key_of-key.ensures.key
-    ∙ ap (list_any (λ k. k == key_of c.args.page)) c.as_slice-2.ensures
+    ∙ ap (λ n. list_any (λ k. k == n) c.as_mut_slice-keys.result.now) c.key_of-key.ensures.key
+    ∙ ap (list_any (λ k. k == key_of c.args.page)) c.as_mut_slice-keys.ensures.value
     ∙ sym (has_by_key c.args.page c.key_of-key.ensures.few _)
     ∙ ap (has_item c.args.page) c.self.view_is
 
@@ -73,6 +70,10 @@ returns-else-found-clause-found c = found (goal.at.returns-else-found-clause-fou
 
 pub returns-else-found-clause-removed : goal.returns-else-found-clause-removed
 returns-else-found-clause-removed c =
+    let keys = c.self.inside.keys.items in
+    let value = c.as_mut_slice-keys.ensures.value in
     let found = found (goal.at.returns-else-found-clause-removed c).After-stands_at-found in
-    absent_kept pages_ordered (λ p. p) c.args.page _
+    ap (map page_of) (refilled keys c.as_mut_slice-keys.result.now (ap length value) ∙ value)
+    ∙ c.self.view_is
+    ∙ absent_kept pages_ordered (λ p. p) c.args.page _
     (none_found _ c.args.self.now (sym found ∙ c.if-found.false))
