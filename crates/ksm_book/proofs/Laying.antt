@@ -1,10 +1,10 @@
 -- What becomes of pages that lie lawfully, where the keeper makes its steps, and where a page gets another frame.
 use Rattle.ksm_book.proofs.Names.{All, arith, blank, cases_lt, change_row, cond_both, default_knobs, DupRow, false, find_all, first_ledger, frame_at, Frames, get_or, get_or_past, GuestPage}
-use Rattle.ksm_book.proofs.Names.{HasNewFrame, Houses, inl, InPageOrder, IsLaid, IsServed, IsShape, KeeperView, Keeps, Knobs, Ledger, length-replicate, lies_on, List, map, None, nowhere, Option}
-use Rattle.ksm_book.proofs.Names.{PagesView, Placed, refl, Row, row_at, Shape, shared_state, Some, spent, subst, with_row, ℕ, [], ◌≡◌, ◌≤◌, ◌⊎◌, ap, FindsNone, IfSome, IsKnown, leaving, MakesSteps}
-use Rattle.ksm_book.proofs.Names.{MayLeave, on_its_own, Provides, Resettled, TurnedAway}
+use Rattle.ksm_book.proofs.Names.{HasNewFrame, inl, InPageOrder, IsLaid, IsServed, IsShape, KeeperView, Keeps, Knobs, Ledger, length-replicate, lies_on, List, map, None, nowhere, Option}
+use Rattle.ksm_book.proofs.Names.{PagesView, Placed, refl, Row, row_at, Shape, shared_state, Some, spent, subst, with_row, ℕ, [], ◌≡◌, ◌≤◌, ◌⊎◌, FindsNone, IfSome, leaving, MakesSteps}
+use Rattle.ksm_book.proofs.Names.{lying, MayLeave, Provides, Resettles, TurnedAway}
 use Rattle.ksm_base.specs.declared.row.PageState.TheVariants.{Private as OwnPage}
-use Rattle.ksm_book.proofs.ByPage.{found_page, row_of_page, change_twice}
+use Rattle.ksm_book.proofs.ByPage.{found_page, row_of_page}
 use Rattle.std.proofs.lemmas.List.{get_or-replicate}
 use Rattle.ksm_book.proofs.Moves.{inserted, remapped, Serves, swapped}
 use Rattle.ksm_pages.specs.Paged.{relaid}
@@ -29,12 +29,11 @@ module _ {sh : Shape} {across : ℕ} {rows : List Row} {frame : Frames} {dups : 
     serves : (r : Row) → r.state ≡ OwnPage → r.home ≡ node → r.bytes ≡ bytes → Serves sh w.ledger dups r g
     serves r own home content = grind (arith, in_new_hand)
 
-    -- a page moves to the frame taken: its placement is lawful, with the frame that it had, if it had one, in hand
-    pub moved_there : (page : GuestPage) (c : Row → Row) → InPageOrder rows → Houses c page node bytes rows → Placed sh across w.ledger (change_row page c rows) (lies_on page (Some g) frame) dups (frame page)
-    moved_there page c rise houses =
-        let found : (row : Row) × (row_at page rows ≡ Some row) = grind arith in
-        swapped (Some g) c found.0 rise found.1 houses.pages in_new_hand
-        (serves _ (grind arith) (grind arith) (grind arith))
+    -- a page moves to the frame taken, where its row tells so: its placement is lawful, with the frame that it had, if it had one, in hand
+    pub moved_there : {page : GuestPage} {row : Row} (c : Row → Row) → InPageOrder rows → row_at page rows ≡ Some row → ((r : Row) → (c r).page ≡ r.page) → (c row).state ≡ OwnPage
+        → (c row).home ≡ node → (c row).bytes ≡ bytes → Placed sh across w.ledger (change_row page c rows) (lies_on page (Some g) frame) dups (frame page)
+    moved_there c rise found keeps own home content =
+        swapped (Some g) c _ rise found keeps in_new_hand (serves _ own home content)
 
     -- where a new row comes on the frame taken, rows and dups lie lawfully
     pub come_there : (r : Row) → row_at r.page rows ≡ None → r.state ≡ OwnPage → r.home ≡ node → r.bytes ≡ bytes → Placed sh across w.ledger (with_row r rows) (lies_on r.page (Some g) frame) dups None
@@ -86,38 +85,23 @@ pub first_laid : {sh : Shape} {k : KeeperView} → IsShape sh → k.table.shape 
     → IsLaid (record { shape = sh; rows = []; frame = nowhere; dups = []; knobs = default_knobs; next = 0 }) k
 first_laid {sh} is same first = grind (arith, length-replicate, first_note, get_or-replicate, get_or_past, cases_lt)
 
-module _ {p : PagesView} {k w : KeeperView} (h : IsLaid p k) (rise : InPageOrder p.rows) (page : GuestPage) (known : IsKnown page p.rows) {node : ℕ} {bytes : List ℕ} {g : ℕ}
-    (provides : Provides k w node bytes g) (taken : HasNewFrame k w node bytes g) where
-  -- the pages as they would be if the page got its frame alone
-  abbrev pub settled : PagesView
-  settled = record p { rows = change_row page on_its_own p.rows; frame = lies_on page (Some g) p.frame }
+module _ {p : PagesView} {k w : KeeperView} (h : IsLaid p k) (rise : InPageOrder p.rows) {page : GuestPage} {row : Row} (found : row_at page p.rows ≡ Some row) {node : ℕ}
+    {bytes : List ℕ} {g : ℕ} (provides : Provides k w node bytes g) (taken : HasNewFrame k w node bytes g) {left : Option ℕ} (was : left ≡ p.frame page) where
+  -- once a page has a new frame in hand, the frame that it had, if it had one, may be left
+  pub may_left : IfSome left (MayLeave w)
+  may_left =
+      let change = λ (r : Row). record r { home = node; bytes = bytes; state = OwnPage } in
+      rw was (may_leave w (rw (provides_does provides).1.table h.same) _ (moved_there h.same taken h.placed change rise found (λ r. refl) refl refl refl))
 
-  module _ (left : Option ℕ) (was : left ≡ p.frame page) where
-    -- once a page has a new frame in hand, the frame that it had, if it had one, may be left
-    pub may_left : IfSome left (MayLeave w)
-    may_left =
-        let change = λ (r : Row). record r { home = node; bytes = bytes; state = OwnPage } in
-        rw was (may_leave w (rw (provides_does provides).1.table h.same) _ (moved_there h.same taken h.placed page change rise (grind arith)))
-
-    -- a page that took a frame with its bytes on a node, and left the one that it had, is resettled there
-    pub resettled : (q : PagesView) (u : KeeperView) → q ≡ settled → MakesSteps w u (leaving left) → Resettled p q k u page node bytes
-    resettled q u goes made =
-        let leaves = subst (λ o. MakesSteps w u (leaving o)) was made in
-        let lies = ap (λ (x : PagesView). x.frame) goes in
-        record {
-          pages = grind arith;
-          resettles = grind arith;
-          placed = λ change by_this. rw lies (left_placed _ leaves (moved_there h.same taken h.placed page change rise by_this));
-          spent = omega (arith, left_spends _ leaves);
-        }
-
-    -- where its row changed with the frame, it is resettled, and then its row changed
-    pub resettled_as : (change : Row → Row) → ((r : Row) → change (on_its_own r) ≡ change r) → {q : PagesView} {u : KeeperView} → q ≡ relaid page change (Some g) p
-        → MakesSteps w u (leaving left) → Resettled p settled k u page node bytes × (q ≡ record settled { rows = change_row page change settled.rows })
-    resettled_as change alike {u = u} goes made = (
-      resettled settled u refl made,
-      rw (change_twice page on_its_own change change p.rows (λ x. refl) (λ i x lt at. alike (get_or p.rows i x))) goes,
-    )
+  -- a page that took a frame with its bytes on a node, and left the one that it had, is resettled there, where its row tells so
+  pub resettled : (change : Row → Row) → ((r : Row) → (change r).page ≡ r.page) → (change row).state ≡ OwnPage → (change row).home ≡ node → (change row).bytes ≡ bytes
+      → {q : PagesView} {u : KeeperView} → q ≡ relaid page change (Some g) p → MakesSteps w u (leaving left) → Resettles (lying p k) (lying q u) page node bytes × IsLaid q u
+  resettled change keeps own home content {u = u} goes made =
+      let leaves = subst (λ o. MakesSteps w u (leaving o)) was made in
+      let lies = left_placed _ leaves (moved_there h.same taken h.placed change rise found keeps own home content) in (
+        grind arith,
+        rw goes (laid_rows h u (rw made.after (provides_does provides).1.table) (omega (arith, left_spends _ leaves)) lies),
+      )
 
 -- where no frame of a node was found, pages that lie lawfully are turned away, and no page changed
 pub turned : {p : PagesView} {k w : KeeperView} {node : ℕ} → IsLaid p k → FindsNone k w node → TurnedAway p p k w node

@@ -63,7 +63,7 @@ pub use Rattle.ksm_book.specs.Due.{takes_over, TakesOver, TellsDue, waits_on, wi
 pub use Rattle.ksm_book.specs.Folded.{begun, IsStill, next_visited, page_visited, pages_ahead, pages_visited, restless_at, restless_row, row_done, Stage, visited, visits_beside}
 pub use Rattle.ksm_tree.specs.NumberSets.{has, Marks}
 pub use Rattle.ksm_book.specs.Keeping.{AreSets, MayLeave, HasNewFrame, holding, IsLawful, Keeps, NoneLeft, spent, spent_on, with_more, HasLost, HasMoved, MayMount, once_mounted}
-pub use Rattle.ksm_book.specs.Laid.{HasRemounted, Houses, IsLaid, lying, MayMove, Resettled, state_of, TurnedAway, HasLeft, is_shared_of, left_by, MayNotLeave, Unshares}
+pub use Rattle.ksm_book.specs.Laid.{HasRemounted, IsLaid, lying, MayMove, state_of, TurnedAway, HasLeft, is_shared_of, left_by, MayNotLeave, Unshares}
 pub use Rattle.ksm_book.specs.Placement.{Agrees, DupFits, FitsBase, in_hand, is_frame, IsInLife, IsServed, life_or, node_of, place_frame, Placed, RowFits, uses}
 pub use Rattle.ksm_book.specs.Promised.{dup_frames, FindsPlace, is_in_use, IsOutlived, LieOn, own_frames, StandsOn}
 pub use Rattle.ksm_book.specs.Scanned.{ahead_before, ahead_up_to, Comes, FindsStill, FindsUpTo, HasVisited, is_nowhere, is_quiet, last_visited, passes_ended, Reached, StaysStill, Stops, up_to, VisitsPage}

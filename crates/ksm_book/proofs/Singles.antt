@@ -1,15 +1,16 @@
 -- The commands on single pages, and on one dup, carried out.
-use Rattle.ksm_pages.specs.Paged.{seen}
+use Rattle.ksm_base.specs.Apply.{moved}
+use Rattle.ksm_pages.specs.Paged.{at_home_on, relaid, seen}
 use Rattle.ksm_book.specs.declared.state.State.TheInside.{Inside}
 use Rattle.ksm_book.proofs.Names.{absent_parts, All, Answer, ap, arith, BookState, BookValue, BookView, change_row, comes_before, Command, Done, Drop, DupRow, Err, false, filter, filter_passes}
-use Rattle.ksm_book.proofs.Names.{find_passes, find_put, FindsNone, frame_at, frames_of, fresh_row, GuestPage, HasNewFrame, HasRemounted, Held, holding, Houses, IfSome, if◌then◌else◌, inl}
+use Rattle.ksm_book.proofs.Names.{find_passes, find_put, FindsNone, frame_at, frames_of, fresh_row, GuestPage, HasNewFrame, HasRemounted, Held, holding, IfSome, inl}
 use Rattle.ksm_book.proofs.Names.{InPageOrder, IsCarried, IsHeld, IsLaid, IsReadable, IsSound, IsWritable, KeeperView, leaving, length, lies_on, List, live_dup_at, lying, MakesSteps}
-use Rattle.ksm_book.proofs.Names.{map_fixed, MayLeave, MayMove, MoveDup, MovePage, nat_le, NoFrame, None, Ok, on_its_own, Option, PAGE_WORDS, pages_ordered, PagesView, Provides, puts}
-use Rattle.ksm_book.proofs.Names.{refl, Register, Resettled, Resettles, Row, row_at, same_page, same_page_refl, shared_state, Some, sound_after, state_of, stepped, Store, stored, true, view_of}
+use Rattle.ksm_book.proofs.Names.{map_fixed, MayLeave, MayMove, MoveDup, MovePage, nat_le, NoFrame, None, Ok, Option, PAGE_WORDS, pages_ordered, PagesView, Provides, puts}
+use Rattle.ksm_book.proofs.Names.{refl, Register, Resettles, Row, row_at, same_page, same_page_refl, shared_state, Some, sound_after, state_of, stepped, Store, stored, true, view_of}
 use Rattle.ksm_book.proofs.Names.{with_frame, with_row, without_between, without_page, ℕ, [], ◌<◌, ◌==◌, ◌∙◌, ◌∷◌, ◌≡◌, ◌≤◌}
-use Rattle.ksm_base.specs.declared.row.PageState.TheVariants.{Private}
 use Rattle.ksm_base.proofs.SoundEdits.{sound_settings}
-use Rattle.ksm_book.proofs.ByPage.{at_changed, change_twice, found_page, lies_again, lies_still, row_of_page}
+use Rattle.ksm_tree.proofs.Alike.{map_alike}
+use Rattle.ksm_book.proofs.ByPage.{found_page, lies_again, lies_still, row_of_page}
 use Rattle.ksm_book.proofs.Laying.{come_there, laid_rows, retuned, serves_at, turned}
 use Rattle.ksm_book.proofs.Keeping.{left_placed, left_spends, may_leave, spent_kept}
 use Rattle.ksm_book.proofs.Shown.{provides_does}
@@ -50,21 +51,10 @@ carried_so same told h = grind (arith, h)
 pub row_held : {p : PagesView} {page : GuestPage} {held : Held} (h : IsHeld p page held) → row_at held.spot.page p.rows ≡ Some h.row
 row_held h = rw h.spot h.found
 
-module _ {p m q : PagesView} {k l : KeeperView} {page : GuestPage} {node : ℕ} {bytes : List ℕ} {row : Row} (h : IsLaid p k)
-    (rise : InPageOrder p.rows) (found : row_at page p.rows ≡ Some row) (r : Resettled p m k l page node bytes) where
-  -- a page was resettled, and then its row changed to tell of home and bytes: the pages differ in that row, in where pages lie and in the
-  -- listing, the steps are those of the resettling, and rows and dups lie lawfully
-  pub settled_then : (d change : Row → Row)
-      → q ≡ record m { rows = change_row page d m.rows } → ((x : Row) → (change x).page ≡ x.page)
-      → d (on_its_own row) ≡ change row → ((change row).state ≡ Private) × ((change row).home ≡ node) × ((change row).bytes ≡ bytes)
-      → (q ≡ record p { rows = change_row page change p.rows; frame = q.frame })
-      × Resettles (lying p k) (lying q l) row.page node bytes × IsLaid q l
-  settled_then d change goes keeps to housed =
-      let one = row_of_page _ _ row rise found in
-      let rows = change_twice page on_its_own d change p.rows (λ x. refl)
-      (λ i x lt at. grind (arith, one i x lt at, to)) in
-      let houses : Houses change page node bytes p.rows = record { pages = keeps; row = rw found housed } in
-      grind (arith, found_page)
+-- two changes that make the same of the row of a page change the rows alike
+pub changed_alike : (page : GuestPage) (c d : Row → Row) (rows : List Row) (row : Row) → InPageOrder rows → row_at page rows ≡ Some row → c row ≡ d row
+    → change_row page c rows ≡ change_row page d rows
+changed_alike page c d rows row rise found same = map_alike _ _ rows (grind (arith, row_of_page page rows row rise found))
 
 -- a page with a frame
 module _ {p : PagesView} {k : KeeperView} (h : IsLaid p k) (page : GuestPage) (row : Row) (found : row_at page p.rows ≡ Some row) where
@@ -77,11 +67,6 @@ module _ {p : PagesView} {k : KeeperView} (h : IsLaid p k) (page : GuestPage) (r
   pub own_ready : shared_state row.state ≡ false → (g : ℕ) → p.frame page ≡ Some g
       → (g < frames_of k.table.shape) × (g < length k.ledger.frames) × IsWritable (frame_at k.ledger g).kind × (length (frame_at k.ledger g).content ≡ PAGE_WORDS)
   own_ready alone g lies = grind (arith, may_read g lies, serves_at h.placed found lies)
-
--- the row of a page that was resettled is found with a frame of its own
-pub found_resettled : {p m : PagesView} {k l : KeeperView} {page : GuestPage} {node : ℕ} {bytes : List ℕ} {row : Row}
-    → Resettled p m k l page node bytes → row_at page p.rows ≡ Some row → row_at page m.rows ≡ Some (on_its_own row)
-found_resettled r found = grind (arith, r.pages, at_changed)
 
 module _ {p : PagesView} {k l : KeeperView} {cursor : Option GuestPage} {passes : ℕ} {page : GuestPage} {bytes : List ℕ} {row : Row}
     (h : IsLaid p k) (rise : InPageOrder p.rows) (found : row_at page p.rows ≡ Some row) where
@@ -96,10 +81,9 @@ module _ {p : PagesView} {k l : KeeperView} {cursor : Option GuestPage} {passes 
       )
 
   -- `Store` is carried out, and all lies lawfully, where a shared page is resettled with the bytes, as its row tells
-  pub store_copied : {m q : PagesView} → Resettled p m k l page row.home bytes → q ≡ record m { rows = change_row page (stored bytes) m.rows } → shared_state row.state ≡ true
-      → Carries p k q l cursor passes (Store page bytes) (Ok Done)
-  store_copied r goes shared =
-      grind (arith, settled_then h rise found r _ (stored bytes) goes (λ x. refl) refl (refl, refl, refl))
+  pub store_copied : (lies : Option ℕ) {q : PagesView} → q ≡ relaid page (stored bytes) lies p → Resettles (lying p k) (lying q l) page row.home bytes × IsLaid q l
+      → shared_state row.state ≡ true → Carries p k q l cursor passes (Store page bytes) (Ok Done)
+  store_copied lies goes got shared = grind (arith, found_page)
 
 -- a change that leaves the rows of a page as they are changes nothing
 pub change_still : (page : GuestPage) (f : Row → Row) (rows : List Row) → All (λ r. same_page r.page page ≡ true → f r ≡ r) rows → change_row page f rows ≡ rows
@@ -111,13 +95,12 @@ module _ {p : PagesView} {k : KeeperView} {cursor : Option GuestPage} {passes : 
   move_home same = grind (arith, row_of_page, change_still)
 
   -- `MovePage` is carried out, and all lies lawfully, where the page is resettled on another node and at home there
-  pub move_moved : {l : KeeperView} {m q : PagesView} → (row.home == node) ≡ false → IsLaid p k → Resettled p m k l page node row.bytes → q ≡ record m { rows = change_row page (λ r. record r { home = node }) m.rows }
-      → Carries p k q l cursor passes (MovePage page node) (Ok Done)
-  move_moved away h r goes =
-      let s = settled_then h rise found r _ (λ x. if x.home == node then x else record x { home = node; state = Private }) goes
-      (grind arith) (grind (arith, away)) (grind (arith, away)) in
+  pub move_moved : {l : KeeperView} {q : PagesView} (lies : Option ℕ) → (row.home == node) ≡ false → q ≡ relaid page (at_home_on node) lies p
+      → Resettles (lying p k) (lying q l) page node row.bytes × IsLaid q l → Carries p k q l cursor passes (MovePage page node) (Ok Done)
+  move_moved lies away goes got =
+      let alike = changed_alike page (at_home_on node) (moved node) p.rows row rise found (grind (arith, away)) in
       let there : nat_le p.shape.nodes node ≡ false = grind (arith, less) in
-      grind arith
+      grind (arith, found_page)
 
 module _ {p : PagesView} {k : KeeperView} (h : IsLaid p k) (rise : InPageOrder p.rows) {page : GuestPage} {row : Row}
     (found : row_at page p.rows ≡ Some row) {left : Option ℕ} (was : left ≡ p.frame page) where

@@ -1,17 +1,18 @@
 -- Pages that leave their dups, or the zero page, one after another; and the commands on all pages of a guest, or all.
-use Rattle.ksm_book.proofs.Names.{All, append-nil, arith, Bool, change_row, change_rows, false, Fault, filter, filter_none, find, find_all, find_passes, GuestPage, HasLeft, Held, InPageOrder, is_next}
-use Rattle.ksm_book.proofs.Names.{is_shared_of, is_some, IsHeld, IsLaid, KeeperView, left_by, length, length-append, let_go, List, lying, Mapped, MayNotLeave, None, not, of_guest, on_its_own, Option}
-use Rattle.ksm_book.proofs.Names.{option_map, PagesView, refl, Resettled, ResettlesEach, Row, row_at, same_page, same_Some, shared_state, slice_get, Some, take-append_seam, true, Unshares, ℕ, []}
-use Rattle.ksm_book.proofs.Names.{◌++◌, ◌+◌, ◌<◌, ◌∷◌, ◌≡◌, ◌≤◌, All-map, any_found, BookState, Done, Err, inl, is_of, IsCarried, Knobs, list_any, if◌then◌else◌, map, map_mapped, MatchOption, Mergeable, Ok, SetRun}
-use Rattle.ksm_book.proofs.Names.{slice_get_past, state_of, UnknownPage, Unmerge, Unmerged, unshare_stopped, unshared, ◌∙◌}
+use Rattle.ksm_book.proofs.Names.{All, append-nil, arith, Bool, change_row, change_rows, false, Fault, filter, filter_none, find, find_all, find_passes, GuestPage, HasLeft, HasNewFrame, Held, InPageOrder, is_next}
+use Rattle.ksm_book.proofs.Names.{is_shared_of, is_some, IsHeld, IsLaid, KeeperView, leaving, left_by, length, length-append, let_go, List, lying, MakesSteps, Mapped, MayNotLeave, None, not, of_guest, Option}
+use Rattle.ksm_book.proofs.Names.{option_map, PagesView, Provides, refl, ResettlesEach, Row, row_at, same_page, same_Some, shared_state, slice_get, Some, take-append_seam, true, Unshares, ℕ, []}
+use Rattle.ksm_book.proofs.Names.{◌++◌, ◌+◌, ◌<◌, ◌∷◌, ◌≡◌, ◌≤◌, All-map, any_found, BookState, Done, Err, inl, is_of, IsCarried, Knobs, list_any, map, map_mapped, MatchOption, Mergeable, Ok, SetRun}
+use Rattle.ksm_book.proofs.Names.{slice_get_past, state_of, UnknownPage, Unmerge, Unmerged, unshare_stopped, sym, unshared, ◌∙◌}
 use Rattle.ksm_base.proofs.Edits.{count_more}
-use Rattle.ksm_base.specs.Counting.{mergeable_count}
 use Rattle.ksm_base.specs.declared.row.PageState.TheVariants.{Private}
+use Rattle.ksm_pages.specs.Paged.{relaid}
+use Rattle.ksm_base.specs.Counting.{mergeable_count}
 use Rattle.std.proofs.lemmas.List.Sums.{count_by-le-length}
 use Rattle.ksm_book.proofs.Along.{along_end, along_next, along_none, along_stop, FitsPage, further, IsAlong, next_is, parted, passed, passed_all, position, there}
-use Rattle.ksm_book.proofs.ByPage.{row_of_page}
-use Rattle.ksm_book.proofs.Laying.{laid_changed, laid_mapped, retuned}
-use Rattle.ksm_book.proofs.Singles.{change_still, settled_then, book, Carries}
+use Rattle.ksm_book.proofs.ByPage.{found_page, row_of_page}
+use Rattle.ksm_book.proofs.Laying.{laid_changed, laid_mapped, resettled, retuned}
+use Rattle.ksm_book.proofs.Singles.{book, Carries, changed_alike, change_still}
 
 -- where all rows are mergeable, none changes by becoming so
 pub stay_in_scan : (test : Row → Bool) (rows : List Row) → mergeable_count rows ≡ length rows
@@ -28,6 +29,28 @@ stay_in_scan test (r ∷ rows) all =
 -- a row that is left keeps its page
 pub page_left : (guest : Option ℕ) (r : Row) → (left_by guest r).page ≡ r.page
 page_left guest r = grind arith
+
+-- a shared row once it has a frame of its own: a guest's leaves the scan, any other is not unchanged
+abbrev pub freed_by : Option ℕ → Row → Row
+freed_by None = unshared
+freed_by (Some guest) = let_go
+
+freed_as : (guest : Option ℕ) (r : Row) → shared_state r.state ≡ true → freed_by guest r ≡ left_by guest r
+freed_as None r shared = rw shared refl
+freed_as (Some guest) r shared = refl
+
+housed : (guest : Option ℕ) (r : Row) → ((freed_by guest r).page ≡ r.page) × ((freed_by guest r).state ≡ Private) × ((freed_by guest r).home ≡ r.home) × ((freed_by guest r).bytes ≡ r.bytes)
+housed None r = (refl, refl, refl, refl)
+housed (Some guest) r = (refl, refl, refl, refl)
+
+-- it is a guest's, or any other
+pub freed_some : (guest : Option ℕ) → is_some guest ≡ true → let_go ≡ freed_by guest
+freed_some None some = grind arith
+freed_some (Some guest) some = refl
+
+pub freed_any : (guest : Option ℕ) → is_some guest ≡ false → unshared ≡ freed_by guest
+freed_any None none = refl
+freed_any (Some guest) none = grind arith
 
 -- the row of a page is left: a guest's, or any
 module _ {p : PagesView} {k : KeeperView} (guest : Option ℕ) {page : GuestPage} {held : Held} (told : IsHeld p page held) (h : IsLaid p k)
@@ -53,28 +76,17 @@ module _ {p : PagesView} {k : KeeperView} (guest : Option ℕ) {page : GuestPage
         → HasLeft p q k k guest page 0
     left_alone some {q} goes = grind (arith, left_own)
 
-  -- a shared page gets a frame of its own first
-  module _ {m : PagesView} {l : KeeperView} {bytes : List ℕ} (test : not held.shared ≡ false)
-      (are : option_map (λ r. r.bytes) (row_at page p.rows) ≡ Some bytes) (r : Resettled p m k l page held.home bytes) where
-    shared : shared_state row.state ≡ true
-    shared = grind arith
-
-    left_shared : (q : PagesView) (d : Row → Row) → q ≡ record m { rows = change_row page d m.rows }
-        → ((x : Row) → shared_state x.state ≡ true → d (on_its_own x) ≡ left_by guest x) → (d (on_its_own row)).state ≡ Private
-        → (d (on_its_own row)).home ≡ row.home → (d (on_its_own row)).bytes ≡ row.bytes → HasLeft p q k l guest page 1
-    left_shared q d goes same state home content =
-        let got : Resettled p m k l page row.home row.bytes = grind (arith, same_Some) in
-        let s = settled_then h rise told.found got d (left_by guest) goes (page_left guest) (same row shared)
-        (grind (arith, same row shared)) in
-        grind (arith, shared, s)
-
-    -- a shared row is left once its page was resettled, and a guest's is let go, or any other is not unchanged
-    pub left_there : {q : PagesView}
-        → q ≡ record m {
-          rows = change_row page (if is_some guest then let_go else λ x. record x { unchanged = false }) m.rows;
-        }
-        → HasLeft p q k l guest page 1
-    left_there {q} goes = grind (arith, left_shared)
+  -- a shared row is left where its page takes a frame with its bytes, and leaves the one that it had
+  pub left_shared : {w l : KeeperView} {q : PagesView} {bytes : List ℕ} {g : ℕ} {left : Option ℕ} → Provides k w held.home bytes g → HasNewFrame k w held.home bytes g
+      → left ≡ p.frame page → MakesSteps w l (leaving left) → option_map (λ r. r.bytes) (row_at page p.rows) ≡ Some bytes → not held.shared ≡ false
+      → q ≡ relaid page (freed_by guest) (Some g) p → HasLeft p q k l guest page 1
+  left_shared provides took was made are test goes =
+      let shared : shared_state row.state ≡ true = grind arith in
+      let content : row.bytes ≡ _ = grind (arith, same_Some) in
+      let is = housed guest row in
+      let got = resettled h rise told.found provides took was (freed_by guest) (λ r. (housed guest r).0) is.1 (is.2 ∙ sym told.home) (is.3 ∙ content) goes made in
+      let alike = changed_alike page (freed_by guest) (left_by guest) p.rows row rise told.found (freed_as guest row shared) in
+      grind (arith, found_page, got)
 
 -- rows that are resettled after others
 each_then : (xs ys : List Row) (u v w : Mapped) → ResettlesEach xs u v → ResettlesEach ys v w → ResettlesEach (xs ++ ys) u w

@@ -1,8 +1,7 @@
 -- The pages as they lie in the keeper's frames, the state of the book that they tell, and pages that leave their dups
 -- (own).
-use Rattle.std.specs.Prelude.{◌≡◌, ℕ, ◌<◌, ◌≤◌, ◌&&◌, ◌==◌, find, MatchOption, Ok, Err, Option, None, Some, List, [], Bool, true, ◌∷◌, length, filter, take, slice_get, option_map, if◌then◌else◌}
+use Rattle.std.specs.Prelude.{◌≡◌, ℕ, ◌<◌, ◌≤◌, ◌&&◌, ◌==◌, find, Ok, Err, Option, None, Some, List, [], Bool, true, ◌∷◌, length, filter, take, slice_get, option_map, if◌then◌else◌}
 use Rattle.ksm_base.specs.declared.page.GuestPage.{GuestPage}
-use Rattle.ksm_base.specs.declared.row.PageState.TheVariants.{Private}
 use Rattle.ksm_base.specs.declared.fault.Fault.TheVariants.{InUse, NoFrame}
 use Rattle.ksm_base.specs.declared.reply.Reply.TheVariants.{Done}
 use Rattle.ksm_base.specs.Answers.{Answer}
@@ -15,9 +14,9 @@ use Rattle.ksm_base.specs.Values.{IsShape}
 use Rattle.frame_table.specs.Named.{KeeperView}
 use Rattle.ksm_book.specs.Placement.{Placed}
 use Rattle.ksm_book.specs.Steps.{Allocates, loads}
-use Rattle.ksm_book.specs.Commands.{FindsHeld, Mapped, Moves, Resettles, TurnsAway, ResettlesEach}
+use Rattle.ksm_book.specs.Commands.{FindsHeld, Mapped, Moves, TurnsAway, ResettlesEach}
 use Rattle.ksm_book.specs.Keeping.{spent}
-use Rattle.ksm_pages.specs.Paged.{PagesView, on_its_own, of_guest}
+use Rattle.ksm_pages.specs.Paged.{PagesView, of_guest}
 use Rattle.ksm_base.specs.declared.fault.Fault.{Fault}
 use Rattle.ksm_base.specs.Apply.{is_before, let_go, unshared}
 use Rattle.ksm_book.specs.Carried.{UnmergesTo}
@@ -44,21 +43,6 @@ pub record IsLaid (p : PagesView) (k : KeeperView) : Type 0 where
   pub same : k.table.shape ≡ p.shape
   pub placed : Placed p.shape p.knobs.merge_across_nodes k.ledger p.rows p.frame p.dups None
   pub spent : p.next ≤ spent k.ledger
-
--- by this change the row of a page is at home on a node, with these bytes and a frame of its own
-pub record Houses (change : Row → Row) (page : GuestPage) (node : ℕ) (bytes : List ℕ) (rows : List Row) : Type 0 where
-  pub pages : (r : Row) → (change r).page ≡ r.page
-  pub row : MatchOption (row_at page rows) ⊥
-      (λ r. ((change r).state ≡ Private) × ((change r).home ≡ node) × ((change r).bytes ≡ bytes))
-
--- a page got a frame of a node with these bytes, and its row has a frame of its own; once the row tells of home and
--- bytes too, rows and dups lie lawfully
-pub record Resettled (p q : PagesView) (k l : KeeperView) (page : GuestPage) (node : ℕ) (bytes : List ℕ) : Type 0 where
-  pub pages : q ≡ record p { rows = change_row page on_its_own p.rows; frame = q.frame }
-  pub resettles : Resettles (lying p k) (lying q l) page node bytes
-  pub placed : (change : Row → Row) → Houses change page node bytes p.rows
-      → Placed p.shape p.knobs.merge_across_nodes l.ledger (change_row page change p.rows) q.frame p.dups None
-  pub spent : p.next ≤ spent l.ledger
 
 -- no frame of a node was left, and no page changed
 pub record TurnedAway (p q : PagesView) (k l : KeeperView) (node : ℕ) : Type 0 where

@@ -1,7 +1,7 @@
 //! The book of page sharing: its commands, the pages as they are read, the counters and the journal. Each command is
 //! carried out on the `State`, and then entered in the journal, whose memory was taken before the first step.
 
-ghost use Rattle.std.specs.Prelude.{◌≡◌, ◌≤◌, [], true, Some, IfOk, IfErr, IfSome, IsSome, option_map};
+ghost use Rattle.std.specs.Prelude.{◌≡◌, ◌≤◌, [], Some, IfOk, IfErr, IfSome, IsSome, option_map};
 ghost use Rattle.ksm_base.specs.Answers.{IsAnswerOrMemory};
 ghost use Rattle.ksm_base.specs.Apply.{after};
 ghost use Rattle.ksm_base.specs.Counting.{counters_of};
@@ -44,7 +44,7 @@ pub struct Book {
 }
 
 impl Model for Book {
-    ghost use Rattle.std.specs.Prelude.{◌≡◌, true};
+    ghost use Rattle.std.specs.Prelude.{◌≡◌};
     ghost use Rattle.ksm_base.specs.Journal.{IsLegal};
     ghost use Rattle.ksm_book.specs.Carried.{JournaledBook};
     ghost use Rattle.ksm_book.specs.Due.{TellsDue};

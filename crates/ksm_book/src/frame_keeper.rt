@@ -1,6 +1,6 @@
 //! The keeper with the sets of its free and of its dying frames, so that neither is looked for frame by frame.
 
-ghost use Rattle.std.specs.Prelude.{◌≡◌, ◌<◌, ◌≤◌, ◌*◌, ℕ, ◌↔◌, IfErr, IfOk, IsTrue, MatchOption, length};
+ghost use Rattle.std.specs.Prelude.{◌≡◌, ◌<◌, ◌≤◌, ℕ, ◌↔◌, IfErr, IfOk, IsTrue, MatchOption};
 ghost use Rattle.std.specs.Prelude.{slice_index};
 ghost use Rattle.ksm_base.specs.declared.fault.Fault.TheVariants.{Memory};
 ghost use Rattle.ksm_base.specs.Values.{frames_of, IsShape};
@@ -9,7 +9,6 @@ ghost use Rattle.frame_core.specs.declared.event.KeeperStep.TheVariants.{Withdra
 ghost use Rattle.frame_core.specs.Ledger.{frame_at, first_ledger};
 ghost use Rattle.frame_core.specs.State.{frame_word, count_in};
 ghost use Rattle.frame_table.specs.Kept.{May, did, Did};
-ghost use Rattle.ksm_tree.specs.NumberSets.{Marks};
 ghost use Rattle.ksm_book.specs.Keeping.{MayLeave};
 ghost use Rattle.ksm_book.specs.Steps.{NoneOf, IsFirstOf, free_kind, dying_kind};
 

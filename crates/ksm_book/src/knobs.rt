@@ -4,7 +4,7 @@ ghost use Rattle.std.specs.Prelude.{◌≡◌};
 ghost use Rattle.ksm_base.specs.Refusals.{changes_while_shared};
 ghost use Rattle.ksm_book.specs.Carried.{CarriesOut};
 
-use crate::settling::drop_stale;
+use crate::stale::drop_stale;
 use crate::state::State;
 use frame_table::FrameTable;
 use ksm_base::{Command, Fault, Knobs, MOST_REFERENCES, Reply};

@@ -10,7 +10,7 @@ mod knobs;
 mod mounting;
 mod moving;
 mod scan;
-mod settling;
+mod stale;
 mod state;
 mod unmerging;
 mod visiting;

@@ -23,7 +23,7 @@ ghost use Rattle.ksm_book.specs.Promised.{FindsPlace, LieOn, NumbersAreSmall};
 use crate::due::Due;
 use crate::frame_keeper::FrameKeeper;
 use crate::frames::{is_used_up, known_frame, load, release_if, take_frame, write};
-use crate::settling::{drop_stale, resettle};
+use crate::stale::drop_stale;
 use frame_table::{FrameTable, Keeper};
 use ksm_base::{Command, Counters, Fault, GuestPage, PageBytes, Reply, Shape};
 use ksm_pages::{Pages, Spot};
@@ -283,15 +283,12 @@ impl State {
             return Ok(Reply::Done);
         }
         let bytes = self.pages.bytes(held.spot);
-        resettle(
-            &mut self.pages,
-            &mut self.keeper,
-            table,
-            held.spot,
-            node,
-            &bytes,
-        )?;
-        self.pages.set_home(held.spot, node);
+        let shape = self.pages.shape();
+        let Some(frame) = take_frame(&mut self.keeper, table, shape, node, &bytes) else {
+            return Err(Fault::NoFrame(node));
+        };
+        let left = self.pages.move_on(held.spot, frame, node);
+        release_if(&mut self.keeper, table, left);
         Ok(Reply::Done)
     }
 }

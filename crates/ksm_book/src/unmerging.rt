@@ -10,7 +10,6 @@ ghost use Rattle.ksm_pages.specs.Paged.{IsHeld, seen};
 
 use crate::frame_keeper::FrameKeeper;
 use crate::frames::{release_if, take_frame};
-use crate::settling::resettle;
 use crate::state::State;
 use frame_table::FrameTable;
 use ksm_base::{Command, Fault, Knobs, Reply};
@@ -42,17 +41,16 @@ fn leave(
         return Ok(0);
     }
     let bytes = pages.bytes(held.spot);
-    if guest.is_some() {
-        let shape = pages.shape();
-        let Some(frame) = take_frame(keeper, table, shape, held.home, &bytes) else {
-            return Err(Fault::NoFrame(held.home));
-        };
-        let left = pages.let_go_on(held.spot, frame);
-        release_if(keeper, table, left);
-        return Ok(1);
-    }
-    resettle(pages, keeper, table, held.spot, held.home, &bytes)?;
-    pages.forget_unchanged(held.spot);
+    let shape = pages.shape();
+    let Some(frame) = take_frame(keeper, table, shape, held.home, &bytes) else {
+        return Err(Fault::NoFrame(held.home));
+    };
+    let left = if guest.is_some() {
+        pages.let_go_on(held.spot, frame)
+    } else {
+        pages.unshare_on(held.spot, frame)
+    };
+    release_if(keeper, table, left);
     Ok(1)
 }
 

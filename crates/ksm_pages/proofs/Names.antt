@@ -4,7 +4,7 @@ pub use Rattle.ksm_base.proofs.Orders.{each_has_number, one_of_each_page, one_of
 pub use Rattle.ksm_base.proofs.Pages.{before_irrefl, one_before, same_page_eq, same_page_refl, same_page_sym}
 pub use Rattle.ksm_base.proofs.RowCounts.{each_at_page, filter_all}
 pub use Rattle.ksm_base.proofs.Sums.{states-add}
-pub use Rattle.ksm_base.specs.Apply.{fresh_row, let_go, stored}
+pub use Rattle.ksm_base.specs.Apply.{fresh_row, let_go, stored, unshared}
 pub use Rattle.ksm_base.specs.Counting.{counters_from}
 pub use Rattle.ksm_base.specs.Reading.{items_of}
 pub use Rattle.ksm_base.specs.Rows.{all_zero, change_row, change_rows, comes_before, dup_numbered, InPageOrder, InPlaceOrder, item_count, merged_into, merged_state, private_state, row_at, same_page}

@@ -233,6 +233,10 @@ written bytes h = record h {
 abbrev pub copied : ℕ → List ℕ → Held → Held
 copied frame bytes h = record { row = stored bytes h.row; frame = Some frame; in_tree = Not }
 
+-- a row at home on another node, with a frame of its own
+abbrev pub rehoused : ℕ → ℕ → Held → Held
+rehoused frame node h = record { row = record h.row { home = node; state = Private }; frame = Some frame; in_tree = Not }
+
 -- a row to which the unstable tree does not lead
 abbrev pub out_of_tree : Held → Held
 out_of_tree h = record h { row = settled h.row; in_tree = Not }

@@ -126,6 +126,10 @@ page_beside knobs rows (Some r) = if merged_state r.state then option_map (λ w.
 abbrev pub on_its_own : Row → Row
 on_its_own r = record r { state = Private }
 
+-- the same at home on another node
+abbrev pub at_home_on : ℕ → Row → Row
+at_home_on node r = record r { home = node; state = Private }
+
 -- no dup with items stands at the place
 abbrev pub IsVacant : ℕ → List Row → List DupRow → Type 0
 IsVacant place rows dups = All (λ d. d.place ≡ place → item_count rows d ≡ 0) dups

@@ -3,9 +3,9 @@
 ghost use Rattle.std.specs.Prelude.{◌≡◌, true, false, None, Some, Err, All, map, IfOk, OnOk, OnErr};
 ghost use Rattle.ksm_base.specs.declared.fault.Fault.TheVariants.{Memory};
 ghost use Rattle.ksm_base.specs.Apply.{fresh_row, let_go as as_let_go, stored, unshared as as_unshared};
-ghost use Rattle.ksm_base.specs.Rows.{row_at, with_row, without_page, shared_state, private_state};
+ghost use Rattle.ksm_base.specs.Rows.{row_at, with_row, without_page, shared_state};
 ghost use Rattle.ksm_base.specs.Rows.{settled as as_settled};
-ghost use Rattle.ksm_pages.specs.Paged.{HasRow, IsAlone, IsKnown, changed, lies_on, on_its_own, relaid, seen};
+ghost use Rattle.ksm_pages.specs.Paged.{IsAlone, IsKnown, at_home_on, changed, lies_on, on_its_own, relaid, seen};
 
 use crate::left::leave;
 use crate::pages::Pages;
@@ -31,19 +31,6 @@ impl Pages {
         self.rows.insert(page, node, *bytes, 0)
     }
 
-    /// The page gets a frame of its own in the stead of what it had: a merged one leaves its dup, one that waits does
-    /// so no more. Gives the frame where it lay, if it had one.
-    #[inline(always)]
-    pub fn resettle(&mut self, spot: Spot, frame: u32) -> Option<u32>
-        requires { IsKnown spot.page self.old.rows }
-        ensures left { result ≡ (seen self.old).frame spot.page }
-        ensures settled { seen self.new ≡ relaid spot.page on_its_own (Some frame) (seen self.old) }
-    {
-        let left = leave(&mut self.dups, &self.frames, &self.rows, spot);
-        self.rows.change(spot, |entry| entry.take_frame(frame));
-        left
-    }
-
     /// The page gets a frame of its own in the stead of what it had, and these bytes. Gives the frame where it lay, if it
     /// had one.
     #[inline(always)]
@@ -54,6 +41,18 @@ impl Pages {
     {
         let left = leave(&mut self.dups, &self.frames, &self.rows, spot);
         self.rows.store_on(spot, frame, bytes);
+        left
+    }
+
+    /// The page gets a frame of its own in the stead of what it had, and is at home on another node. Gives the frame where
+    /// it lay, if it had one.
+    pub fn move_on(&mut self, spot: Spot, frame: u32, node: u32) -> Option<u32>
+        requires { IsKnown spot.page self.old.rows }
+        ensures left { result ≡ (seen self.old).frame spot.page }
+        ensures moved { seen self.new ≡ relaid spot.page (at_home_on node) (Some frame) (seen self.old) }
+    {
+        let left = leave(&mut self.dups, &self.frames, &self.rows, spot);
+        self.rows.move_on(spot, frame, node);
         left
     }
 
@@ -91,22 +90,6 @@ impl Pages {
         self.rows.store(spot, bytes);
     }
 
-    /// A Private page is at home on another node from now on.
-    pub fn set_home(&mut self, spot: Spot, node: u32)
-        requires { HasRow spot.page self.old.rows (λ r. private_state r.state ≡ true) }
-        ensures { seen self.new ≡ changed spot.page (λ r. record r { home = node }) (seen self.old) }
-    {
-        self.rows.set_home(spot, node);
-    }
-
-    /// The page is not unchanged from now on.
-    pub fn forget_unchanged(&mut self, spot: Spot)
-        requires { IsKnown spot.page self.old.rows }
-        ensures { seen self.new ≡ changed spot.page (λ r. record r { unchanged = false }) (seen self.old) }
-    {
-        self.rows.change(spot, |entry| entry.unchanged = false);
-    }
-
     /// The scan visits the page from now on.
     pub fn make_mergeable(&mut self, spot: Spot)
         requires { IsKnown spot.page self.old.rows }
@@ -134,6 +117,21 @@ impl Pages {
         self.rows.change(spot, |entry| {
             entry.take_frame(frame);
             entry.mergeable = false;
+            entry.unchanged = false;
+        });
+        left
+    }
+
+    /// The page gets a frame of its own in the stead of what it had, and is not unchanged. Gives the frame where it lay, if
+    /// it had one.
+    pub fn unshare_on(&mut self, spot: Spot, frame: u32) -> Option<u32>
+        requires { IsKnown spot.page self.old.rows }
+        ensures left { result ≡ (seen self.old).frame spot.page }
+        ensures unshared { seen self.new ≡ relaid spot.page as_unshared (Some frame) (seen self.old) }
+    {
+        let left = leave(&mut self.dups, &self.frames, &self.rows, spot);
+        self.rows.change(spot, |entry| {
+            entry.take_frame(frame);
             entry.unchanged = false;
         });
         left

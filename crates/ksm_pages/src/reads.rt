@@ -1,5 +1,4 @@
 //! What is read of pages: where they lie, what they hold, which comes next, and how many there are of each kind.
-#![tactic(auto, using(crate::proofs::Leaving::row_seen))]
 
 ghost use Rattle.std.specs.Prelude.{◌≡◌, ◌≤◌, ◌==◌, true, false, None, Some, All, find, is_some, length, option_map};
 ghost use Rattle.std.specs.Prelude.{option_and_then, MatchOption, IfSome};
@@ -92,6 +91,7 @@ impl Pages {
     }
 
     /// Whether a page waits.
+    #[tactic(auto, using(crate::proofs::Leaving::row_seen))]
     #[inline(always)]
     pub fn waits(&self, spot: Spot) -> bool
         ensures { MatchOption (row_at spot.page self.now.rows) (result ≡ false) (λ r. result ≡ waiting_state r.state) }
@@ -103,6 +103,7 @@ impl Pages {
     }
 
     /// The page that waits in the tree of a merged page with its bytes, if one does.
+    #[tactic(auto, using(crate::proofs::Leaving::row_seen))]
     pub fn waiting_beside(&self, spot: Spot) -> Option<Spot>
         ensures { option_map (λ s. s.page) result
             ≡ page_beside self.now.knobs self.now.rows (row_at spot.page self.now.rows) }
@@ -210,6 +211,7 @@ impl Pages {
     }
 
     // Where the page of a spot lies, and where it is at home.
+    #[tactic(auto, using(crate::proofs::Leaving::row_seen))]
     #[inline(always)]
     fn told(&self, spot: Spot) -> Option<Held>
         ensures { MatchOption result (row_at spot.page self.now.rows ≡ None) (IsHeld (seen self.now) spot.page) }

@@ -4,7 +4,6 @@
 //! A key is told as a guess, or comes from a table of guesses by slots of pages (`slot.rt`). Where it is right no
 //! search is made; where it is wrong the page is searched for in the order. `settle_all` writes no row. `unshare_all`
 //! and `set_by_node` walk over all.
-#![tactic(auto, using(crate::proofs::Writing::nothing, crate::proofs::Writing::own_there))]
 
 ghost use Rattle.std.specs.Prelude.{◌≡◌, ◌⊎◌, ◌≤◌, ◌<◌, ◌^◌, true, false, [], None, Some, All, IfErr, IfOk, IfSome};
 ghost use Rattle.std.specs.Prelude.{MatchOption, OnErr, OnOk, ◌==◌, count_by, filter, find, if◌then◌else◌, is_some};
@@ -19,7 +18,7 @@ ghost use Rattle.ksm_base.specs.Visit.{after_cursor};
 ghost use Rattle.ksm_pages.specs.Ahead.{EndsAt, FindsNext, last_of, mergeable_pages, pages_behind, pages_between};
 ghost use Rattle.ksm_pages.specs.Filed.{AreFiled, AreListed, IsMade, IsTally, IsUnder, KeepsPage, key_in};
 ghost use Rattle.ksm_pages.specs.Held.{AreInTree, AreWaitersLed, IsFree, altered, held_at, held_of, is_in, on_row, out_of_tree};
-ghost use Rattle.ksm_pages.specs.Held.{in_tree_by, page_in_tree, rows_of, copied, shares, waiting_in, with_held, without_held, written};
+ghost use Rattle.ksm_pages.specs.Held.{in_tree_by, page_in_tree, rehoused, rows_of, copied, shares, waiting_in, with_held, without_held, written};
 ghost use Rattle.ksm_pages.specs.Ordered.{AreAscending};
 ghost use Rattle.ksm_pages.specs.Unstable.{AreLed, IsFreeAt, LeadsAt};
 ghost use Rattle.slab.specs.Slab.{get};
@@ -378,6 +377,7 @@ impl Rows {
     // ------------------------------------------------------------ rows that change
 
     /// The entry of a page becomes what is made of it, if it has one. Tells whether a visit might change it before.
+    #[tactic(auto, using(crate::proofs::Writing::nothing))]
     #[inline(always)]
     pub fn change<F: FnOnce(&mut Entry)>(&mut self, spot: Spot, make: F) -> bool
         requires callable { F.IsAlwaysCallable make }
@@ -411,6 +411,7 @@ impl Rows {
     }
 
     /// A row with a frame of its own has this one from now on.
+    #[tactic(auto, using(crate::proofs::Writing::nothing))]
     #[inline(always)]
     pub fn lay(&mut self, spot: Spot, frame: u32)
         requires { IfSome (held_at spot.page self.old.held) (λ h. shared_state h.row.state ≡ false) }
@@ -453,12 +454,13 @@ impl Rows {
         });
     }
 
-    /// The row is at home on another node, and the unstable tree does not lead to it.
-    pub fn set_home(&mut self, spot: Spot, home: u32)
-        ensures { self.new ≡ altered spot.page (λ h. on_row (λ r. record r { home = home }) (out_of_tree h)) self.old }
+    /// The row has a frame of its own in the stead of what it had, and is at home on another node.
+    pub fn move_on(&mut self, spot: Spot, frame: u32, home: u32)
+        ensures { self.new ≡ altered spot.page (rehoused frame home) self.old }
     {
         self.change_out_of_tree(spot, |entry| {
             entry.in_tree = InTree::Not;
+            entry.take_frame(frame);
             entry.home = home;
         });
     }
@@ -527,6 +529,7 @@ impl Rows {
     /// A row with a frame of its own waits, and the unstable tree leads to it, where it leads to no other row of the
     /// tree and bytes. The row remembers the number of its group of dups, or that there is no dup of its content. The
     /// one fault is `Memory`, and then nothing changes.
+    #[tactic(auto, using(crate::proofs::Writing::nothing, crate::proofs::Writing::own_there))]
     #[inline(always)]
     pub fn enter(&mut self, spot: Spot, group: Option<u32>) -> Result<(), Fault>
         requires own { IfSome (held_at spot.page self.old.held) (λ h. shared_state h.row.state ≡ false) }
@@ -549,6 +552,7 @@ impl Rows {
     }
 
     /// A row with a frame of its own, to which the unstable tree leads, waits.
+    #[tactic(auto, using(crate::proofs::Writing::nothing, crate::proofs::Writing::own_there))]
     #[inline(always)]
     pub fn wait(&mut self, spot: Spot)
         requires own { IfSome (held_at spot.page self.old.held) (λ h. shared_state h.row.state ≡ false) }

@@ -1,6 +1,5 @@
 //! What a visit of the scan finds, and what becomes of the page that is visited: it joins a dup, makes one with another
 //! page, becomes Zero, or waits.
-#![tactic(auto, using(crate::proofs::Leaving::row_seen, crate::proofs::Visiting::none_best))]
 
 ghost use Rattle.std.specs.Prelude.{◌≡◌, true, false, None, Some, Err, All, ◌==◌, ◌&&◌, IfNone, IfOk, IsTrue, OnOk, OnErr, option_map};
 ghost use Rattle.ksm_base.specs.declared.fault.Fault.TheVariants.{Memory};
@@ -36,6 +35,7 @@ fn is_for_zero(knobs: &Knobs, bytes: &PageBytes) -> bool
 
 /// The number of the group of dups that have the content of a row in a tree, if they have one, and the dup that the row
 /// may join. Where the row is said to be alone there is none, and nothing is looked up.
+#[tactic(auto, using(crate::proofs::Visiting::none_best))]
 #[inline(always)]
 fn group_with_best(
     dups: &mut Dups,
@@ -58,6 +58,7 @@ fn group_with_best(
 }
 
 /// Whether it is known of a row to which the unstable tree leads that there is no dup that it may join.
+#[tactic(auto, using(crate::proofs::Visiting::none_best))]
 #[inline(always)]
 fn joins_none(dups: &Dups, entry: &Entry, tree: u32, limit: u32) -> bool
     requires { is_alone entry.now.in_tree ≡ true → NoneHas tree entry.now.bytes dups.now.dups }
@@ -100,6 +101,7 @@ impl Pages {
     }
 
     /// What a visit of a page finds, and what it changes by that alone. Refused for memory alone, it changes nothing.
+    #[tactic(auto, using(crate::proofs::Leaving::row_seen))]
     pub fn visit(&mut self, spot: Spot) -> Result<Find, Fault>
         ensures found { IfOk result (Finds (seen self.old) (seen self.new) spot.page) }
         ensures refused { OnErr result (self.new ≡ self.old) }

@@ -1,5 +1,7 @@
 use Rattle.ksm_book.proofs.Names.{ap, Done, MovePage, ne_eqb, Ok, option_map, refl, same_Some, seen, sym, view_of, ◌∙◌}
-use Rattle.ksm_book.proofs.Singles.{carried_so, Does, found_resettled, move_home, move_moved, row_held, lawful}
+use Rattle.ksm_pages.specs.Paged.{at_home_on}
+use Rattle.ksm_book.proofs.Laying.{may_left, resettled, turned}
+use Rattle.ksm_book.proofs.Singles.{carried_so, Does, move_home, move_moved, row_held, lawful}
 use Rattle.ksm_book.proofs.state.State.move_page.Goals as goal
 
 pub returns-then-held-node : goal.returns-then-held-node
@@ -9,20 +11,27 @@ returns-then-held-node c =
     (move_home c.self.invariant.0.rows_rise c.in-Some.ensures.found
     (rw (← c.shape.ensures) c.if-node-shape.false) (sym c.in-Some.ensures.home ∙ c.if-held-node.true)))
 
-pub set_home-requires : goal.set_home-requires
-set_home-requires c = rw (found_resettled c.in_ok-resettle.ensures.resettled (row_held c.in-Some.ensures)) refl
+pub invariant_of-self : goal.invariant_of-self
+invariant_of-self c = (c.self.invariant.0, (turned c.self.invariant.1 c.in_default-take_frame.ensures.provides).laid)
 
-moved_there : (c : goal.After-set_home) → Does c.self.inside (seen c.set_home.new.self)
-    c.resettle.new.keeper (MovePage c.in-Some.held.spot.page c.args.node) (Ok Done)
+pub release_if-requires-clause-may : goal.release_if-requires-clause-may
+release_if-requires-clause-may c =
+    may_left c.self.invariant.1 c.self.invariant.0.rows_rise (row_held c.in-Some.ensures) c.in-Some-take_frame.ensures.provides c.in-Some-take_frame.ensures.took c.move_on-left.ensures.left
+
+moved_there : (c : goal.After-release_if) → Does c.self.inside (seen c.move_on-left.new.self)
+    c.release_if.new.keeper (MovePage c.in-Some.held.spot.page c.args.node) (Ok Done)
 moved_there c =
+    let laid = c.self.invariant.1 in
+    let rise = c.self.invariant.0.rows_rise in
     let found = row_held c.in-Some.ensures in
+    let goes = c.move_on-left.ensures.moved in
     let bytes = same_Some _ _ (sym c.bytes-bytes.ensures ∙ ap (option_map (λ r. r.bytes)) found) in
-    move_moved c.self.invariant.0.rows_rise found
+    let got = resettled laid rise found c.in-Some-take_frame.ensures.provides c.in-Some-take_frame.ensures.took c.move_on-left.ensures.left
+    (at_home_on c.args.node) (λ r. refl) refl refl (sym bytes) goes c.release_if.ensures in
+    move_moved rise found
     (rw (← c.shape.ensures) c.if-node-shape.false)
-    (ne_eqb c.in-Some.ensures.row.home c.args.node (λ e. c.if-held-node.false (c.in-Some.ensures.home ∙ e)))
-    c.self.invariant.1
-    (rw bytes at c.in_ok-resettle.ensures.resettled)
-    c.set_home.ensures
+    _ (ne_eqb c.in-Some.ensures.row.home c.args.node (λ e. c.if-held-node.false (c.in-Some.ensures.home ∙ e)))
+    goes (rw bytes at got)
 
 pub returns : goal.returns
 returns c = carried_so c.self.view_is (rw c.in-Some.ensures.spot) (moved_there c).0

@@ -1,6 +1,6 @@
-use Rattle.ksm_book.proofs.Names.{arith, Done, find_all, length, Ok, PAGE_WORDS, IsKnown, refl, rules, seen, Store, sym, ◌<◌, ◌∙◌, ◌≡◌}
+use Rattle.ksm_book.proofs.Names.{arith, Done, find_all, length, Ok, PAGE_WORDS, refl, rules, seen, Store, sym, ◌<◌, ◌∙◌, ◌≡◌}
 use Rattle.ksm_base.specs.Apply.{stored}
-use Rattle.ksm_book.proofs.Laying.{served_at, may_left, resettled_as, turned}
+use Rattle.ksm_book.proofs.Laying.{served_at, may_left, resettled, turned}
 use Rattle.ksm_book.proofs.Singles.{carried_so, Does, own_ready, row_held, lawful, store_copied, store_written}
 use Rattle.ksm_book.proofs.state.State.store.Goals as goal
 
@@ -43,20 +43,18 @@ invariant_of-self c = (c.self.invariant.0, (turned c.self.invariant.1 c.in_defau
 
 pub release_if-requires-clause-may : goal.release_if-requires-clause-may
 release_if-requires-clause-may c =
-    let known : IsKnown c.in-Some.held.spot.page c.self.inside.pages.rows = rw (row_held c.in-Some.ensures) refl in
-    may_left c.self.invariant.1 c.self.invariant.0.rows_rise _ known c.in-Some-take_frame.ensures.provides c.in-Some-take_frame.ensures.took _ c.store_on-left.ensures.left
+    may_left c.self.invariant.1 c.self.invariant.0.rows_rise (row_held c.in-Some.ensures) c.in-Some-take_frame.ensures.provides c.in-Some-take_frame.ensures.took c.store_on-left.ensures.left
 
 copied : (c : goal.After-release_if) → Does c.self.inside (seen c.store_on-left.new.self)
     c.release_if.new.keeper (Store c.in-Some.held.spot.page c.args.bytes.now) (Ok Done)
 copied c =
     let laid = c.self.invariant.1 in
     let rise = c.self.invariant.0.rows_rise in
-    let known : IsKnown c.in-Some.held.spot.page c.self.inside.pages.rows = rw (row_held c.in-Some.ensures) refl in
-    let provides = c.in-Some-take_frame.ensures.provides in
-    let took = c.in-Some-take_frame.ensures.took in
-    let got = resettled_as laid rise _ known provides took _ c.store_on-left.ensures.left (stored c.args.bytes.now) (λ r. refl)
-    c.store_on-left.ensures.stored c.release_if.ensures in
-    store_copied {row = c.in-Some.ensures.row} laid rise (row_held c.in-Some.ensures) (rw c.in-Some.ensures.home at got.0) got.1 (sym c.in-Some.ensures.shared ∙ c.if-held.true)
+    let found = row_held c.in-Some.ensures in
+    let goes = c.store_on-left.ensures.stored in
+    let got = resettled laid rise found c.in-Some-take_frame.ensures.provides c.in-Some-take_frame.ensures.took c.store_on-left.ensures.left
+    (stored c.args.bytes.now) (λ r. refl) refl (sym c.in-Some.ensures.home) refl goes c.release_if.ensures in
+    store_copied {row = c.in-Some.ensures.row} laid rise found _ goes (rw c.in-Some.ensures.home at got) (sym c.in-Some.ensures.shared ∙ c.if-held.true)
 
 pub returns-then-held-clause-carried : goal.returns-then-held-clause-carried
 returns-then-held-clause-carried c = carried_so c.self.view_is (rw c.in-Some.ensures.spot) (copied c).0

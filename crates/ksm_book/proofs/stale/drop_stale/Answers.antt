@@ -1,6 +1,6 @@
 use Rattle.ksm_book.proofs.Names.{arith, sym, ◌∙◌}
 use Rattle.ksm_book.proofs.Sharing.{drop_few, drop_fewer, drop_may, drop_vacant, dropped, drops_more}
-use Rattle.ksm_book.proofs.settling.drop_stale.Goals as goal
+use Rattle.ksm_book.proofs.stale.drop_stale.Goals as goal
 
 pub withdraw-requires-clause-may : goal.withdraw-requires-clause-may
 withdraw-requires-clause-may c = drop_may c.stale.invariant (sym c.in-Some.is ∙ c.stale_place.ensures)

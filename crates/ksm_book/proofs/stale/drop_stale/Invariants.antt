@@ -1,6 +1,6 @@
 use Rattle.ksm_book.proofs.Names.{count_by, is_stale, seen}
 use Rattle.ksm_book.proofs.Sharing.{Drops}
-use Rattle.ksm_book.proofs.settling.drop_stale.Given as goal
+use Rattle.ksm_book.proofs.stale.drop_stale.Given as goal
 
 abbrev pub invariant-stale : goal.invariant-stale
 invariant-stale l = Drops (seen l.fn.pages) (seen l.pages) l.fn.keeper l.keeper l.count
