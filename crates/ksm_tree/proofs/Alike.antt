@@ -1,18 +1,17 @@
 -- A list that is made of another, element by element: what is searched, kept and counted in it.
-use Rattle.ksm_tree.proofs.Names.{All, arith, Bool, count_by, count_more, false, filter, filter-append, find, get_or, if◌then◌else◌, List, map}
-use Rattle.ksm_tree.proofs.Names.{map-append, option_map, refl, suc, [], ◌++◌, ◌∙◌, ◌∷◌, ◌≡◌}
+use Rattle.ksm_tree.proofs.Names.{All, arith, Bool, count_by, length-filter, length-map, false, filter, filter-append, find, get_or, if◌then◌else◌, List, map, map-append, option_map, refl, suc, []}
+use Rattle.ksm_tree.proofs.Names.{◌++◌, ◌∙◌, ◌∷◌, ◌≡◌}
 use Rattle.std.proofs.lemmas.List.{map-id}
 pub use Rattle.ksm_rmap.proofs.Alike.{filter_mapped, pairs_mapped}
-
--- two changes that agree at each element of a list make one list of it
-pub map_alike : {X Y : Type 0} (f g : X → Y) (xs : List X) → All (λ x. f x ≡ g x) xs → map f xs ≡ map g xs
-map_alike f g [] same = refl
-map_alike f g (x ∷ xs) same = grind (arith, same 0 x, map_alike f g xs (λ k d lt. same (suc k) d (omega arith)))
 
 -- where h is f after g at each element, a map by g and then by f makes the list that h makes
 pub map_mapped : {X Y Z : Type 0} (f : Y → Z) (g : X → Y) (h : X → Z) (xs : List X) → All (λ x. f (g x) ≡ h x) xs → map f (map g xs) ≡ map h xs
 map_mapped f g h [] same = refl
 map_mapped f g h (x ∷ xs) same = grind (arith, same 0 x, map_mapped f g h xs (λ k d lt. same (suc k) d (omega arith)))
+
+-- two changes that agree at each element of a list make one list of it
+pub map_alike : {X Y : Type 0} (f g : X → Y) (xs : List X) → All (λ x. f x ≡ g x) xs → map f xs ≡ map g xs
+map_alike f g xs same = grind (arith, map_mapped f (λ x. x) g xs same, map-id)
 
 module _ {X Y : Type 0} (g : X → Y) (p : Y → Bool) (q : X → Bool) where
   -- where two tests agree across a map, a search in the mapped list finds the image of what is found before
@@ -23,9 +22,8 @@ module _ {X Y : Type 0} (g : X → Y) (p : Y → Bool) (q : X → Bool) where
 
   -- where two tests agree across a map, as many pass in the mapped list as before
   pub count_mapped : (xs : List X) → All (λ x. p (g x) ≡ q x) xs → count_by p (map g xs) ≡ count_by q xs
-  count_mapped [] same = refl
-  count_mapped (x ∷ xs) same =
-      let rest = count_mapped xs (λ k d lt. same (suc k) d (omega arith)) in grind (arith, same 0 x, count_more)
+  count_mapped xs same =
+      grind (arith, filter_mapped g p q xs same, length-filter p (map g xs), length-filter q xs, length-map)
 
 -- two tests that agree at each element of a list find the same element
 pub find_alike : {X : Type 0} (p q : X → Bool) (xs : List X) → All (λ x. p x ≡ q x) xs → find p xs ≡ find q xs

@@ -1,8 +1,9 @@
 -- The dups in their groups: what is found there, and how that stays right with a change of items, with a dup that goes, and with a new one.
-use Rattle.ksm_tree.proofs.Names.{absent_kept, numbers_ordered, sym, suc, place_of, All, All-filter, ap, AreChained, AreTotals, arith, Bool, chain_in, change_at, change_items, content_of, Dup, dup_at, dup_of, DupRow, dups_seen, DupsState, false}
-use Rattle.ksm_tree.proofs.Names.{filter, find, find_none, find_nothing, get, Group, group_places, Groups, GuestPage, has_number, if◌then◌else◌, in_group, InPlaceOrder}
-use Rattle.ksm_tree.proofs.Names.{IsCountedAnew, IsMoved, length, List, MOST_FRAMES, nat_lt, None, not, number_in, Option, pairs_head, pairs_tail, refl, rows_of, rules, SameChains}
-use Rattle.ksm_tree.proofs.Names.{SlotsState, Some, stands_at, subst, Tells, with_dup, with_new, with_place, without, without_place, ℕ, [], ◌&&◌, ◌+◌, ◌<◌, ◌==◌, ◌∙◌, ◌∷◌, ◌≡◌, ◌≤◌}
+use Rattle.ksm_tree.proofs.Names.{absent_kept, nat_tests, numbers_ordered, sym, suc, true, place_of, All, All-filter, ap, AreChained, AreTotals, arith, Bool, chain_in, change_at, change_items}
+use Rattle.ksm_tree.proofs.Names.{content_of, Dup, dup_at, dup_of, DupRow, dups_seen, DupsState, false, filter, find, find_none, find_nothing, filter_passes, get, Group, group_places, Groups}
+use Rattle.ksm_tree.proofs.Names.{GuestPage, has_number, if◌then◌else◌, in_group, InPlaceOrder, IsCountedAnew, IsMoved, length, List, MOST_FRAMES, nat_lt, None, not, number_in, Option, pairs_head}
+use Rattle.ksm_tree.proofs.Names.{pairs_tail, refl, rows_of, rules, SameChains, SlotsState, Some, stands_at, subst, Tells, with_dup, with_new, with_place, without, without_place, ℕ, [], ◌&&◌, ◌+◌}
+use Rattle.ksm_tree.proofs.Names.{◌<◌, ◌==◌, ◌∙◌, ◌∷◌, ◌≡◌, ◌≤◌}
 use Rattle.ksm_tree.proofs.Alike.{chosen, find_alike, map_alike}
 use Rattle.ksm_tree.proofs.OneSlot.{found_stands}
 use Rattle.ksm_tree.proofs.Grouped.{IsMore, more_there, more_with, places_size, totals_less, totals_more, totals_tell}
@@ -23,11 +24,11 @@ not_in_group p t b dups rise found outside = group_unlike p t b dups
     (λ k e lt. grind (arith, found_stands dups found, alone (stands_at p) dups _ rise found k e lt))
 
 -- slots with other dups
-abbrev pub with_dups : SlotsState → List Dup → Bool → SlotsState
+abbrev with_dups : SlotsState → List Dup → Bool → SlotsState
 with_dups s dups ready = record { places = s.places; dups = dups; ready = ready }
 
 -- the groups are right by the rows of the dups
-pub by_rows : {s : SlotsState} {next : ℕ} {groups : Groups} (rows : List DupRow) → rows_of s.dups ≡ rows → s.places ≤ MOST_FRAMES → InPlaceOrder rows → All (λ r. r.place < s.places) rows → All (λ r. r.number < next) rows
+by_rows : {s : SlotsState} {next : ℕ} {groups : Groups} (rows : List DupRow) → rows_of s.dups ≡ rows → s.places ≤ MOST_FRAMES → InPlaceOrder rows → All (λ r. r.place < s.places) rows → All (λ r. r.number < next) rows
     → AreTotals rows groups.totals → ((t : ℕ) (b : List ℕ) → chain_in t b groups ≡ group_places t b rows) → AreChained s next groups
 by_rows rows is few rise places numbers counted grouped = record {
   few = few;
@@ -104,17 +105,16 @@ ungrouped {s} h t b none = all_rows (λ r. in_group t b r ≡ false) s.dups
 
 -- once the dup of a place has gone, none stands there
 pub none_left : (p : ℕ) (dups : List Dup) → dup_at p (without_place p dups) ≡ None
-none_left p [] = refl
-none_left p (d ∷ dups) = grind (arith, none_left p dups)
+none_left p dups = find_nothing (stands_at p) _ (λ k d lt. grind (arith, filter_passes (λ e. not (stands_at p e)) dups k d lt))
 
 -- the dup found at a place is the one that has its number
 pub stands_numbered : (p q : ℕ) (dups : List Dup) (d : Dup) → InPlaceOrder (rows_of dups) → dup_at p dups ≡ Some d → d.row.number ≡ q → Some p ≡ place_of (dup_of q dups)
 stands_numbered p q dups d rise found is =
-    let one = λ (k : ℕ) (e : Dup) (lt : k < length dups). alone (stands_at p) dups d rise found k e lt in
-    grind (arith, found_stands dups found, find_alike (stands_at p) (has_number q) dups (λ k e lt. grind (arith, found_stands dups found, one k e lt)))
+    let at = found_stands dups found in
+    grind (arith, find_alike (stands_at p) (has_number q) dups (λ k e lt. grind (arith, alone (stands_at p) dups d rise found k e lt)))
 
 -- the dup found at a place, if it passes a test
-abbrev pub passing : (Dup → Bool) → Option Dup → Option Dup
+abbrev passing : (Dup → Bool) → Option Dup → Option Dup
 passing test None = None
 passing test (Some d) = if test d then Some d else None
 
@@ -146,14 +146,14 @@ fresh_chained {s} {next} {groups} {new} dup ready h number within none joined co
     (all_with_dup (λ e. e.number < next + 1) r rows (omega arith) (λ k d lt. omega (arith, h.lawful.numbers_below k d lt)))
     (totals_more r.tree r.bytes more (self_group r) rise new_rise (grind arith) h.counted) grouped
 
+-- a choice of none at a place is one also without the dup there
+kept_by : (test : Dup → Bool) (p : ℕ) → ((d : Dup) → test d ≡ true → stands_at p d ≡ false) → (dups : List Dup) → filter test (without_place p dups) ≡ filter test dups
+kept_by test p apart [] = refl
+kept_by test p apart (d ∷ dups) = grind (arith, apart d, kept_by test p apart dups)
+
 -- a dup at a place comes in the stead of one that stood there, whether that went before or not
 pub new_again : (dup : Dup) (dups : List Dup) → with_new dup (without_place dup.row.place dups) ≡ with_new dup dups
-new_again dup dups = grind (arith, lower dups, higher dups)
-  where
-    lower : (ds : List Dup) → filter (λ d. nat_lt d.row.place dup.row.place) (without_place dup.row.place ds) ≡ filter (λ d. nat_lt d.row.place dup.row.place) ds
-    lower [] = refl
-    lower (d ∷ ds) = grind (arith, lower ds)
-
-    higher : (ds : List Dup) → filter (λ d. nat_lt dup.row.place d.row.place) (without_place dup.row.place ds) ≡ filter (λ d. nat_lt dup.row.place d.row.place) ds
-    higher [] = refl
-    higher (d ∷ ds) = grind (arith, higher ds)
+new_again dup dups =
+    let p = dup.row.place in
+    let low = kept_by (λ d. nat_lt d.row.place p) p (λ d less. grind (arith, nat_tests)) dups in
+    let high = kept_by (λ d. nat_lt p d.row.place) p (λ d more. grind (arith, nat_tests)) dups in grind arith

@@ -1,7 +1,7 @@
 -- The dups of one group, and all others: what each makes of the totals, and what a dup that comes or goes changes of them.
 use Rattle.ksm_tree.proofs.Names.{All, AreTotals, arith, Bool, bytes_eq-Decides, cases_Bool, chained_of, chains_of, count-append, count_by, count_by-le-length, count_more, count_none, DupRow, false}
-use Rattle.ksm_tree.proofs.Names.{filter, find, get_or, group_places, group_size, if◌then◌else◌, in_chain, in_group, inl, InPlaceOrder, inr, IsRegrouped, leads_group, length}
-use Rattle.ksm_tree.proofs.Names.{length-filter, length-map, List, list_all, list_all-append, list_all-from_AllPass, MOST_FRAMES, nat_le, nat_lt, nat_tests, not, numbers_ordered, pairs_head, pairs_tail, refl}
+use Rattle.ksm_tree.proofs.Names.{filter, find, get_or, group_places, group_size, if◌then◌else◌, in_chain, in_group, inl, InPlaceOrder, inr, IsRegrouped, leads_group, length, length-filter}
+use Rattle.ksm_tree.proofs.Names.{length-map, List, list_all, list_all-append, list_all-from_AllPass, MOST_FRAMES, nat_le, nat_lt, nat_tests, not, numbers_ordered, pairs_head, pairs_tail, refl}
 use Rattle.ksm_tree.proofs.Names.{same_group, Some, subst, suc, sym, Tells, Totals, true, zero, ℕ, [], ◌&&◌, ◌++◌, ◌+◌, ◌<◌, ◌==◌, ◌||◌, ◌∙◌, ◌∷◌, ◌≡◌, ◌≤◌}
 use Rattle.ksm_tree.proofs.Alike.{count_alike}
 use Rattle.ksm_order.proofs.Ordered.{found_parts}
@@ -66,17 +66,17 @@ module _ (t : ℕ) (b : List ℕ) where
   one_leads [] rise = refl
   one_leads (r ∷ rows) rise =
       let first = pairs_head Lower r rows rise in
+      let leader = λ (d : DupRow). of_it d && leads_group (r ∷ rows) d in
       let more = count_more of_it r rows in
-      let also = count_more (λ d. of_it d && leads_group (r ∷ rows) d) r rows in
+      let also = count_more leader r rows in
       elim (cases_Bool (of_it r)) [
         | inl inside ↦
-            let none = count_none (λ d. of_it d && leads_group (r ∷ rows) d) rows
-            (λ k d lt. grind (arith, (first k d lt).0, group_own (get_or rows k d) r)) in
+            let none = count_none leader rows (λ k d lt. grind (arith, (first k d lt).0, group_own (get_or rows k d) r)) in
             let behind = list_all-from_AllPass (λ e. not (same_group r e) || nat_le r.place e.place) rows
             (λ k d lt. grind (arith, (first k d lt).0)) in
             grind (arith, more)
         | inr outside ↦
-            let alike = count_alike (λ d. of_it d && leads_group (r ∷ rows) d) (λ d. of_it d && leads_group rows d) rows
+            let alike = count_alike leader (λ d. of_it d && leads_group rows d) rows
             (λ k e lt. grind (arith, group_own (get_or rows k e) r)) in
             grind (arith, more, one_leads rows (pairs_tail Lower r rows rise))
       ]

@@ -1,8 +1,8 @@
 -- The best dup to join: a walk over a group, keeping the better of two, ends at the one that the definition chooses of all.
 use Rattle.ksm_tree.proofs.Names.{add-one, All, All-filter, All-map, ap, ArePlacesToJoin, arith, best_of, Bool, candidate_of, cases_Bool, cond, drop, drop-cons, Dup, dup_at, false, filter, filter_map}
 use Rattle.ksm_tree.proofs.Names.{filter_passes, find, get_or, group_places, if◌then◌else◌, in_group, inl, InPlaceOrder, inr, is_no_worse, is_open, items_in, length, List, list_all, map, may_join}
-use Rattle.ksm_tree.proofs.Names.{nat_le, nat_lt, nat_tests, None, not, Option, pairs_head, pairs_tail, refl, rows_of, Some, suc, sym, true, zero, ℕ, [], ◌%◌, ◌&&◌, ◌+◌, ◌-◌}
-use Rattle.ksm_tree.proofs.Names.{Lower, ◌<◌, ◌==◌, ◌^◌, ◌||◌, ◌∙◌, ◌∷◌, ◌≡◌, ◌≤◌}
+use Rattle.ksm_tree.proofs.Names.{nat_le, nat_lt, nat_tests, None, not, Option, pairs_head, pairs_tail, refl, rows_of, Some, suc, sym, true, zero, ℕ, [], ◌%◌, ◌&&◌, ◌+◌, ◌-◌, Lower, ◌<◌, ◌==◌, ◌^◌}
+use Rattle.ksm_tree.proofs.Names.{◌||◌, ◌∙◌, ◌∷◌, ◌≡◌, ◌≤◌}
 use Rattle.ksm_tree.proofs.Alike.{filter_mapped, map_mapped}
 use Rattle.ksm_tree.proofs.Changes.{all_rows}
 use Rattle.std.specs.Option.{option_or}
@@ -44,14 +44,13 @@ module _ (may : Dup → Bool) where
       ]
 
   -- a walk that keeps the better of two dups ends at the first that may be joined and to which none is better
-  pub walk_top : (dups : List Dup) → walked None dups ≡ find (top dups) dups
+  walk_top : (dups : List Dup) → walked None dups ≡ find (top dups) dups
   walk_top [] = refl
   walk_top (d ∷ dups) =
       elim (cases_Bool (may d)) [
         | inl passes ↦ ap (λ b. walked (cond b (Some d) None) dups) passes ∙ walk_from d _ passes
         | inr fails ↦
-            let same : (e : Dup) → top dups e ≡ top (d ∷ dups) e = λ e. grind arith in
-            grind (arith, walk_top dups) ∙ (λ i. find (λ e. same e i) dups) ∙ grind arith
+            grind (arith, walk_top dups) ∙ (λ i. find (λ e. cond (sym fails i) (top (d ∷ dups) e) (top dups e)) dups) ∙ grind arith
       ]
 
   -- dups that fail the test change nothing of the walk
@@ -60,7 +59,7 @@ module _ (may : Dup → Bool) where
   walk_passing test passes acc (d ∷ dups) = grind (arith, passes d, walk_passing test passes (kept acc d) dups)
 
 -- in dups in order, each dup is what is found at its place
-pub found_self : (dups : List Dup) → InPlaceOrder (rows_of dups) → All (λ d. dup_at d.row.place dups ≡ Some d) dups
+found_self : (dups : List Dup) → InPlaceOrder (rows_of dups) → All (λ d. dup_at d.row.place dups ≡ Some d) dups
 found_self [] rise k e lt = absurd (omega arith)
 found_self (d ∷ dups) rise zero e lt = grind arith
 found_self (d ∷ dups) rise (suc k) e lt =

@@ -1,10 +1,10 @@
 -- What a change of one slot does to the dups and to the places whose slots pass a test.
-use Rattle.ksm_tree.proofs.Names.{place_of, absent_kept, All, ap, ArePlaced, AreSlots, arith, Bool, change_at, change_items_of, change_slot, count_by-le-length, count_in, CountedSet, Dup, dup_at, empty_from}
-use Rattle.ksm_tree.proofs.Names.{empty_place, eqb-true, false, filter_all, filter_none, find, find_nothing, find_passes, get_or, get_or-le-sum_by, get_or-set_other, get_or-set_same, get_or_past}
-use Rattle.ksm_tree.proofs.Names.{GuestPage, has_item, HasNone, holds, if◌then◌else◌, is_none, is_some, is_stale, IsLeast, IsMarked, IsSetOf, items_in, length, length-append, length-map}
+use Rattle.ksm_tree.proofs.Names.{place_of, absent_kept, All, ArePlaced, AreSlots, arith, Bool, change_at, change_items_of, change_slot, count_by-le-length, count_in, CountedSet, Dup, dup_at}
+use Rattle.ksm_tree.proofs.Names.{empty_from, empty_place, eqb-true, false, filter_all, filter_none, find, find_nothing, find_passes, get_or, get_or-le-sum_by, get_or-map, get_or-set_other}
+use Rattle.ksm_tree.proofs.Names.{get_or-set_same, get_or_past, GuestPage, has_item, HasNone, holds, is_none, is_some, is_stale, IsMarked, IsSetOf, items_in, length, length-append, length-map}
 use Rattle.ksm_tree.proofs.Names.{length-set, List, map, map-set, FindsLeast, MayBeMarked, MOST_FRAMES, None, none_found, Option, option_map, pages_ordered, present, refl, rows_of, set, set-get_or}
-use Rattle.ksm_tree.proofs.Names.{ShelfState, slots_seen, SlotsState, Some, stands_at, suc, sum_by-set, true, with_item, with_new, without_item, without_place, zero, ℕ, [], ◌+◌, ◌<◌, ◌==◌, ◌∙◌, ◌∷◌}
-use Rattle.ksm_tree.proofs.Names.{◌≡◌, ◌≤◌}
+use Rattle.ksm_tree.proofs.Names.{ShelfState, slots_seen, SlotsState, Some, stands_at, suc, sum_by-set, true, with_item, with_new, without_item, without_place, zero, ℕ, [], ◌+◌, ◌<◌, ◌==◌, ◌∷◌, ◌≡◌}
+use Rattle.ksm_tree.proofs.Names.{◌≤◌}
 use Rattle.ksm_tree.proofs.Alike.{change_none}
 
 -- the set once a slot is put, and its place marked as the slot passes
@@ -20,7 +20,7 @@ abbrev Slots : Type 0
 Slots = List (Option Dup)
 
 -- the dups of slots from k on stand at k or behind it
-pub placed_above : (k : ℕ) (slots : Slots) → ArePlaced k slots → All (λ d. k ≤ d.row.place) (present slots)
+placed_above : (k : ℕ) (slots : Slots) → ArePlaced k slots → All (λ d. k ≤ d.row.place) (present slots)
 placed_above k [] placed i d lt = absurd (omega arith)
 placed_above k (None ∷ slots) placed i d lt = omega (arith, placed_above _ slots placed i d lt)
 placed_above k (Some e ∷ slots) placed zero d lt = omega (arith, placed.0)
@@ -32,7 +32,7 @@ behind k None slots placed = placed
 behind k (Some d) slots placed = placed.1
 
 -- the dup found at a place is what the slot of that place holds
-pub slot_found : (k p i : ℕ) (slots : Slots) → p ≡ k + i → ArePlaced k slots
+slot_found : (k p i : ℕ) (slots : Slots) → p ≡ k + i → ArePlaced k slots
     → dup_at p (present slots) ≡ get_or slots i None
 slot_found k p i [] is placed = refl
 slot_found k p zero (s ∷ slots) is placed = grind (arith, behind k s slots placed, placed_above, find_nothing)
@@ -164,6 +164,10 @@ module _ (p : ℕ) (shelf : ShelfState) {s : SlotsState} (view : slots_seen shel
   pub seen_slot : dup_at p s.dups ≡ get_or shelf.slots p None
   seen_slot = grind (arith, slot_found)
 
+  -- the dup seen at a place has as many items as are counted there
+  pub seen_count : length (items_in (dup_at p s.dups)) ≡ get_or (map count_in shelf.slots) p 0
+  seen_count = grind (arith, seen_slot, get_or-map count_in shelf.slots p None)
+
   -- a place where a dup is seen has a slot
   pub seen_within : is_some (dup_at p s.dups) ≡ true → p < length shelf.slots
   seen_within known = grind (arith, get_or_past, seen_slot)
@@ -183,4 +187,4 @@ pub slots_same : (p : ℕ) (page : GuestPage) (slots : Slots) → has_item page 
 slots_same p page slots absent = grind (arith, same_items, set-get_or)
 
 -- what the slots say of the dups that are seen
-pub ruleset steps = (first_empty, first_stale, length-map, length-set, may_be_marked, seen_slot, seen_within, slot_emptied, slot_put, slot_changed)
+pub ruleset steps = (first_empty, first_stale, length-map, length-set, may_be_marked, seen_count, seen_slot, seen_within, slot_emptied, slot_put, slot_changed)

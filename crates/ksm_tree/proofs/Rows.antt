@@ -1,8 +1,8 @@
 -- Dup rows in the order of their places: whose group a row is of, and what a new row changes of the places of a group.
-use Rattle.ksm_tree.proofs.Names.{ap, arith, bytes_eq, bytes_eq-Decides, DupRow, false, filter, group_places, in_group, InPlaceOrder, List, nat_lt, not}
-use Rattle.ksm_tree.proofs.Names.{sym, true, with_dup, with_place, without, ℕ, ◌&&◌, ◌==◌, ◌∙◌, ◌≡◌}
+use Rattle.ksm_tree.proofs.Names.{arith, bytes_eq, bytes_eq-Decides, DupRow, false, filter, group_places, in_group, InPlaceOrder, List, nat_lt, not, true, with_dup, with_place, without, ℕ, ◌&&◌, ◌==◌}
+use Rattle.ksm_tree.proofs.Names.{◌∙◌, ◌≡◌}
 use Rattle.ksm_tree.proofs.Alike.{chosen, kept_append}
-use Rattle.ksm_base.proofs.Orders.{above, below, dups_parted}
+use Rattle.ksm_base.proofs.Orders.{below, dups_parted}
 
 -- a comparison of bytes is the same in either order
 pub eq_bytes : (xs ys : List ℕ) → bytes_eq xs ys ≡ bytes_eq ys xs
@@ -26,8 +26,5 @@ group_joined t b row rows inside =
 -- a new dup of another group takes its place out of a group, if the group had that place
 pub group_passed : (t : ℕ) (b : List ℕ) (row : DupRow) (rows : List DupRow) → InPlaceOrder rows → in_group t b row ≡ false → group_places t b (with_dup row rows) ≡ without row.place (group_places t b rows)
 group_passed t b row rows rise outside =
-    let lower = filter (below row.place) rows in
-    kept_append _ _ lower _
-    ∙ grind (arith, kept_append (λ (r : DupRow). r.place) (in_group t b) lower (filter (above row.place) rows))
-    ∙ ap (group_places t b) (sym (dups_parted row.place rows rise))
-    ∙ chosen (λ (r : DupRow). r.place) (in_group t b) (λ q. not (q == row.place)) rows
+    let rest = chosen (λ (r : DupRow). r.place) (in_group t b) (λ q. not (q == row.place)) rows in
+    grind (arith, kept_append, dups_parted row.place rows rise)

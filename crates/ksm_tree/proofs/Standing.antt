@@ -1,8 +1,7 @@
 -- What a change of one group makes of the chains, and which contents are in use.
-use Rattle.ksm_tree.proofs.Names.{is_at, ap, AreGroups, arith, BTreeMap, bytes_eq, bytes_eq-Decides, cases_Bool, chain_in, Content, content_in, content_of, content_order, false}
-use Rattle.ksm_tree.proofs.Names.{get, Group, Groups, has_place, if◌then◌else◌, inl, inr, is_some, is_used_in, IsSwept, IsUnused, length}
-use Rattle.ksm_tree.proofs.Names.{List, None, number_in, number_of, Numbers, Option, places_in, SameNumbers, Slab, Some, sym, true, under, Updates, Updates-with_value}
-use Rattle.ksm_tree.proofs.Names.{with_value, ℕ, [], ◌&&◌, ◌+◌, ◌==◌, ◌≡◌}
+use Rattle.ksm_tree.proofs.Names.{ap, AreGroups, arith, BTreeMap, bytes_eq, bytes_eq-Decides, chain_in, Content, content_in, content_of, content_order, false, get, Group, Groups, has_place}
+use Rattle.ksm_tree.proofs.Names.{if◌then◌else◌, is_some, is_used_in, IsSwept, IsUnused, List, None, number_in, number_of, Numbers, Option, places_in, SameNumbers, Slab, Some, sym, true, under}
+use Rattle.ksm_tree.proofs.Names.{Updates, Updates-with_value, with_value, ℕ, [], ◌&&◌, ◌==◌, ◌≡◌}
 use Rattle.slab.specs.Slab.{Updates as Fills}
 use Rattle.ksm_tree.proofs.Numbering.{same_content, told_equal}
 use Rattle.ksm_tree.proofs.Rows.{eq_bytes}
@@ -53,10 +52,7 @@ module _ (g : Groups) {later : Slab Group} (numbers : BTreeMap Content ℕ) (k :
       → under [] (λ n. places_in (get later n)) named ≡ under [] (λ n. places_in (get g.groups n)) (number_in k.tree k.bytes g) → Keeps g later numbers
   keeps lawful here = record {
     lawful = lawful;
-    chains = λ t b. elim (cases_Bool (is_at (content_order k) (content_of t b))) [
-      | inl is ↦ grind (arith, updates.0 (content_of t b), same_content {p = k} {q = content_of t b} is)
-      | inr other ↦ grind (arith, updates.0 (content_of t b), fills)
-    ];
+    chains = λ t b. grind (arith, updates.0 (content_of t b), same_content {p = k} {q = content_of t b}, fills);
   }
 
   -- a group without a dup came with a content that had no number
@@ -76,17 +72,10 @@ pub all_used : (g : Groups) → ((n : ℕ) → is_some (get g.groups n) ≡ true
     → (t : ℕ) (b : List ℕ) → is_some (number_in t b g) ≡ true → is_used_in g t b ≡ true
 all_used g occupied t b has = grind (arith, g.lawful (content_of t b))
 
--- a content that had no number gets one: there is one more, and no other content got one
-pub one_more : (old new : BTreeMap Content ℕ) (tree : ℕ) (bytes : List ℕ) (key : ℕ) {before : Option ℕ}
-    → number_of tree bytes old.entries ≡ None → before ≡ number_of tree bytes old.entries
-    → length new.entries ≡ length old.entries + (if is_some before then 0 else 1)
-    → Updates content_order old new (content_of tree bytes) (Some key)
-    → (length new.entries ≡ length old.entries + 1)
-    × ((t : ℕ) (b : List ℕ) → is_some (number_of t b new.entries) ≡ true → (t == tree && bytes_eq b bytes) ≡ false → is_some (number_of t b old.entries) ≡ true)
-one_more old new tree bytes key none was long updates = (
-  grind arith,
-  λ t b has apart. grind (arith, told_equal (content_of tree bytes) (content_of t b), eq_bytes b bytes),
-)
+-- where one content gets a number, every other content that has one had it
+pub no_other : (old new : BTreeMap Content ℕ) (tree : ℕ) (bytes : List ℕ) (key : ℕ) → Updates content_order old new (content_of tree bytes) (Some key)
+    → (t : ℕ) (b : List ℕ) → is_some (number_of t b new.entries) ≡ true → (t == tree && bytes_eq b bytes) ≡ false → is_some (number_of t b old.entries) ≡ true
+no_other old new tree bytes key updates t b has apart = grind (arith, told_equal (content_of tree bytes) (content_of t b), eq_bytes b bytes)
 
 -- where the others lost their numbers, or nothing happened, and no content got one, the reserve is kept
 pub reserve_left : (old : Groups) {g : Groups} {tree : ℕ} {bytes : List ℕ} → (IsSwept g ⊎ SameNumbers old g) → GroupsKeepReserve tree bytes old g

@@ -1,9 +1,9 @@
 -- What is found at a page, and the pages of the rows merged into a dup, after a change of one row.
 use Rattle.ksm_tree.proofs.Alike.{change_none, chosen, kept_append}
 use Rattle.ksm_order.proofs.Ordered.{found_parts, none_same, none_same_low}
-use Rattle.ksm_tree.proofs.Names.{All, AreCounted, AreTied, arith, Bool, change_row, comes_before, Dup, DupRow, false, filter, filter_passes, find_passes, GuestPage, if◌then◌else◌, InPageOrder, is_some, items_of}
-use Rattle.ksm_tree.proofs.Names.{length-filter, length-map, List, map, map-append, merged_into, None, not, Option, option_map, pages_ordered, refl, Row, row_at, same_page, Some, suc, true, with_item, without_item}
-use Rattle.ksm_tree.proofs.Names.{without_page, [], ◌++◌, ◌∷◌, ◌≡◌}
+use Rattle.ksm_tree.proofs.Names.{All, AreCounted, AreTied, arith, Bool, change_row, comes_before, Dup, DupRow, false, filter, filter_passes, find_passes, GuestPage, if◌then◌else◌, InPageOrder}
+use Rattle.ksm_tree.proofs.Names.{items_of, length-filter, length-map, List, map, map-append, merged_into, not, option_map, pages_ordered, refl, Row, row_at, same_page, Some, suc, true, with_item}
+use Rattle.ksm_tree.proofs.Names.{without_item, without_page, [], ◌++◌, ◌∷◌, ◌≡◌}
 
 -- a write of the row of one page, as a look-up at a page finds it
 pub at_written : (row : Row) (q : GuestPage) (rows : List Row) → row_at q (change_row row.page (λ _. row) rows) ≡ (if same_page row.page q then option_map (λ _. row) (row_at q rows) else row_at q rows)
@@ -23,17 +23,13 @@ module _ (page : GuestPage) where
   behind r = comes_before page r.page
 
   -- in order, a change of a page's row splits the list there
-  change_splits : (new : Row) (rows : List Row) → InPageOrder rows → is_some (row_at page rows) ≡ true → change_row page (λ _. new) rows ≡ filter ahead rows ++ new ∷ filter behind rows
-  change_splits new rows rise there = go _ refl
-    where
-      go : (o : Option Row) → row_at page rows ≡ o → change_row page (λ _. new) rows ≡ filter ahead rows ++ new ∷ filter behind rows
-      go None none = grind arith
-      go (Some r) found =
-          let kept = change_none (λ s. same_page s.page page) (λ _. new) in
-          let low = kept (filter ahead rows) (none_same_low pages_ordered page_of _ _ (filter_passes ahead rows)) in
-          let high = kept (filter behind rows) (none_same pages_ordered page_of page _ (filter_passes behind rows)) in
-          let parts = found_parts pages_ordered page_of page rows r rise found in
-          grind (arith, map-append, find_passes (λ s. same_page s.page page) rows)
+  change_splits : (new r : Row) (rows : List Row) → InPageOrder rows → row_at page rows ≡ Some r → change_row page (λ _. new) rows ≡ filter ahead rows ++ new ∷ filter behind rows
+  change_splits new r rows rise found =
+      let kept = change_none (λ s. same_page s.page page) (λ _. new) in
+      let low = kept (filter ahead rows) (none_same_low pages_ordered page_of _ _ (filter_passes ahead rows)) in
+      let high = kept (filter behind rows) (none_same pages_ordered page_of page _ (filter_passes behind rows)) in
+      let parts = found_parts pages_ordered page_of page rows r rise found in
+      grind (arith, map-append, find_passes (λ s. same_page s.page page) rows)
 
 module _ (rows : List Row) (d : DupRow) (page : GuestPage) where
   abbrev merged : Row → Bool
@@ -44,8 +40,8 @@ module _ (rows : List Row) (d : DupRow) (page : GuestPage) where
   items_dropped = chosen page_of merged (λ p. not (same_page p page)) rows
 
   -- the items of a dup have the page once the page's row is merged into it
-  pub items_joined : InPageOrder rows → (new : Row) → new.page ≡ page → is_some (row_at page rows) ≡ true → merged new ≡ true → items_of (change_row page (λ _. new) rows) d ≡ with_item page (items_of rows d)
-  items_joined rise new at there passes = grind (arith, change_splits page new rows rise, kept_append, chosen page_of merged)
+  pub items_joined : InPageOrder rows → (new : Row) {r : Row} → new.page ≡ page → row_at page rows ≡ Some r → merged new ≡ true → items_of (change_row page (λ _. new) rows) d ≡ with_item page (items_of rows d)
+  items_joined rise new {r} at there passes = grind (arith, change_splits page new r rows rise there, kept_append, chosen page_of merged)
 
 -- the items of a dup are without the page once the page's row is not merged into it
 pub items_left : (rows : List Row) (d : DupRow) (page : GuestPage) (new : Row) → merged_into d.number new.state ≡ false → items_of (change_row page (λ _. new) rows) d ≡ without_item page (items_of rows d)

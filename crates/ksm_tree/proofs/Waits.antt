@@ -1,5 +1,6 @@
 -- Waiting pages as they are kept, each under its content.
-use Rattle.ksm_tree.proofs.Names.{arith, BTreeMap, bytes_eq, bytes_eq-Decides, Content, content_of, content_order, GuestPage, if◌then◌else◌, is_at, List, Option, refl, Some, Updates, waiting_page, waiting_pages, ℕ, [], ◌&&◌, ◌==◌, ◌∷◌, ◌≡◌}
+use Rattle.ksm_tree.proofs.Names.{arith, BTreeMap, bytes_eq, bytes_eq-Decides, Content, content_of, content_order, GuestPage, if◌then◌else◌, is_at, List, Option, refl, Some, Updates, waiting_page}
+use Rattle.ksm_tree.proofs.Names.{waiting_pages, ℕ, [], ◌&&◌, ◌==◌, ◌∷◌, ◌≡◌}
 use Rattle.ksm_tree.proofs.Numbering.{told_equal}
 use Rattle.ksm_tree.proofs.Rows.{eq_bytes}
 use Rattle.ksm_tree.specs.Waits.{IsAdded, WaitingPage}

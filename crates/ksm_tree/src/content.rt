@@ -28,6 +28,7 @@ impl Content {
 
 /// Whether two pages have the same bytes. It looks at all words at once, where `==` of arrays stops at the first that
 /// differs, and takes three times as many steps for pages that are alike.
+#[tactic(auto, using(std::proofs::lemmas::List::drop_more, std::proofs::lemmas::List::drop_all))]
 #[inline(always)]
 pub fn same_bytes(one: &PageBytes, other: &PageBytes) -> bool
     ensures { result ≡ bytes_eq one.now other.now }

@@ -223,6 +223,7 @@ impl Groups {
     }
 
     // The groups in which no dup stands go.
+    #[tactic(auto, using(crate::proofs::Standing::all_used, std::proofs::lemmas::List::get_or_past))]
     fn sweep(&mut self)
         ensures chains { SameChains self.old self.new }
         ensures swept { IsSwept self.new }

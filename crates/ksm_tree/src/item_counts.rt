@@ -119,6 +119,7 @@ fn is_open(limit: u32, count: u32) -> bool
 }
 
 /// Whether none of the places is open by a limit.
+#[tactic(auto, using(std::proofs::lemmas::List::Folds::list_all_more))]
 #[inline(always)]
 pub fn none_open(limit: u32, counts: &[u32], places: &[u32]) -> bool
     requires { All (λ p. p < length counts.now) places.now }

@@ -81,6 +81,7 @@ impl Shelf {
     }
 
     /// The dup with a number. It is sought place by place.
+    #[tactic(auto, using(crate::proofs::OneSlot::first_found))]
     #[inline(never)]
     pub fn numbered(&self, number: u64) -> Option<&Dup>
         requires { length self.now.slots ≤ MOST_FRAMES }

@@ -2,7 +2,7 @@ use Rattle.ksm_tree.proofs.Names.{ap, arith, content_of, get, Group, None, refl,
 use Rattle.std.specs.BTreeMap.Entry.{map_with_value}
 use Rattle.slab.specs.Slab.{Updates as Fills}
 use Rattle.ksm_tree.specs.Groups.{number_in}
-use Rattle.ksm_tree.proofs.Standing.{came, Keeps, one_more}
+use Rattle.ksm_tree.proofs.Standing.{came, Keeps, no_other}
 use Rattle.ksm_tree.proofs.groups.Groups.search_or_enter.Goals as goal
 use Rattle.ksm_tree.proofs.groups.Groups.search_or_enter.Goals.{After-insert_reserved}
 
@@ -36,6 +36,6 @@ returns-in-Ok-clause-chains c =
 pub returns-in-Ok-clause-reserve : goal.returns-in-Ok-clause-reserve
 returns-in-Ok-clause-reserve c =
     let e = entered ((goal.at.returns-in-Ok-clause-reserve c).After-insert_reserved) in
-    let more = one_more c.make_room.new.self.numbers (map_with_value c.in_ok-entry.field-0 c.in-Ok.number) c.args.tree c.args.bytes.now c.in-Ok.number
-    (absent ((goal.at.returns-in-Ok-clause-reserve c).After-insert_reserved)) c.in_ok-entry.ensures.value (c.in_ok-entry.ensures.len c.in-Ok.number) (c.in_ok-entry.ensures.update.0 c.in-Ok.number) in
-    grind (arith, more, e.chains)
+    let none = absent ((goal.at.returns-in-Ok-clause-reserve c).After-insert_reserved) in
+    let apart = no_other c.make_room.new.self.numbers (map_with_value c.in_ok-entry.field-0 c.in-Ok.number) c.args.tree c.args.bytes.now c.in-Ok.number (c.in_ok-entry.ensures.update.0 c.in-Ok.number) in
+    grind (arith, c.in_ok-entry.ensures.value, c.in_ok-entry.ensures.len c.in-Ok.number, apart, e.chains)

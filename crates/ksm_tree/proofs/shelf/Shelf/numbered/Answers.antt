@@ -1,11 +1,6 @@
-use Rattle.ksm_tree.proofs.Names.{arith, get_or_past, has_number, sym, ◌∙◌}
+use Rattle.ksm_tree.proofs.Names.{arith, get_or_past, has_number}
 use Rattle.ksm_tree.proofs.OneSlot.{first_found}
 use Rattle.ksm_tree.proofs.shelf.Shelf.numbered.Goals as goal
-
-pub returns-then-dup-number : goal.returns-then-dup-number
-returns-then-dup-number c =
-    c.in-Some.ensures
-    ∙ sym (first_found (has_number c.args.number) c.loop-place.place _ c.loop-place.invariant (λ _. grind (arith, c.in-Some.ensures)))
 
 pub returns : goal.returns
 returns c =
