@@ -22,56 +22,50 @@ Slots = List (Option Dup)
 -- the dups of slots from k on stand at k or behind it
 placed_above : (k : ℕ) (slots : Slots) → ArePlaced k slots → All (λ d. k ≤ d.row.place) (present slots)
 placed_above k [] placed i d lt = absurd (omega arith)
-placed_above k (None ∷ slots) placed i d lt = omega (arith, placed_above _ slots placed i d lt)
+placed_above k (None ∷ slots) placed i d lt = omega (arith, placed_above _ slots placed.1 i d lt)
 placed_above k (Some e ∷ slots) placed zero d lt = omega (arith, placed.0)
 placed_above k (Some e ∷ slots) placed (suc i) d lt = omega (arith, placed_above _ slots placed.1 i d (omega arith))
-
--- the dups of the slots behind the first stand behind it
-behind : (k : ℕ) (s : Option Dup) (slots : Slots) → ArePlaced k (s ∷ slots) → ArePlaced (suc k) slots
-behind k None slots placed = placed
-behind k (Some d) slots placed = placed.1
 
 -- the dup found at a place is what the slot of that place holds
 slot_found : (k p i : ℕ) (slots : Slots) → p ≡ k + i → ArePlaced k slots
     → dup_at p (present slots) ≡ get_or slots i None
 slot_found k p i [] is placed = refl
-slot_found k p zero (s ∷ slots) is placed = grind (arith, behind k s slots placed, placed_above, find_nothing)
+slot_found k p zero (s ∷ slots) is placed = grind (arith, placed.1, placed_above, find_nothing)
 slot_found k p (suc i) (s ∷ slots) is placed =
-    grind (arith, slot_found (suc k) p i slots (omega arith) (behind k s slots placed))
+    grind (arith, slot_found (suc k) p i slots (omega arith) placed.1)
 
 -- a dup put into its slot is seen among the dups, in place of one that stood there
 pub slot_put : (k p i : ℕ) (slots : Slots) (dup : Dup) → p ≡ k + i → dup.row.place ≡ p → i < length slots
     → ArePlaced k slots → present (set slots i (Some dup)) ≡ with_new dup (present slots)
 slot_put k p i [] dup is at within placed = absurd (omega arith)
 slot_put k p zero (s ∷ slots) dup is at within placed =
-    let rest = behind k s slots placed in grind (arith, placed_above, filter_none, filter_all)
+    let rest = placed.1 in grind (arith, placed_above, filter_none, filter_all)
 slot_put k p (suc i) (s ∷ slots) dup is at within placed =
-    grind (arith, slot_put (suc k) p i slots dup (omega arith) at (omega arith) (behind k s slots placed))
+    grind (arith, slot_put (suc k) p i slots dup (omega arith) at (omega arith) placed.1)
 
 -- a slot that is emptied takes the dup of its place out of those that are seen
 pub slot_emptied : (k p i : ℕ) (slots : Slots) → p ≡ k + i → ArePlaced k slots
     → present (set slots i None) ≡ without_place p (present slots)
 slot_emptied k p i [] is placed = refl
-slot_emptied k p zero (s ∷ slots) is placed = grind (arith, behind k s slots placed, placed_above, filter_all)
+slot_emptied k p zero (s ∷ slots) is placed = grind (arith, placed.1, placed_above, filter_all)
 slot_emptied k p (suc i) (s ∷ slots) is placed =
-    grind (arith, slot_emptied (suc k) p i slots (omega arith) (behind k s slots placed))
+    grind (arith, slot_emptied (suc k) p i slots (omega arith) placed.1)
 
 -- a change of the items in a slot is seen as that change of the dup at its place
 pub slot_changed : (k p i : ℕ) (slots : Slots) (f : List GuestPage → List GuestPage) → p ≡ k + i → ArePlaced k slots
     → present (set slots i (option_map (change_items_of f) (get_or slots i None))) ≡ change_at p f (present slots)
 slot_changed k p i [] f is placed = refl
 slot_changed k p zero (s ∷ slots) f is placed =
-    let rest = placed_above (suc k) slots (behind k s slots placed) in
+    let rest = placed_above (suc k) slots placed.1 in
     grind (arith, change_none (stands_at p) (change_items_of f) (present slots) (λ i d lt. grind (arith, rest i d lt)))
 slot_changed k p (suc i) (s ∷ slots) f is placed =
-    grind (arith, slot_changed (suc k) p i slots f (omega arith) (behind k s slots placed))
+    grind (arith, slot_changed (suc k) p i slots f (omega arith) placed.1)
 
 -- dups stand at the places of their slots once one slot is empty, or its dup stands at its place
 placed_set : (k p i : ℕ) (s : Option Dup) (slots : Slots) → p ≡ k + i → ArePlaced p (s ∷ []) → ArePlaced k slots → ArePlaced k (set slots i s)
 placed_set k p i s [] is at placed = tt
-placed_set k p zero s (x ∷ slots) is at placed = grind (arith, behind k x slots placed)
-placed_set k p (suc i) s (None ∷ slots) is at placed = placed_set _ p i s slots (omega arith) at placed
-placed_set k p (suc i) s (Some d ∷ slots) is at placed = (placed.0, placed_set _ p i s slots (omega arith) at placed.1)
+placed_set k p zero s (x ∷ slots) is at placed = grind (arith, placed.1)
+placed_set k p (suc i) s (x ∷ slots) is at placed = (placed.0, placed_set _ p i s slots (omega arith) at placed.1)
 
 -- no slot before slot i passes
 abbrev pub NoneBefore : (Option Dup → Bool) → Slots → ℕ → Type 0
@@ -90,16 +84,16 @@ first_found test (suc i) (s ∷ slots) before here =
 empty_before : (j k : ℕ) (slots : Slots) → j < k → ArePlaced k slots → empty_from j (rows_of (present slots)) ≡ j
 empty_before j k [] before placed = refl
 empty_before j k (s ∷ slots) before placed =
-    grind (arith, empty_before j (suc k) slots (omega arith) (behind k s slots placed))
+    grind (arith, empty_before j (suc k) slots (omega arith) placed.1)
 
 -- the least place that no dup has is that of the first empty slot, or the one behind all slots
 empty_first : (k i : ℕ) (slots : Slots) → ArePlaced k slots → NoneBefore is_none slots i → i ≤ length slots → is_none (get_or slots i None) ≡ true
     → empty_from k (rows_of (present slots)) ≡ k + i
 empty_first k i [] placed before within here = omega arith
 empty_first k zero (s ∷ slots) placed before within here =
-    grind (arith, empty_before k (suc k) slots (omega arith) (behind k s slots placed))
+    grind (arith, empty_before k (suc k) slots (omega arith) placed.1)
 empty_first k (suc i) (s ∷ slots) placed before within here =
-    let rest = empty_first (suc k) i slots (behind k s slots placed) (λ j less. before (suc j) (omega arith))
+    let rest = empty_first (suc k) i slots placed.1 (λ j less. before (suc j) (omega arith))
     (omega arith) here in
     grind (arith, before 0 (omega arith))
 
@@ -109,7 +103,7 @@ found_stands dups found = search (eqb-true, find_passes)
 
 -- a dup found at a place stands there with other items
 stands : (p : ℕ) (dups : List Dup) (f : List GuestPage → List GuestPage) (s : Option Dup) → dup_at p dups ≡ s → ArePlaced p (option_map (change_items_of f) s ∷ [])
-stands p dups f None is = tt
+stands p dups f None is = (tt, tt)
 stands p dups f (Some d) is = (found_stands dups is, tt)
 
 module _ {slots : Slots} {counts : List ℕ} {empty stale : CountedSet} (h : AreSlots slots counts empty stale) where

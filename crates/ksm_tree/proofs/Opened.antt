@@ -10,7 +10,7 @@ none_present (suc n) = none_present n
 
 pub none_placed : (k n : ℕ) → ArePlaced k (replicate n None)
 none_placed k zero = tt
-none_placed k (suc n) = none_placed _ n
+none_placed k (suc n) = (tt, none_placed _ n)
 
 -- a set that has all of so many places, or none, is that of the empty slots that pass a test
 pub none_set : {test : Option Dup → Bool} (n : ℕ) {places : CountedSet} → n ≤ 64 * length places.set → ((p : ℕ) → p < n → has places.set p ≡ test None) → places.count ≡ n * cond (test None) 1 0 → IsSetOf test (replicate n None) places
@@ -29,8 +29,7 @@ none_kept k (n ∷ counts) = grind (arith, none_kept (suc k) counts)
 -- the open places of slots are those of the open dups in them
 pub open_seen : (limit k : ℕ) (slots : List (Option Dup)) → ArePlaced k slots → places_where (is_open limit) k (map count_in slots) ≡ places_open limit (present slots)
 open_seen limit k [] placed = refl
-open_seen limit k (None ∷ slots) placed = open_seen _ _ slots placed
-open_seen limit k (Some d ∷ slots) placed = grind (arith, open_seen limit _ slots placed.1)
+open_seen limit k (s ∷ slots) placed = grind (arith, open_seen limit (suc k) slots placed.1)
 
 -- as many slots have a stale dup as there are stale dups
 pub stale_slots : (slots : List (Option Dup)) → count_by (holds is_stale) slots ≡ count_by is_stale (present slots)

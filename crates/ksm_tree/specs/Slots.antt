@@ -1,5 +1,5 @@
 -- The dups by place: a slot for each place, and the places whose slots pass a test. (own)
-use Rattle.std.specs.Option.{is_none}
+use Rattle.std.specs.Option.{IfSome, is_none}
 use Rattle.std.specs.Prelude.{Bool, count_by, false, get_or, if◌then◌else◌, length, List, map, None, Option, Some, suc, ℕ, [], ◌*◌, ◌<◌, ◌∷◌, ◌≡◌, ◌≤◌}
 use Rattle.ksm_base.specs.declared.limits.TheConstants.{MOST_FRAMES}
 use Rattle.ksm_base.specs.declared.page.GuestPage.{GuestPage}
@@ -36,8 +36,7 @@ count_in slot = length (items_in slot)
 -- each dup knows the place where it stands, from k on
 abbrev pub ArePlaced : ℕ → List (Option Dup) → Type 0
 ArePlaced k [] = Unit {0}
-ArePlaced k (None ∷ slots) = ArePlaced (suc k) slots
-ArePlaced k (Some d ∷ slots) = (d.row.place ≡ k) × ArePlaced (suc k) slots
+ArePlaced k (slot ∷ slots) = IfSome slot (λ d. d.row.place ≡ k) × ArePlaced (suc k) slots
 
 -- the dups with a change made to the items of the one at a place
 abbrev pub change_at : ℕ → (List GuestPage → List GuestPage) → List Dup → List Dup

@@ -5,5 +5,5 @@ use Rattle.ksm_tree.proofs.slots.Slots.clear.Goals as goal
 pub invariant_of-self : goal.invariant_of-self
 invariant_of-self c =
     rw (c.clear.ensures.slots, c.set.ensures)
-    (slots_set c.self.invariant _ None (seen_within _ _ c.self.view_is c.self.invariant.placed c.requires) refl tt
+    (slots_set c.self.invariant _ None (seen_within _ _ c.self.view_is c.self.invariant.placed c.requires) refl (tt, tt)
     c.mark-2.ensures c.mark.ensures)
