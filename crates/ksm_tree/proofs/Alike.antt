@@ -17,8 +17,7 @@ module _ {X Y : Type 0} (g : X → Y) (p : Y → Bool) (q : X → Bool) where
   -- where two tests agree across a map, a search in the mapped list finds the image of what is found before
   pub find_mapped : (xs : List X) → All (λ x. p (g x) ≡ q x) xs → find p (map g xs) ≡ option_map g (find q xs)
   find_mapped [] same = refl
-  find_mapped (x ∷ xs) same =
-      let rest = find_mapped xs (λ k d lt. same (suc k) d (omega arith)) in grind (arith, same 0 x)
+  find_mapped (x ∷ xs) same = grind (arith, same 0 x, find_mapped xs (λ k d lt. same (suc k) d (omega arith)))
 
   -- where two tests agree across a map, as many pass in the mapped list as before
   pub count_mapped : (xs : List X) → All (λ x. p (g x) ≡ q x) xs → count_by p (map g xs) ≡ count_by q xs
@@ -44,7 +43,7 @@ change_none test f xs none =
 pub chosen : {X Y : Type 0} (f : X → Y) (test : X → Bool) (by : Y → Bool) (xs : List X)
     → map f (filter test (filter (λ x. by (f x)) xs)) ≡ filter by (map f (filter test xs))
 chosen f test by [] = refl
-chosen f test by (x ∷ xs) = let rest = chosen f test by xs in grind arith
+chosen f test by (x ∷ xs) = grind (arith, chosen f test by xs)
 
 -- what a map makes of those kept of two lists in a row is what it makes of those of the first, then of the second
 pub kept_append : {X Y : Type 0} (f : X → Y) (test : X → Bool) (xs ys : List X)

@@ -122,9 +122,8 @@ passing test (Some d) = if test d then Some d else None
 pub found_passing : (p : ℕ) (test : Dup → Bool) (dups : List Dup) → InPlaceOrder (rows_of dups) → find (λ d. stands_at p d && test d) dups ≡ passing test (dup_at p dups)
 found_passing p test [] rise = refl
 found_passing p test (d ∷ dups) rise =
-    let behind = all_rows (Lower d.row) dups (pairs_head Lower d.row (rows_of dups) rise) in
-    let rest = found_passing p test dups (pairs_tail Lower d.row (rows_of dups) rise) in
-    grind (arith, find_nothing (λ e. stands_at p e && test e) dups, behind)
+    let behind = all_rows (Lower d.row) dups (pairs_head Lower d.row _ rise) in
+    grind (arith, find_nothing (λ e. stands_at p e && test e) dups, behind, found_passing p test dups (pairs_tail Lower d.row _ rise))
 
 -- where a new dup takes a place that is empty and joins its group, the groups stay right
 pub fresh_chained : {s : SlotsState} {next : ℕ} {groups new : Groups} (dup : Dup) (ready : Bool) → AreChained s next groups → dup.row.number ≡ next → dup.row.place < s.places → dup_at dup.row.place s.dups ≡ None

@@ -16,7 +16,7 @@ rows_without p dups = grind (arith, filter_mapped)
 -- other items of the dups that pass a test change no row
 pub rows_same : (test : Dup → Bool) (f : List GuestPage → List GuestPage) (dups : List Dup) → rows_of (map (λ d. if test d then record d { items = f d.items } else d) dups) ≡ rows_of dups
 rows_same test f [] = refl
-rows_same test f (d ∷ dups) = let rest = rows_same test f dups in grind arith
+rows_same test f (d ∷ dups) = grind (arith, rows_same test f dups)
 
 -- other items of a dup change no row
 pub rows_items : (number : ℕ) (f : List GuestPage → List GuestPage) (dups : List Dup) → rows_of (change_items number f dups) ≡ rows_of dups

@@ -67,18 +67,17 @@ module _ (t : ℕ) (b : List ℕ) where
   one_leads (r ∷ rows) rise =
       let first = pairs_head Lower r rows rise in
       let leader = λ (d : DupRow). of_it d && leads_group (r ∷ rows) d in
-      let more = count_more of_it r rows in
       let also = count_more leader r rows in
       elim (cases_Bool (of_it r)) [
         | inl inside ↦
             let none = count_none leader rows (λ k d lt. grind (arith, (first k d lt).0, group_own (get_or rows k d) r)) in
             let behind = list_all-from_AllPass (λ e. not (same_group r e) || nat_le r.place e.place) rows
             (λ k d lt. grind (arith, (first k d lt).0)) in
-            grind (arith, more)
+            grind (arith, count_more of_it)
         | inr outside ↦
             let alike = count_alike leader (λ d. of_it d && leads_group rows d) rows
             (λ k e lt. grind (arith, group_own (get_or rows k e) r)) in
-            grind (arith, more, one_leads rows (pairs_tail Lower r rows rise))
+            grind (arith, count_more of_it, one_leads rows (pairs_tail Lower r rows rise))
       ]
 
   -- the dups in chains are those of a group, if it is a chain, and those of the other groups

@@ -64,7 +64,7 @@ found_self [] rise k e lt = absurd (omega arith)
 found_self (d ∷ dups) rise zero e lt = grind arith
 found_self (d ∷ dups) rise (suc k) e lt =
     let behind = all_rows (Lower d.row) dups (pairs_head Lower _ _ rise) k e (omega arith) in
-    grind (arith, behind.0, found_self dups (pairs_tail Lower d.row (rows_of dups) rise) k e (omega arith))
+    grind (arith, behind.0, found_self dups (pairs_tail Lower d.row _ rise) k e)
 
 -- the dups at the places of a list
 abbrev pub at_places : List Dup → List ℕ → List Dup

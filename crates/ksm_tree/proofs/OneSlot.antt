@@ -6,6 +6,7 @@ use Rattle.ksm_tree.proofs.Names.{length-set, List, map, map-set, FindsLeast, Ma
 use Rattle.ksm_tree.proofs.Names.{ShelfState, slots_seen, SlotsState, Some, stands_at, suc, sum_by-set, true, with_item, with_new, without_item, without_place, zero, ℕ, [], ◌+◌, ◌<◌, ◌==◌, ◌∷◌, ◌≡◌}
 use Rattle.ksm_tree.proofs.Names.{◌≤◌}
 use Rattle.ksm_tree.proofs.Alike.{change_none}
+use Rattle.std.proofs.lemmas.List.{nil_from_length}
 
 -- the set once a slot is put, and its place marked as the slot passes
 set_marked : {test : Option Dup → Bool} {slots : List (Option Dup)} {p : ℕ} (s : Option Dup) {old new : CountedSet} → p < length slots → IsMarked old new p (test s) → IsSetOf test slots old → IsSetOf test (set slots p s) new
@@ -22,9 +23,8 @@ Slots = List (Option Dup)
 -- the dups of slots from k on stand at k or behind it
 placed_above : (k : ℕ) (slots : Slots) → ArePlaced k slots → All (λ d. k ≤ d.row.place) (present slots)
 placed_above k [] placed i d lt = absurd (omega arith)
-placed_above k (None ∷ slots) placed i d lt = omega (arith, placed_above _ slots placed.1 i d lt)
-placed_above k (Some e ∷ slots) placed zero d lt = omega (arith, placed.0)
-placed_above k (Some e ∷ slots) placed (suc i) d lt = omega (arith, placed_above _ slots placed.1 i d (omega arith))
+placed_above k (s ∷ slots) placed zero d lt = grind (arith, placed_above (suc k) slots placed.1 0 d)
+placed_above k (s ∷ slots) placed (suc i) d lt = grind (arith, placed_above (suc k) slots placed.1)
 
 -- the dup found at a place is what the slot of that place holds
 slot_found : (k p i : ℕ) (slots : Slots) → p ≡ k + i → ArePlaced k slots
@@ -150,8 +150,7 @@ module _ {slots : Slots} {counts : List ℕ} {empty stale : CountedSet} (h : Are
 
 -- items with one more are not none, and were not where they are not one
 pub grown : (page : GuestPage) (pages : List GuestPage) {n : ℕ} → n ≡ length (with_item page pages) → ((n == 0) ≡ false) × ((n ≡ 1 → ⊥) → (length pages == 0) ≡ false)
-grown page [] is = grind arith
-grown page (q ∷ qs) is = grind (arith, length-append)
+grown page pages is = grind (arith, length-append, nil_from_length)
 
 module _ (p : ℕ) (shelf : ShelfState) {s : SlotsState} (view : slots_seen shelf ≡ s) (placed : ArePlaced 0 shelf.slots) where
   -- the dup seen at a place is what its slot holds
@@ -168,8 +167,7 @@ module _ (p : ℕ) (shelf : ShelfState) {s : SlotsState} (view : slots_seen shel
 
 -- items of which a page is one are not none
 pub had_item : (page : GuestPage) (pages : List GuestPage) → has_item page pages ≡ true → (length pages == 0) ≡ false
-had_item page [] found = grind arith
-had_item page (p ∷ pages) found = grind arith
+had_item page pages found = grind (arith, nil_from_length)
 
 -- taking a page out of items of which it is none changes no slot
 same_items : (page : GuestPage) (s : Option Dup) → has_item page (items_in s) ≡ false → option_map (change_items_of (without_item page)) s ≡ s

@@ -1,6 +1,6 @@
 -- Slots that are all empty, the open places as the counts change, and counts over the slots.
 use Rattle.ksm_tree.proofs.Names.{ArePlaced, arith, Bool, cond, count_by, count_in, count_more, CountedSet, Dup, get_or-replicate, has, holds, is_none, is_live, is_open, is_stale, IsSetOf}
-use Rattle.ksm_tree.proofs.Names.{length-replicate, length, List, map, None, Option, places_open, places_where, present, refl, replicate, Some, suc, zero, ℕ, [], ◌*◌, ◌+◌, ◌<◌, ◌∷◌, ◌≡◌, ◌≤◌}
+use Rattle.ksm_tree.proofs.Names.{length-replicate, length, List, map, None, Option, places_open, places_where, present, refl, replicate, suc, zero, ℕ, [], ◌*◌, ◌+◌, ◌<◌, ◌∷◌, ◌≡◌, ◌≤◌}
 use Rattle.std.proofs.lemmas.List.Folds.{sum_by-replicate}
 
 -- no dup is present in empty slots
@@ -34,13 +34,10 @@ open_seen limit k (s ∷ slots) placed = grind (arith, open_seen limit (suc k) s
 -- as many slots have a stale dup as there are stale dups
 pub stale_slots : (slots : List (Option Dup)) → count_by (holds is_stale) slots ≡ count_by is_stale (present slots)
 stale_slots [] = refl
-stale_slots (None ∷ slots) = grind (arith, stale_slots slots)
-stale_slots (Some d ∷ slots) =
-    grind (arith, count_more (holds is_stale) (Some d) slots, count_more is_stale d (present slots), stale_slots slots)
+stale_slots (s ∷ slots) = grind (arith, count_more (holds is_stale) s slots, count_more is_stale, stale_slots slots)
 
 -- each slot is empty, or its dup is stale or has items
 pub three_kinds : (slots : List (Option Dup)) → count_by is_none slots + count_by (holds is_stale) slots + count_by is_live (present slots) ≡ length slots
 three_kinds [] = refl
-three_kinds (None ∷ slots) = grind (arith, count_more is_none None slots, three_kinds slots)
-three_kinds (Some d ∷ slots) =
-    grind (arith, count_more (holds is_stale) (Some d) slots, count_more is_live d (present slots), three_kinds slots)
+three_kinds (s ∷ slots) = 
+    grind (arith, count_more is_none s slots, count_more (holds is_stale) s slots, count_more is_live, three_kinds slots)

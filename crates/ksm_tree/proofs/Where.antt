@@ -6,8 +6,8 @@ use Rattle.ksm_tree.proofs.Names.{set, suc, take, with_place, without, zero, ℕ
 module _ {X : Type 0} (test : X → Bool) where
   where_above : (k : ℕ) (xs : List X) → All (λ p. k ≤ p) (places_where test k xs)
   where_above k [] i d lt = absurd (omega arith)
-  where_above k (y ∷ xs) zero d lt = grind (arith, where_above (suc k) xs 0 d)
-  where_above k (y ∷ xs) (suc i) d lt = grind (arith, where_above (suc k) xs i d, where_above (suc k) xs (suc i) d)
+  where_above k (y ∷ xs) zero d lt = grind (arith, where_above (suc k) xs)
+  where_above k (y ∷ xs) (suc i) d lt = grind (arith, where_above (suc k) xs)
 
   -- the places of elements that pass have that of an element that comes to pass, and not that of one that comes to fail
   pub where_set : (k p i : ℕ) (xs : List X) (x : X) → p ≡ k + i → i < length xs → places_where test k (set xs i x) ≡ (if test x then with_place p (places_where test k xs) else without p (places_where test k xs))

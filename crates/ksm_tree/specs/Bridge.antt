@@ -2,7 +2,7 @@
 use Rattle.std.specs.Prelude.{All, length, List, ℕ, ◌≡◌}
 use Rattle.ksm_base.specs.declared.page.GuestPage.{GuestPage}
 use Rattle.ksm_base.specs.declared.row.PageState.{PageState}
-use Rattle.ksm_base.specs.declared.row.PageState.TheVariants.{Merged, Private, Waiting, Zero}
+use Rattle.ksm_base.specs.declared.row.PageState.TheVariants.{Merged}
 use Rattle.ksm_base.specs.declared.row.Row.{Row}
 use Rattle.ksm_base.specs.Reading.{items_of}
 use Rattle.ksm_base.specs.Rows.{item_count}
@@ -27,7 +27,5 @@ place_in (Stale place) = place
 
 -- the dups once a page whose row was in a state is no item any more
 abbrev pub let_out : PageState → GuestPage → List Dup → List Dup
-let_out Private page dups = dups
-let_out Waiting page dups = dups
-let_out Zero page dups = dups
 let_out (Merged number) page dups = change_items number (without_item page) dups
+let_out state page dups = dups
