@@ -87,16 +87,14 @@ module _ (q : ℕ) {p : ℕ} {s : SlotsState} {next : ℕ} {groups : Groups} {se
       rw (← view) (ap (λ dups. dups_seen (with_dups s dups ready) next groups)
       (map_alike _ _ s.dups (λ k d lt. grind (arith, each_same k d lt))))
 
--- the group under the number of a tree and bytes is of these, and has the places of their dups
-module _ {s : SlotsState} {next : ℕ} {groups : Groups} (h : AreChained s next groups) (tree : ℕ) (bytes : List ℕ) where
-  module _ {number : ℕ} {g : Group} (is : number_in tree bytes groups ≡ Some number) (at : Some g ≡ get groups.groups number) where
-    -- the group under the number of a tree and bytes lists the places of the dups of that tree and bytes
-    pub group_here : g.places.list.items ≡ group_places tree bytes (rows_of s.dups)
-    group_here = grind (arith)
+module _ {s : SlotsState} {next : ℕ} {groups : Groups} (h : AreChained s next groups) (tree : ℕ) (bytes : List ℕ) {number : ℕ} {g : Group} (is : number_in tree bytes groups ≡ Some number) (at : Some g ≡ get groups.groups number) where
+  -- the group under the number of a tree and bytes lists the places of the dups of that tree and bytes
+  pub group_here : g.places.list.items ≡ group_places tree bytes (rows_of s.dups)
+  group_here = grind (arith)
 
-    -- the group under the number of a tree and bytes has that tree and those bytes as its content
-    pub content_here : g.content ≡ content_of tree bytes
-    content_here = grind (arith, groups.lawful (content_of tree bytes) number)
+  -- the group under the number of a tree and bytes has that tree and those bytes as its content
+  pub content_here : g.content ≡ content_of tree bytes
+  content_here = grind (arith, groups.lawful (content_of tree bytes) number)
 
 -- where a tree and bytes have no number, no dup is of these
 pub ungrouped : {s : SlotsState} {next : ℕ} {groups : Groups} → AreChained s next groups → (t : ℕ) (b : List ℕ) → number_in t b groups ≡ None → All (λ d. in_group t b d.row ≡ false) s.dups

@@ -1,8 +1,7 @@
 -- Dup rows in the order of their places: whose group a row is of, and what a new row changes of the places of a group.
-use Rattle.ksm_tree.proofs.Names.{arith, bytes_eq, bytes_eq-Decides, DupRow, false, filter, group_places, in_group, InPlaceOrder, List, nat_lt, not, true, with_dup, with_place, without, ℕ, ◌&&◌, ◌==◌}
-use Rattle.ksm_tree.proofs.Names.{◌∙◌, ◌≡◌}
+use Rattle.ksm_tree.proofs.Names.{arith, bytes_eq, bytes_eq-Decides, DupRow, false, group_places, in_group, InPlaceOrder, List, nat_lt, not, true, with_dup, with_place, without, ℕ, ◌&&◌, ◌==◌, ◌≡◌}
 use Rattle.ksm_tree.proofs.Alike.{chosen, kept_append}
-use Rattle.ksm_base.proofs.Orders.{below, dups_parted}
+use Rattle.ksm_base.proofs.Orders.{dups_parted}
 
 -- a comparison of bytes is the same in either order
 pub eq_bytes : (xs ys : List ℕ) → bytes_eq xs ys ≡ bytes_eq ys xs
@@ -21,7 +20,7 @@ pub group_joined : (t : ℕ) (b : List ℕ) (row : DupRow) (rows : List DupRow) 
 group_joined t b row rows inside =
     let low = chosen (λ (r : DupRow). r.place) (in_group t b) (λ q. nat_lt q row.place) rows in
     let high = chosen (λ (r : DupRow). r.place) (in_group t b) (nat_lt row.place) rows in
-    kept_append _ _ (filter (below row.place) rows) _ ∙ grind (arith, low)
+    grind (arith, kept_append)
 
 -- a new dup of another group takes its place out of a group, if the group had that place
 pub group_passed : (t : ℕ) (b : List ℕ) (row : DupRow) (rows : List DupRow) → InPlaceOrder rows → in_group t b row ≡ false → group_places t b (with_dup row rows) ≡ without row.place (group_places t b rows)

@@ -48,24 +48,14 @@ pub record Keeps (g : Groups) (later : Slab Group) (numbers : BTreeMap Content �
 module _ (g : Groups) {later : Slab Group} (numbers : BTreeMap Content ℕ) (k : Content) {number : ℕ} {named : Option ℕ} {slot : Option Group}
     (updates : Updates content_order g.numbers numbers k named) (fills : Fills g.groups later number slot)
     (was : places_in (get g.groups number) ≡ []) (now : places_in slot ≡ []) where
-  keeps : AreGroups numbers.entries later
-      → under [] (λ n. places_in (get later n)) named ≡ under [] (λ n. places_in (get g.groups n)) (number_in k.tree k.bytes g) → Keeps g later numbers
-  keeps lawful here = record {
-    lawful = lawful;
-    chains = λ t b. grind (arith, updates.0 (content_of t b), same_content {p = k} {q = content_of t b}, fills);
+  -- a group without a dup came with a content that had no number, or went, and its content lost its number
+  pub keeps : ((number_in k.tree k.bytes g ≡ None) × (get g.groups number ≡ None) × (named ≡ Some number) × (content_in slot ≡ Some k))
+      ⊎ ((content_in (get g.groups number) ≡ Some k) × (slot ≡ None) × (named ≡ None)) → Keeps g later numbers
+  keeps change = record {
+    lawful = λ q n. grind (arith, same_content {p = k} {q = q}, updates.0 q, g.lawful q n, fills);
+    chains = λ t b.
+    grind (arith, updates.0 (content_of t b), same_content {p = k} {q = content_of t b}, fills, fills.changed, (g.lawful k number).1);
   }
-
-  -- a group without a dup came with a content that had no number
-  pub came : number_in k.tree k.bytes g ≡ None → get g.groups number ≡ None → named ≡ Some number → content_in slot ≡ Some k → Keeps g later numbers
-  came none vacant name content =
-      keeps (λ q n. grind (arith, same_content {p = k} {q = q}, updates.0 q, g.lawful q n, fills))
-      (grind (arith, fills.changed))
-
-  -- a group without a dup went, and its content lost its number
-  pub went : content_in (get g.groups number) ≡ Some k → slot ≡ None → named ≡ None → Keeps g later numbers
-  went stood is name =
-      keeps (λ q n. grind (arith, same_content {p = k} {q = q}, updates.0 q, g.lawful q n, fills))
-      (grind (arith, (g.lawful k number).1 stood))
 
 -- where a dup stands in each group, each content with a number is in use
 pub all_used : (g : Groups) → ((n : ℕ) → is_some (get g.groups n) ≡ true → has_place (get g.groups n) ≡ true)

@@ -1,8 +1,8 @@
 -- The items of each dup stay the pages of the rows merged into it: the dups after a change of one row, and after a change of all.
 use Rattle.ksm_tree.proofs.Names.{absent_kept, All, All-append, All-cons, All-filter, All-map, ap, AreTied, arith, change_items, change_row, Dup, dup_of, DupRow, each_at_page, eqb-true, false}
-use Rattle.ksm_tree.proofs.Names.{filter_none, find_all, find_passes, get_or, GuestPage, has_item, items_in, Option, InPageOrder, item_count, items_of, length, let_out, List, map, option_map}
-use Rattle.ksm_tree.proofs.Names.{if◌then◌else◌, Merged, merged_into, merged_state, None, none_found, ordered_map, pages_ordered, PageState, refl, Row, row_at, rows_of, same_page, Some, suc, sym}
-use Rattle.ksm_tree.proofs.Names.{true, with_item, with_new, with_row, without_item, without_page, without_place, ℕ, [], ◌<◌, ◌==◌, ◌∙◌, ◌∷◌, ◌≡◌}
+use Rattle.ksm_tree.proofs.Names.{filter_none, find_all, find_passes, get_or, GuestPage, has_item, items_in, Option, InPageOrder, item_count, items_of, length, let_out, List, map, if◌then◌else◌}
+use Rattle.ksm_tree.proofs.Names.{Merged, merged_into, merged_state, None, none_found, ordered_map, pages_ordered, PageState, refl, Row, row_at, rows_of, same_page, Some, suc, sym, true, with_item}
+use Rattle.ksm_tree.proofs.Names.{with_new, with_row, without_item, without_page, without_place, ℕ, [], ◌<◌, ◌==◌, ◌∙◌, ◌∷◌, ◌≡◌}
 use Rattle.ksm_tree.specs.Dups.{items_of as items_numbered}
 use Rattle.ksm_tree.proofs.Alike.{kept_append}
 use Rattle.ksm_tree.proofs.Changes.{all_rows}
@@ -92,8 +92,7 @@ module _ (rows : List Row) (first second : Row) (row : DupRow) (rise : InPageOrd
   both_in : items_of whole row ≡ with_item second.page (first.page ∷ [])
   both_in =
       let rises : InPageOrder half = ordered_map _ _ (λ r. grind arith) rise in
-      let at = at_written first_in second.page rows ∙ ap (λ o. if same_page first.page second.page then option_map (λ _. first_in) o else o) also in
-      let joined = items_joined half row second.page rises second_in {r = if same_page first.page second.page then first_in else second} refl (grind (arith, at)) in
+      let joined = items_joined half row second.page rises second_in {r = if same_page first.page second.page then first_in else second} refl (grind (arith, at_written first_in second.page rows)) in
       let none_in = filter_none (λ r. merged_into row.number r.state) rows none in
       grind (arith, joined, none_in, items_joined rows row first.page rise first_in refl found)
 

@@ -1,6 +1,6 @@
 -- The dups by place: a slot for each place, and the places whose slots pass a test. (own)
 use Rattle.std.specs.Option.{IfSome, is_none}
-use Rattle.std.specs.Prelude.{Bool, count_by, false, get_or, if◌then◌else◌, length, List, map, None, Option, Some, suc, ℕ, [], ◌*◌, ◌<◌, ◌∷◌, ◌≡◌, ◌≤◌}
+use Rattle.std.specs.Prelude.{Bool, count_by, false, filter_map, get_or, if◌then◌else◌, length, List, map, None, Option, Some, suc, ℕ, [], ◌*◌, ◌<◌, ◌∷◌, ◌≡◌, ◌≤◌}
 use Rattle.ksm_base.specs.declared.limits.TheConstants.{MOST_FRAMES}
 use Rattle.ksm_base.specs.declared.page.GuestPage.{GuestPage}
 use Rattle.ksm_tree.specs.declared.dup.Dup.{Dup}
@@ -17,9 +17,7 @@ pub record SlotsState : Type 0 where
 
 -- the dups of the slots
 abbrev pub present : List (Option Dup) → List Dup
-present [] = []
-present (None ∷ slots) = present slots
-present (Some d ∷ slots) = d ∷ present slots
+present slots = filter_map (λ slot. slot) slots
 
 abbrev pub slots_seen : ShelfState → SlotsState
 slots_seen s = record { places = length s.slots; dups = present s.slots; ready = s.ready }

@@ -1,4 +1,4 @@
-use Rattle.ksm_tree.proofs.Names.{arith, Dup, find_none, has_number, without_item}
+use Rattle.ksm_tree.proofs.Names.{arith, change_items_of, find_none, has_number, without_item}
 use Rattle.ksm_tree.proofs.Chained.{stays_chained, told_changed, told_dup}
 use Rattle.ksm_tree.proofs.Alike.{change_none}
 use Rattle.ksm_tree.proofs.dups.Dups.leave_at.Goals as goal
@@ -16,6 +16,5 @@ returns-clause-left c =
 
 pub returns-in_err-place-clause-left : goal.returns-in_err-place-clause-left
 returns-in_err-place-clause-left c =
-    let change = λ (d : Dup). record d { items = without_item c.args.page d.items } in
     let none = find_none (has_number c.args.dup) c.args.self.now.dups in
-    grind (arith, none, change_none (has_number c.args.dup) change c.args.self.now.dups)
+    grind (arith, none, change_none (has_number c.args.dup) (change_items_of (without_item c.args.page)) c.args.self.now.dups)

@@ -1,8 +1,8 @@
-use Rattle.ksm_tree.proofs.Names.{ap, arith, content_of, get, Group, None, refl, rules, Some, subst, sym, ℕ, ◌∙◌, ◌≡◌}
+use Rattle.ksm_tree.proofs.Names.{ap, arith, content_of, get, Group, inl, None, refl, rules, Some, subst, sym, ℕ, ◌∙◌, ◌≡◌}
 use Rattle.std.specs.BTreeMap.Entry.{map_with_value}
 use Rattle.slab.specs.Slab.{Updates as Fills}
 use Rattle.ksm_tree.specs.Groups.{number_in}
-use Rattle.ksm_tree.proofs.Standing.{came, Keeps, no_other}
+use Rattle.ksm_tree.proofs.Standing.{Keeps, keeps, no_other}
 use Rattle.ksm_tree.proofs.groups.Groups.search_or_enter.Goals as goal
 use Rattle.ksm_tree.proofs.groups.Groups.search_or_enter.Goals.{After-insert_reserved}
 
@@ -20,9 +20,9 @@ entered c =
     let vacant = sym (room c.in-Ok.number) ∙ ap (get c.reserve_one.new.slab) (sym key) ∙
     c.insert_reserved.ensures.was_vacant in
     let fills = subst (λ n. Fills c.reserve_one.new.slab c.insert_reserved.new.self n (Some fresh)) key c.insert_reserved.ensures.updates in
-    came g _ k (c.in_ok-entry.ensures.update.0 c.in-Ok.number)
+    keeps g _ k (c.in_ok-entry.ensures.update.0 c.in-Ok.number)
     (record { changed = fills.changed; others = λ n apart. fills.others n apart ∙ room n })
-    (rw vacant refl) c.new.ensures.none (absent c) vacant refl refl
+    (rw vacant refl) c.new.ensures.none (inl (absent c, vacant, refl, refl))
 
 pub invariant_of-self-in-Vacant : goal.invariant_of-self-in-Vacant
 invariant_of-self-in-Vacant c = record { lawful = search (rules, (entered c).lawful, c.insert-number.ensures.writes_back); bounded = c.make_room.new.self.bounded }

@@ -1,5 +1,4 @@
-use Rattle.ksm_tree.proofs.Names.{arith, find_none, nat_tests, none_found, numbers_ordered, sym, with_found, with_place, ◌==◌, ◌∙◌, ◌≡◌}
-use Rattle.std.specs.Prelude.{insert}
+use Rattle.ksm_tree.proofs.Names.{arith, find_none, nat_tests, none_found, numbers_ordered, sym, with_found, with_place, ◌==◌, ◌≡◌}
 use Rattle.ksm_order.specs.Places.{IsPlace}
 use Rattle.ksm_order.proofs.Places.{insert_here, with_rises}
 use Rattle.ksm_tree.proofs.places.Places.insert.Goals as goal
@@ -12,9 +11,7 @@ inserted c =
     rw (c.as_slice-places.ensures, c.from-key.ensures) at c.place_near_end-at.ensures in
     let absent = none_found (λ p. p == c.args.place) places
     (rw (← c.as_slice-places.ensures, ← c.from-key.ensures) (sym c.if-not-stands_at.ensures.found)) in
-    let put : c.insert-there_is_room.new.self.items ≡ insert places c.place_near_end-at.result c.args.place =
-    grind (arith, c.insert-there_is_room.ensures.succeeds) in
-    put ∙ insert_here at c.args.place (find_none (λ p. p == c.args.place) places absent)
+    grind (arith, c.insert-there_is_room.ensures.succeeds, insert_here at c.args.place (find_none (λ p. p == c.args.place) places absent))
 
 pub invariant_of-self : goal.invariant_of-self
 invariant_of-self c = record {

@@ -1,4 +1,4 @@
-use Rattle.ksm_tree.proofs.Names.{arith, Kept, length, refl, rules, ◌<◌}
+use Rattle.ksm_tree.proofs.Names.{arith, Kept, length, refl, ◌<◌}
 use Rattle.ksm_tree.proofs.Shelved.{filled, many}
 use Rattle.ksm_tree.proofs.shelf.Shelf.put.Goals as goal
 use Rattle.ksm_tree.proofs.shelf.Shelf.put.Goals.{After-insert_reserved-key}
@@ -6,9 +6,6 @@ use Rattle.ksm_tree.proofs.shelf.Shelf.put.Goals.{After-insert_reserved-key}
 -- the place has a key
 within : (c : After-insert_reserved-key) → c.args.dup.row.place < length c.self.inside.keys.items
 within c = omega (arith, c.requires.place, many c.args.dup.row.place _ _ c.self.view_is)
-
-pub index_mut-requires : goal.index_mut-requires
-index_mut-requires c = search (rules, within)
 
 pub returns : goal.returns
 returns c =
