@@ -10,17 +10,13 @@ module _ (words : List ℕ) where
   further from at none found h = grind arith
 
   module _ {upper : List ℕ} (h : IsSummed words upper) where
-    -- a word that is not 0 stands among the words
-    word_within : (w : ℕ) → get_or words w 0 ≢ 0 → w < length words
-    word_within w some = grind (arith, get_or_past)
-
     -- the least number of the upper set behind a word's is that of the word of the least number behind that word
     pub found_behind : (at : ℕ) {next bit : ℕ} → IsLeast upper (at + 1) (64 * length upper) next → IsLowestBit (get_or words next 0) 0 bit → IsLeast words ((at + 1) * 64) (64 * length words) (next * 64 + bit)
-    found_behind at {next} {bit} named found = grind (arith, word_within)
+    found_behind at {next} {bit} named found = grind (arith, get_or_past)
 
     -- the least number of the upper set from one on is that of a word that is there
     pub within_named : {low next : ℕ} → IsLeast upper low (64 * length upper) next → next < length words
-    within_named named = grind (arith, word_within)
+    within_named named = grind (arith, get_or_past)
 
     -- the upper set is right once a word is put, if it says of that whether it is 0, and of the others what it did
     pub summed_put : {w : ℕ} (word : ℕ) {upper' : List ℕ} {there : Bool} → w < length words → there ≡ not (word == 0) → Marks upper upper' w there → IsSummed (set words w word) upper'

@@ -1,9 +1,9 @@
-use Rattle.ksm_tree.proofs.Names.{None, refl}
+use Rattle.ksm_tree.proofs.Names.{arith, None, refl}
 use Rattle.ksm_tree.proofs.OneSlot.{seen_within, slots_set}
 use Rattle.ksm_tree.proofs.slots.Slots.clear.Goals as goal
 
 pub invariant_of-self : goal.invariant_of-self
 invariant_of-self c =
     rw (c.clear.ensures.slots, c.set.ensures)
-    (slots_set c.self.invariant _ None (seen_within _ _ c.self.view_is c.self.invariant.placed c.requires) refl (tt, tt)
+    (slots_set c.self.invariant _ None (grind (arith, seen_within)) refl (tt, tt)
     c.mark-2.ensures c.mark.ensures)
