@@ -1,99 +1,93 @@
 -- The visit of a page that is due, by what was found of it: it takes over from none, but where a row further on waits
 -- for it; and which pages are due then.
-use Rattle.ksm_book.proofs.Names.{All, ap, AreDue, arith, before_differs, best_dup, BookState, BookValue, BookView, Bool, change_row, change_rows, Comes, comes_before, Deed, due_visited, Dup}
-use Rattle.ksm_book.proofs.Names.{each_at_page, false, Find, find_all, find_passes, FindsAt, freed, GuestPage, has_item, hidden_from, is_restless, IsAlone, IsDueNoMore, IsLaid, IsSound}
-use Rattle.ksm_book.proofs.Names.{KeeperView, List, map_alike, None, not, not_both, one_before, Option, own_not_merged, page, page_visited, PagesView, Partner, refl, restless_at, Row, row_at}
-use Rattle.ksm_book.proofs.Names.{row_visited, same_page, same_page_eq, same_page_refl, same_page_sym, settled, Some, state_of, StaysBefore, subst, sym, takes_over, TakesOver, true, true≢false}
-use Rattle.ksm_book.proofs.Names.{view_of, visits, VisitsPage, waits_for, waits_tells, WaitsFor, with_rows, ℕ, ◌&&◌, ◌||◌, ◌∙◌, ◌∷◌, ◌≡◌}
+use Rattle.ksm_book.proofs.Names.{ap, AreDue, arith, before_differs, best_dup, BookState, BookValue, BookView, change_row, Comes, comes_before, Deed, due_visited, Dup, each_at_page}
+use Rattle.ksm_book.proofs.Names.{false, Find, find_all, find_passes, freed, GuestPage, has_item, hidden_from, is_restless, IsAlone, IsLaid, IsSound, KeeperView, List, None, not, not_both}
+use Rattle.ksm_book.proofs.Names.{one_before, Option, own_not_merged, page, page_visited, PagesView, Partner, refl, restless_at, row_at, row_visited, same_page, same_page_eq}
+use Rattle.ksm_book.proofs.Names.{same_page_refl, same_page_sym, settled, Some, state_of, StaysBefore, subst, sym, takes_over, TakesOver, true, view_of, visits, VisitsPage, waits_for}
+use Rattle.ksm_book.proofs.Names.{waits_tells, WaitsFor, with_rows, ℕ, ◌&&◌, ◌||◌, ◌∙◌, ◌∷◌, ◌≡◌}
 use Rattle.ksm_base.specs.declared.row.PageState.TheVariants.{Private}
 use Rattle.ksm_pages.specs.Paged.{Finds}
-use Rattle.ksm_book.proofs.DueKept.{calm_undue, more_due, own_due, row_undue, taken_due}
-use Rattle.ksm_book.proofs.RowVisits.{filled_by, finds_it, Meets, page_is, restless_own, shared_visited, there_is}
+use Rattle.ksm_book.proofs.DueKept.{calm_undue, IsDueNoMore, own_due, row_undue}
+use Rattle.ksm_book.proofs.RowVisits.{filled_by, finds_it, Meets, page_is, restless_own, shared_visited, there_is, waits_visited}
 use Rattle.ksm_book.proofs.Singles.{book}
 use Rattle.ksm_pages.specs.declared.pages.Find.TheVariants as finds
-use Rattle.std.specs.Cmp.{both_ways}
-use Rattle.ksm_book.proofs.DueAlike.{freed_found, one_waits, veiled_over}
-use Rattle.ksm_book.proofs.ByPage.{found_page, row_of_page}
-use Rattle.ksm_book.proofs.Reached.{agrees, changed_comes, comes_as, comes_to}
+use Rattle.ksm_book.proofs.DueAlike.{calm_stays, freed_found, freed_sound, narrowed_over}
+use Rattle.ksm_book.proofs.ByPage.{found_page}
+use Rattle.ksm_book.proofs.Reached.{agrees, changed_comes, comes_as, comes_by, comes_to}
 
--- by what was found, the page shares a frame once it was visited
-abbrev pub shares : GuestPage → Find → Bool
-shares page (Dup best) = true
-shares page finds.Zero = true
-shares page (Partner other) = comes_before other page
-shares page _ = false
-
--- its row takes over from none then, nor had its bytes changed where it may join no dup
-shared_by : (f : Find) (p q : PagesView) (cursor : Option GuestPage) (passes : ℕ) (row : Row) → shares row.page f ≡ true
-    → FindsAt p q row f → (is_restless row ≡ true) × (q ≡ p) × (takes_over (state_of p cursor passes) row ≡ false)
-    × (best_dup p.knobs p.rows p.dups row ≡ None → row.unchanged ≡ true)
-shared_by (Dup best) p q cursor passes row is so = grind (arith, so)
-shared_by finds.Zero p q cursor passes row is so = grind (arith, so)
-shared_by (Partner other) p q cursor passes row is so = grind (arith, so, not_both)
-shared_by _ p q cursor passes row is so = absurd (true≢false (sym is))
+-- by what was found of a page, this was done then, where the page takes over from none and is due no longer
+abbrev pub Leaves : Find → GuestPage → BookView → BookView → Type 0
+Leaves finds.Gone page v w = w ≡ v
+Leaves finds.Waits page v w = w ≡ v
+Leaves finds.Changed page v w = true ≡ false
+Leaves (Partner other) page v w = (comes_before other page ≡ true) × VisitsPage v w page
+Leaves _ page v w = VisitsPage v w page
 
 module _ {p : PagesView} {k : KeeperView} {cursor : Option GuestPage} {passes : ℕ} where
-  module _ {v : BookView} where
-    -- a page found gone is not due
-    pub gone_due : (q : PagesView) (gone : GuestPage) → IsSound (state_of p cursor passes) × IsLaid p k → book p k cursor passes ≡ v → Finds p q gone finds.Gone
-        → IsDueNoMore gone v.state (state_of q cursor passes)
-    gone_due q gone lawful told is =
-        let same : q ≡ p = grind arith in
-        let calm : restless_at gone p.rows ≡ false = grind arith in
-        subst (λ (x : BookView). IsDueNoMore gone x.state (state_of q cursor passes)) told
-        (rw same (calm_undue (state_of p cursor passes) gone lawful.0.rows_rise calm))
+  module _ {v : BookView} {page : GuestPage} {q : PagesView} where
+    -- a page that meets no earlier one is to wait in the stead of the other
+    pub partner_takes : (other : GuestPage) → Meets (Partner other) p q k cursor passes v page
+        → comes_before other page ≡ false → TakesOver (state_of p cursor passes) page other
+    partner_takes other at none =
+        let met = filled_by _ at.so.4 in
+        let of_it = waits_tells p.knobs at.row met.0 (find_passes (waits_for p.knobs at.row) p.rows _ met.1) in
+        record {
+          row = at.row;
+          found = at.found;
+          takes = grind (arith, at.so, met.1, one_before, of_it.other, page_is at);
+          waiter = met.0;
+          waits = met.1;
+          is = met.2;
+        }
 
-    module _ {page : GuestPage} where
-      -- once its row was visited a page is due no longer, but where its bytes had changed
-      visited_undue : {f : Find} {q : PagesView} (at : Meets f p q k cursor passes v page) → is_restless at.row ≡ true
-          → (best_dup p.knobs p.rows p.dups at.row ≡ None → at.row.unchanged ≡ true) → (c : BookState)
-          → c ≡ row_visited (state_of p cursor passes) at.row → IsDueNoMore page v.state c
-      visited_undue at restless same c is pages was =
+    -- a page whose bytes had changed stays due
+    pub changed_keeps : Meets finds.Changed p q k cursor passes v page → (due : List GuestPage)
+        → has_item page due ≡ true → AreDue v.state due → AreDue (state_of q cursor passes) due
+    changed_keeps at due there was =
+        rw at.so.3
+        (own_due (state_of p cursor passes) at.row.page
+        (λ r. record r { unchanged = true; state = Private }) at.row at.sound.rows_rise
+        (there_is at) (own_not_merged _ (restless_own at.row at.so.0), refl) due due (grind (arith, page_is at))
+        (λ g _ is. is)
+        (grind (arith, at.is)))
+
+  module _ (v w : BookValue) (page : GuestPage) where
+    met_left : {f : Find} {q : PagesView} (at : Meets f p q k cursor passes (view_of v) page) → is_restless at.row ≡ true
+        → takes_over (state_of p cursor passes) at.row ≡ false
+        → (best_dup p.knobs p.rows p.dups at.row ≡ None → at.row.unchanged ≡ true)
+        → Comes v w (λ s. page_visited s page) → Comes v w (λ s. due_visited s page) × IsDueNoMore page v.state w.state
+    met_left at restless stays same comes = (
+      comes_by v w _ _ comes (λ _ deed _. grind (arith, at.found, at.is)),
+      λ pages was. let state : w.state ≡ row_visited (state_of p cursor passes) at.row =
+          grind (arith, comes_to v w _ comes, at.found, at.is) in
           let due = subst (λ (x : BookView). AreDue x.state (page ∷ pages)) (sym at.is) was in
-          rw is (row_undue _ at.sound at.row (there_is at) restless pages (rw (page_is at) due) same)
+          rw state (row_undue _ at.sound at.row (there_is at) restless pages (rw (page_is at) due) same),
+    )
 
-      -- a page found to wait is due no longer
-      pub waits_due : {q : PagesView} → Meets finds.Waits p q k cursor passes v page → IsDueNoMore page v.state (state_of q cursor passes)
-      waits_due {q} at = visited_undue at at.so.0 (λ _. at.so.2) (state_of q cursor passes) (grind (arith, at.so))
-
-      -- a page that meets no earlier one is to wait in the stead of the other
-      pub partner_takes : {q : PagesView} (other : GuestPage) → Meets (Partner other) p q k cursor passes v page
-          → comes_before other page ≡ false → TakesOver (state_of p cursor passes) page other
-      partner_takes other at none =
-          let met = filled_by _ at.so.4 in
-          let of_it = waits_tells p.knobs at.row met.0 (find_passes (waits_for p.knobs at.row) p.rows _ met.1) in
-          record {
-            row = at.row;
-            found = at.found;
-            takes = grind (arith, at.so, met.1, one_before, of_it.other, page_is at);
-            waiter = met.0;
-            waits = met.1;
-            is = met.2;
-          }
-
-      -- a page whose bytes had changed stays due
-      pub changed_keeps : {q : PagesView} → Meets finds.Changed p q k cursor passes v page → (due : List GuestPage)
-          → has_item page due ≡ true → AreDue v.state due → AreDue (state_of q cursor passes) due
-      changed_keeps at due there was =
-          rw at.so.3
-          (own_due (state_of p cursor passes) at.row.page
-          (λ r. record r { unchanged = true; state = Private }) at.row at.sound.rows_rise
-          (there_is at) (own_not_merged _ (restless_own at.row at.so.0), refl) due due (grind (arith, page_is at))
-          (λ g _ is. is)
-          (grind (arith, at.is)))
-
-  module _ (f : Find) (q : PagesView) (v w : BookValue)
-      (page : GuestPage) (is : shares page f ≡ true) (lawful : IsSound (state_of p cursor passes) × IsLaid p k)
-      (told : book p k cursor passes ≡ view_of v) (found : Finds p q page f)
-      (did : VisitsPage (book q k cursor passes) (view_of w) page) where
-    -- where the row was visited in the book as it was, that is the visit of what is due, and the page is due no longer
-    pub shared_due : Comes v w (λ s. due_visited s page) × IsDueNoMore page v.state w.state
-    shared_due =
-        let at = finds_it f (λ gone. true≢false (sym is ∙ ap (shares page) gone)) lawful told q refl found in
-        let by = shared_by f p q cursor passes at.row (rw (page_is at) is) at.so in (
-          λ from s before. grind (arith, by, at.found, at.is, (shared_visited v w at by.0 by.1 did).comes from s before),
-          visited_undue at by.0 by.3 w.state (grind (arith, by, at.found, at.is)),
+    -- that was the visit of what is due then, and the page is due no longer
+    pub left_due : (f : Find) (q : PagesView) → IsSound (state_of p cursor passes) × IsLaid p k → book p k cursor passes ≡ view_of v
+        → Finds p q page f → Leaves f page (book q k cursor passes) (view_of w)
+        → Comes v w (λ s. due_visited s page) × IsDueNoMore page v.state w.state
+    left_due finds.Gone q lawful told is did =
+        let same : q ≡ p = grind arith in
+        let stays : view_of w ≡ view_of v = grind arith in
+        let calm : restless_at page v.state.rows ≡ false = grind arith in (
+          comes_by v w _ _ (changed_comes v w (λ b. b) stays) (λ _ deed _. sym (calm_stays (v.state, deed) page calm)),
+          rw (ap (λ (x : BookView). x.state) stays) (calm_undue v.state page (grind arith) calm),
         )
+    left_due finds.Waits q lawful told is did =
+        let at = finds_it finds.Waits (λ e. cc) lawful told q refl is in
+        met_left at at.so.0 (grind (arith, at.so)) (λ _. at.so.2) (waits_visited v w at did).comes
+    left_due finds.Changed q lawful told is did = cc
+    left_due (Dup best) q lawful told is did =
+        let at = finds_it (Dup best) (λ e. cc) lawful told q refl is in
+        met_left at at.so.0 (grind (arith, at.so)) (grind (arith, at.so)) (shared_visited v w at at.so.0 at.so.2 did).comes
+    left_due finds.Zero q lawful told is did =
+        let at = finds_it finds.Zero (λ e. cc) lawful told q refl is in
+        met_left at at.so.0 (grind (arith, at.so)) (λ _. at.so.2) (shared_visited v w at at.so.0 at.so.4 did).comes
+    left_due (Partner other) q lawful told is did =
+        let at = finds_it (Partner other) (λ e. cc) lawful told q refl is in
+        met_left at at.so.0 (grind (arith, at.so, page_is at, not_both)) (λ _. at.so.2) (shared_visited v w at at.so.0 at.so.5 did.1).comes
 
 -- a page waits in the stead of one further on
 module _ {b : BookState} {page other : GuestPage} (sound : IsSound b) (at : TakesOver b page other) where
@@ -120,17 +114,9 @@ module _ {b : BookState} {page other : GuestPage} (sound : IsSound b) (at : Take
   later : comes_before page other ≡ true
   later = grind (arith, taker_is)
 
-  agree : All (λ r. same_page r.page other ≡ waits_for b.knobs at.row r) b.rows
-  agree k d lt = both_ways _ _
-      (λ same. rw (row_of_page _ _ _ sound.rows_rise waits_at k d lt same) passes)
-      (λ waits. rw (one_waits b at.row _ sound at.waits k d lt waits ∙ sym at.is) (same_page_refl other))
-
-  freed_rows : change_row other settled b.rows ≡ change_rows (waits_for b.knobs at.row) settled b.rows
-  freed_rows = grind (arith, map_alike, agree)
-
   due_is : (deed : Deed)
       → due_visited (b, deed) page ≡ page_visited (record b { rows = change_row other settled b.rows }, deed) page
-  due_is deed = grind (arith, taker_is, freed_rows, freed_found)
+  due_is deed = grind (arith, taker_is, freed_found b sound at.row at.waiter at.waits there)
 
 -- the other row waits no more
 module _ (v m w : BookValue) {page other : GuestPage} (sound : IsSound v.state) (at : TakesOver v.state page other)
@@ -146,8 +132,8 @@ module _ (v m w : BookValue) {page other : GuestPage} (sound : IsSound v.state) 
   pub taken_refused : Comes m w (λ s. s) → StaysBefore page v w
   taken_refused none = λ from s before.
       let reached = none from _ (frees from s before) in (
-        ap (hidden_from page) reached.0 ∙ veiled_over (λ q. not (comes_before q page)) s.0 (λ r. same_page r.page other)
-            (λ k d lt same. rw (same_page_eq _ other same) (ap not (not_both page other (later sound at)))),
+        ap (hidden_from page) reached.0 ∙ narrowed_over (λ q. comes_before q page) s.0 (λ r. same_page r.page other)
+            (λ k d lt same. rw (same_page_eq _ other same) (not_both page other (later sound at))),
         reached.1,
       )
 
@@ -157,10 +143,13 @@ module _ (v m w : BookValue) {page other : GuestPage} (sound : IsSound v.state) 
     -- the other page is due then, and the first one no longer
     pub taken_leaves : Comes m w (λ s. page_visited s page) → AreDue v.state old → AreDue w.state new
     taken_leaves visits due =
-        let state : w.state ≡ row_visited (freed v.state at.row) at.row =
-        grind (arith, comes_to v w _ (taken_comes visits), taker_is sound at) in
-        rw state
-        (more_due (row_visited (freed v.state at.row) at.row) (at.waiter.page ∷ new) new (λ p is.
-        grind (arith, added p, gone p, at.is, same_page_sym page other, before_differs page other (later sound at)))
-        (taken_due _ _ _ new sound (there sound at) at.takes at.waits
-        (rw (taker_is sound at) (more_due v.state old (page ∷ new) (λ p is. grind (arith, added p, gone p)) due))))
+        let b = freed v.state (Some at.waiter) in
+        let state : w.state ≡ row_visited b at.row =
+        grind (arith, comes_to v w _ (taken_comes visits), taker_is sound at, at.waits) in
+        let still : AreDue b (page ∷ new) = own_due v.state at.waiter.page settled at.waiter sound.rows_rise
+        (subst (λ q. row_at q v.state.rows ≡ Some at.waiter) at.is (waits_at sound at)) (grind (arith, tells sound at)) old (page ∷ new)
+        (λ _ out. absurd (grind (arith, added other, gone other, at.is, same_page_refl, before_differs page other (later sound at))))
+        (λ p apart is. grind (arith, added p, gone p, at.is, same_page_sym)) due in
+        rw state (row_undue b (freed_sound v.state sound at.row at.waiter at.waits) at.row
+        (freed_found v.state sound at.row at.waiter at.waits (there sound at)) (grind (arith, at.takes)) new (rw (taker_is sound at) still)
+        (λ _. grind (arith, at.takes)))

@@ -1,12 +1,12 @@
 -- A pass over what is due leaves what waits on as it is, and what is due stays so.
-use Rattle.ksm_book.proofs.Names.{All, All-cons, All-head, All-tail, all_changed, all_with_dup, ap, AreDue, arith, best_dup, BookState, Bool, bytes_eq, bytes_eq-Decides, cases_Bool, change_row}
-use Rattle.ksm_book.proofs.Names.{change_rows, cond_both, count_by, count_mapped, Deed, due_visited, dup_of_row, DupRow, eqb-true, false, find_all, find_mapped, find_none, find_nothing}
-use Rattle.ksm_book.proofs.Names.{find_passes, freed, get_or, GuestPage, handled, has, has_item, inl, InPageOrder, inr, is_best, is_for_zero, is_restless, IsDueNoMore, IsSound, IsStill}
+use Rattle.ksm_book.proofs.Names.{All, All-cons, All-head, All-tail, all_changed, all_with_dup, ap, AreDue, arith, best_dup, BookState, Bool, bytes_eq, bytes_eq-Decides, cases_Bool}
+use Rattle.ksm_book.proofs.Names.{change_row, change_rows, cond_both, count_by, count_mapped, Deed, due_visited, dup_of_row, DupRow, eqb-true, false, find_all, find_mapped, find_none}
+use Rattle.ksm_book.proofs.Names.{find_nothing, find_passes, get_or, GuestPage, handled, has, has_item, inl, InPageOrder, inr, is_best, is_for_zero, is_restless, IsSound, IsStill}
 use Rattle.ksm_book.proofs.Names.{item_count, Knobs, List, list_all-from_AllPass, made_dup, may_join, Merged, merged_into, merged_state, nat_le, nat_lt, nat_tests, None, not, not_an_item}
 use Rattle.ksm_book.proofs.Names.{one_of_each_page, Option, own_not_merged, page, page_visited, paired, partner, refl, restless_at, Row, row_at, row_visited, same_page, same_page_refl}
-use Rattle.ksm_book.proofs.Names.{same_page_sym, settled, Some, sym, takes_over, tree_of, true, true≢false, Waiting, waiting_state, waits_for, waits_on, waits_tells, WaitsFor, with_dup, Zero, []}
-use Rattle.ksm_book.proofs.Names.{ℕ, ◌&&◌, ◌+◌, ◌==◌, ◌||◌, ◌∙◌, ◌∷◌, ◌≡◌}
-use Rattle.ksm_book.proofs.DueAlike.{at_own_page, by_counts, calm_stays, freed_found, freed_sound, one_waits}
+use Rattle.ksm_book.proofs.Names.{same_page_sym, settled, Some, sym, tree_of, true, true≢false, Waiting, waiting_state, waits_for, waits_on, waits_tells, WaitsFor, with_dup, Zero, ℕ, []}
+use Rattle.ksm_book.proofs.Names.{◌&&◌, ◌+◌, ◌==◌, ◌||◌, ◌∙◌, ◌∷◌, ◌≡◌}
+use Rattle.ksm_book.proofs.DueAlike.{at_own_page, by_counts, calm_stays, one_waits}
 use Rattle.ksm_book.proofs.ByPage.{at_changed, row_of_page}
 use Rattle.ksm_book.proofs.Folded.{by_row, then_idle}
 use Rattle.ksm_book.proofs.RowVisits.{restless_own}
@@ -227,6 +227,10 @@ module _ (b : BookState) (sound : IsSound b) (row : Row) (found : row_at row.pag
     pub row_undue : (best_dup b.knobs b.rows b.dups row ≡ None → row.unchanged ≡ true) → AreDue (row_visited b row) pages
     row_undue same = grind (arith, handled_due _ refl same, restless_own row restless)
 
+-- where the page was due, it is so no longer, and every other page is due as it was
+abbrev pub IsDueNoMore : GuestPage → BookState → BookState → Type 0
+IsDueNoMore page old new = (pages : List GuestPage) → AreDue old (page ∷ pages) → AreDue new pages
+
 -- a page is not due whose row, if it has one, no visit may change
 pub calm_undue : (b : BookState) (page : GuestPage) → InPageOrder b.rows → restless_at page b.rows ≡ false → IsDueNoMore page b b
 calm_undue b page rise calm pages was k d lt restless out =
@@ -259,13 +263,3 @@ undue_rests b due sound are page =
     let still : change_row r.page (λ x. record x { state = Waiting }) b.rows ≡ b.rows =
     change_still _ _ _ (grind (arith, row_of_page r.page b.rows r sound.rows_rise found)) in
     grind (arith, then_idle))
-
--- where a row takes over, the one in whose stead it waits is due then
-pub taken_due : (b : BookState) (row w : Row) (pages : List GuestPage) → IsSound b → row_at row.page b.rows ≡ Some row
-    → takes_over b row ≡ true → partner b.knobs b.rows row ≡ Some w → AreDue b (row.page ∷ pages)
-    → AreDue (row_visited (freed b row) row) (w.page ∷ pages)
-taken_due b row w pages sound found takes waits was =
-    let of_w = one_waits b row w sound waits in
-    row_undue (freed b row) (freed_sound b row sound) row (freed_found b row found) (grind arith) (w.page ∷ pages)
-    (single_due b (waits_for b.knobs row) settled (grind arith) (row.page ∷ pages) (row.page ∷ w.page ∷ pages)
-    (λ k d lt is _ out. grind (arith, of_w k d lt is, same_page_refl)) (grind arith) was) (grind arith)

@@ -1,13 +1,14 @@
 -- A pass over what is due comes to what the pass of the definitions comes to.
-use Rattle.ksm_book.proofs.Names.{after_cursor, ahead_before, ahead_up_to, All, AllPairs-filter, ap, AreDue, arith, BookState, BookValue, Bool, Comes, comes_before, Deed, due_visited, due_visits}
-use Rattle.ksm_book.proofs.Names.{each_at_page, false, filter, FindsFirst, FindsNext, get_or, GuestPage, hidden_from, if◌then◌else◌, InPageOrder, is_none, IsSound, IsStill, List, mergeable_pages}
-use Rattle.ksm_book.proofs.Names.{None, not, one_before, Option, page, page_visited, pages_ahead, pages_visited, part_before, part_visited, pass_begun, refl, restless_at, same_page_eq, Some}
-use Rattle.ksm_book.proofs.Names.{StaysBefore, StaysStill, Stops, subst, sym, true, view_of, with_none_waiting, [], ◌∙◌, ◌≡◌}
-use Rattle.ksm_book.proofs.DueAlike.{all_has, along, calm_stays, one_due, unveiled, veiled}
+use Rattle.ksm_book.proofs.Names.{after_cursor, ahead_before, ahead_up_to, All, ap, AreAscending, AreDue, arith, BookState, BookValue, Bool, Comes, comes_before, Deed, due_visited}
+use Rattle.ksm_book.proofs.Names.{each_at_page, false, filter, filter_all, FindsFirst, FindsNext, fold, fold-append, get_or, GuestPage, has_item, hidden_from, InPageOrder, IsSound}
+use Rattle.ksm_book.proofs.Names.{IsStill, length, List, mergeable_pages, None, one_before, Option, page, page_visited, pages_ahead, pages_visited, part_before, part_visited, pass_begun}
+use Rattle.ksm_book.proofs.Names.{refl, restless_at, same_page_eq, slice_get-get_or, slice_get_within, Some, Stage, StaysBefore, StaysStill, Stops, subst, suc, sym, take, take-suc}
+use Rattle.ksm_book.proofs.Names.{take_all, true, up_to, view_of, zero, ℕ, [], ◌∙◌, ◌∷◌, ◌≡◌, ◌≤◌}
+use Rattle.ksm_book.proofs.DueAlike.{all_has, all_pass, calm_stays, narrowed, narrowed_alike, one_due}
 use Rattle.ksm_book.proofs.DueKept.{still_undue, undue_rests}
-use Rattle.ksm_book.proofs.Along.{Before, has_filter}
+use Rattle.ksm_book.proofs.Along.{has_filter, place_of, place_splits}
 use Rattle.ksm_book.proofs.Reached.{agrees, begins, comes_by, comes_to, first}
-use Rattle.ksm_book.proofs.Folded.{ascending_ahead, begun_ahead, every_page, restless_mergeable}
+use Rattle.ksm_book.proofs.Folded.{ascending_ahead, begun_ahead, every_page, Goes, restless_mergeable}
 use Rattle.ksm_book.proofs.Walked.{before_it, is_ahead, IsVisit, IsWalking, resting, Rests}
 
 -- the visit of a page that is due is one that a walk may make
@@ -22,31 +23,64 @@ module _ (b : BookState) (deed : Deed) (sound : IsSound b) (start : b.cursor ≡
   abbrev all : List GuestPage
   all = pages_ahead b
 
-  -- whether a page comes before the one at which visits stop, if there is one
-  abbrev goes_to : Option GuestPage → GuestPage → Bool
-  goes_to None q = true
-  goes_to (Some page) q = comes_before q page
+  -- our visits of the first n pages ahead
+  abbrev ours : ℕ → Stage
+  ours n = fold due_visited (b, deed) (take n all)
 
-  -- the visits of those that come before a stop, where the others are veiled
-  alike : (stop : Option GuestPage) → let due = due_visits (b, deed) (filter (goes_to stop) all) in
-      pages_visited (pass_begun b, deed) (filter (goes_to stop) all) ≡ (veiled (λ q. not (goes_to stop q)) due.0, due.1)
-  alike stop =
+  rise : AreAscending all
+  rise = ascending_ahead b sound.rows_rise
+
+  -- where those of the pages ahead that pass a test are the first n, only these wait where only pages that pass it do
+  as_first : (t : GuestPage → Bool) (n : ℕ) → filter t all ≡ take n all → (c : BookState) → Goes b c
+      → narrowed (λ q. has_item q (take n all)) c ≡ narrowed t c
+  as_first t n are c goes =
       let mergeable : all ≡ mergeable_pages b.rows = rw start (every_page b.rows) in
-      ap (λ z. pages_visited (if is_none z then with_none_waiting b else b, deed) (filter (goes_to stop) all)) start
-      ∙ along (goes_to stop) (λ p q over goes. grind arith) (filter (goes_to stop) all) None (b, deed) sound (record {
-        rise = AllPairs-filter Before (goes_to stop) all (ascending_ahead b sound.rows_rise);
-        are = λ q. grind (arith, has_filter, mergeable);
-        behind = λ q is. refl;
-      })
+      narrowed_alike (λ q. has_item q (take n all)) c t (λ k d lt waits.
+      let page = (get_or c.rows k d).page in
+      let there = restless_mergeable page c.rows (grind (arith, each_at_page c.rows goes.0.rows_rise k d lt, goes.0.mergeable k d lt)) in
+      grind (arith, has_filter t page all, goes.1))
+
+  -- the visits of the definitions do the same, but that no other pages wait
+  first_alike : (n : ℕ) → n ≤ length all → Goes b (ours n).0
+      × (pages_visited (pass_begun b, deed) (take n all) ≡ (narrowed (λ q. has_item q (take n all)) (ours n).0, (ours n).1))
+  first_alike zero fits = ((sound, refl), grind arith)
+  first_alike (suc n) fits =
+      let was = first_alike n (omega arith) in
+      let page = get_or all n (record { guest = 0; page = 0 }) in
+      let splits = place_splits all n page rise (slice_get-get_or all n _ (omega arith)) in
+      let more = λ (visit : Stage → GuestPage → Stage) (from : Stage). ap (fold visit from) (take-suc all n _ (omega arith))
+      ∙ fold-append visit from (take n all) (page ∷ []) in
+      let made = one_due (ours n).0 was.0.0 (ours n).1 page in
+      let goes : Goes b (due_visited (ours n) page).0 = (made.0.0, made.0.1 ∙ was.0.1) in
+      rw (more due_visited (b, deed)) (
+        goes,
+        more page_visited (pass_begun b, deed) ∙ ap (λ z. page_visited z page) was.1
+            ∙ (λ i. page_visited (as_first (λ q. comes_before q page) n splits.0 (ours n).0 was.0 i, (ours n).1) page)
+            ∙ made.1 ∙ (λ i. (sym (as_first (up_to (Some page)) (suc n) splits.1 (due_visited (ours n) page).0 goes) i, (due_visited (ours n) page).1)),
+      )
+
+  -- our visits of the pages ahead that pass a test are those of the definitions, where only such pages wait
+  alike : (t : GuestPage → Bool) (n : ℕ) → n ≤ length all → filter t all ≡ take n all
+      → let due = fold due_visited (b, deed) (filter t all) in
+      pages_visited (pass_begun b, deed) (filter t all) ≡ (narrowed t due.0, due.1)
+  alike t n fits are =
+      let like = first_alike n fits in
+      rw are (like.1 ∙ (λ i. (as_first t n are (ours n).0 like.0 i, (ours n).1)))
 
   -- the visits of all pages that are due are those of the whole pass
-  pub whole_part : due_visits (b, deed) (ahead_up_to None b) ≡ part_visited None (b, deed)
-  whole_part = grind (arith, begun_ahead b, unveiled (due_visits (b, deed) (ahead_up_to None b)).0, alike None)
+  pub whole_part : fold due_visited (b, deed) (ahead_up_to None b) ≡ part_visited None (b, deed)
+  whole_part =
+      let end = alike (up_to None) (length all) (omega arith)
+      (filter_all (up_to None) all (λ k d lt. refl) ∙ sym (take_all (length all) all (omega arith))) in
+      grind (arith, begun_ahead b, all_pass (fold due_visited (b, deed) (ahead_up_to None b)).0)
 
-  -- the visits of the pages before one, once no row from there on waits
-  before_part : (page : GuestPage) → let due = due_visits (b, deed) (ahead_before page b) in
+  -- the visits of the pages before one that is ahead, once no row from there on waits
+  pub before_part : (page : GuestPage) → has_item page all ≡ true
+      → let due = fold due_visited (b, deed) (ahead_before page b) in
       (hidden_from page due.0, due.1) ≡ part_before page (b, deed)
-  before_part page = rw (begun_ahead b) (sym (alike (Some page)))
+  before_part page there =
+      let at = place_of page all there in
+      rw (begun_ahead b) (sym (alike (λ q. comes_before q page) at.0 (grind (arith, slice_get_within)) (place_splits all at.0 page rise at.1).0))
 
 -- a pass begins at a book
 module _ (old : BookValue) (sound : IsSound old.state) (start : old.state.cursor ≡ None) where
@@ -72,16 +106,18 @@ module _ {old mid : BookValue} {last : Option GuestPage} (due : List GuestPage)
       → StaysBefore page mid next → restless_at page mid.state.rows ≡ true
       → view_of new ≡ record (view_of next) { state = hidden_from page next.state } → Stops old new None page (part_before page)
   part_stops next new page first start stays restless hides =
-      let rests = rests_due (λ q. comes_before q page) first.2 in record {
+      let rests = rests_due (λ q. comes_before q page) first.2 in
+      let there = is_ahead visits_due w page first.1 rests restless in
+      record {
         within = refl;
-        ahead = is_ahead visits_due w page first.1 rests restless;
-        comes = comes_by old new (λ s. let due = due_visits s (ahead_before page s.0) in (hidden_from page due.0, due.1)) _
+        ahead = there;
+        comes = comes_by old new (λ s. let due = fold due_visited s (ahead_before page s.0) in (hidden_from page due.0, due.1)) _
             (λ from s before. grind (
               arith,
               hides,
               stays from _ (w.comes from s before),
               (before_it visits_due w page first.1 rests).same from s before,
-            )) (λ _ deed _. before_part old.state deed w.began start page);
+            )) (λ _ deed _. before_part old.state deed w.began start page there);
       }
 
 -- the pages behind a page that was visited are due, if those behind the page reached were, and only which rows wait changed

@@ -1,12 +1,13 @@
 -- The visits of a pass are a fold over its pages: what they keep, and what the parts of a scan come to.
-use Rattle.ksm_book.proofs.Names.{after_cursor, Ahead, ahead_before, AllPairs-filter, and_right, ap, append-nil, AreAscending, arith, At, begun, best_dup, BookState, cases_Bool, comes_before}
-use Rattle.ksm_book.proofs.Names.{Deed, drop, drop_all, drop_more, DupRow, each_at_page, End, EndsAt, false, filter, filter_all, filter_mapped, find_all, find_passes, fold-append, get_or}
-use Rattle.ksm_book.proofs.Names.{get_or_from_slice_get, GuestPage, handled, has_item, idle, if◌then◌else◌, inl, InPageOrder, inr, is_none, is_nowhere, is_restless, IsSound, IsStill, last_of}
-use Rattle.ksm_book.proofs.Names.{last_of_take, last_visited, length, length-take-le, List, map, map_mapped, mapped_some, mergeable_pages, next_row, next_visited, None, none_mapped, Option}
-use Rattle.ksm_book.proofs.Names.{option_map, page, page_visited, pages_ahead, pages_visited, paired, pairs_mapped, partner, pass_begun, pass_ended, pass_ended_at_last, passes_ended, refl}
-use Rattle.ksm_book.proofs.Names.{restless_at, restless_row, Row, row_at, row_done, row_visited, rowwise_visits, same_page, settled, slice_get, slice_get-get_or, slice_get_within, Some}
-use Rattle.ksm_book.proofs.Names.{sound_row_visited, sound_settings, sound_visit_begun, Stage, subst, suc, suc-mul, sym, take, take-append-drop, take-suc, take_all, then_doing, true, true≢false}
-use Rattle.ksm_book.proofs.Names.{up_to, visit, visit_begun, visit_of, visits, visits_beside, with_none_waiting, Zero, zero, [], ℕ, ⊤, ◌*◌, ◌++◌, ◌+◌, ◌-◌, ◌<◌, ◌∙◌, ◌∷◌, ◌≡◌, ◌≤◌}
+use Rattle.ksm_book.proofs.Names.{after_cursor, Ahead, ahead_before, AllPairs-filter, and_right, ap, append-nil, AreAscending, arith, At, begun, best_dup, BookState, Bool, cases_Bool}
+use Rattle.ksm_book.proofs.Names.{change_row, comes_before, Deed, drop, drop_all, drop_more, DupRow, each_at_page, End, EndsAt, false, filter, filter_all, filter_mapped, find_all}
+use Rattle.ksm_book.proofs.Names.{find_passes, fold-append, get_or, get_or_from_slice_get, GuestPage, handled, has_item, idle, inl, InPageOrder, inr, is_none, is_nowhere, is_restless}
+use Rattle.ksm_book.proofs.Names.{IsSound, IsStill, last_of, last_of_take, last_visited, length, length-take-le, List, map, map_mapped, mapped_some, mergeable_pages, Merged, next_row}
+use Rattle.ksm_book.proofs.Names.{next_visited, None, none_mapped, Option, option_map, page, page_visited, pages_ahead, pages_visited, PageState, paired, pairs_mapped, partner, pass_begun}
+use Rattle.ksm_book.proofs.Names.{pass_ended, pass_ended_at_last, passes_ended, refl, restless_at, restless_row, Row, row_at, row_done, row_visited, rowwise_visits, settled, slice_get}
+use Rattle.ksm_book.proofs.Names.{slice_get-get_or, slice_get_within, Some, sound_row_visited, sound_settings, sound_visit_begun, Stage, subst, suc, suc-mul, sym, take, take-append-drop}
+use Rattle.ksm_book.proofs.Names.{take-suc, take_all, then_doing, true, true≢false, up_to, visit, visit_begun, visit_of, visits, visits_beside, Waiting, with_none_waiting, Zero, zero, ℕ}
+use Rattle.ksm_book.proofs.Names.{[], ⊤, ◌*◌, ◌++◌, ◌+◌, ◌-◌, ◌<◌, ◌||◌, ◌∙◌, ◌∷◌, ◌≡◌, ◌≤◌}
 use Rattle.ksm_book.proofs.Along.{Before, behind_first, place_of, place_splits}
 use Rattle.ksm_book.proofs.ByPage.{found_page, row_of_page}
 use Rattle.ksm_base.specs.declared.row.PageState.TheVariants.{Private}
@@ -67,20 +68,22 @@ mergeable_kept change keeps rows = grind (
   map_mapped,
 )
 
--- so they do after the visit of a row
+-- a row with another state; the flag that its bytes have stayed is put, or stays
+abbrev pub becomes : Bool → PageState → Row → Row
+becomes put state r = record r { unchanged = put || r.unchanged; state = state }
+
+-- scans visit the same pages after the visit of a row
 module _ (b : BookState) (row : Row) where
+  own_keeps : (put : Bool) (state : PageState) → mergeable_pages (change_row row.page (becomes put state) b.rows) ≡ mergeable_pages b.rows
+  own_keeps put state = mergeable_kept _ (grind arith) b.rows
+
   paired_keeps : (w : Option Row) → mergeable_pages (paired w b row).rows ≡ mergeable_pages b.rows
   paired_keeps (Some w) = mergeable_kept _ (grind arith) b.rows
-  paired_keeps None = mergeable_kept _ (grind arith) b.rows
+  paired_keeps None = own_keeps false Waiting
 
   handled_keeps : (d : Option DupRow) → mergeable_pages (handled d b row).rows ≡ mergeable_pages b.rows
-  handled_keeps (Some d) = mergeable_kept _ (grind arith) b.rows
-  handled_keeps None = grind (
-    arith,
-    mergeable_kept (λ r. if same_page r.page row.page then record r { state = Zero } else r) (grind arith) b.rows,
-    paired_keeps (partner b.knobs b.rows row),
-    mergeable_kept (λ r. if same_page r.page row.page then record r { unchanged = true; state = Private } else r) (grind arith) b.rows,
-  )
+  handled_keeps (Some d) = own_keeps false (Merged d.number)
+  handled_keeps None = grind (arith, own_keeps false Zero, paired_keeps (partner b.knobs b.rows row), own_keeps true Private)
 
   row_keeps : mergeable_pages (row_visited b row).rows ≡ mergeable_pages b.rows
   row_keeps = grind (arith, handled_keeps (best_dup b.knobs b.rows b.dups row))

@@ -24,5 +24,4 @@ pub mod RowVisits
 pub mod Pairing
 pub mod DueFound
 pub mod Walked
-pub mod ScanCarried
 pub mod Carried

@@ -1,9 +1,9 @@
 -- The visit of a row, by what is found: what becomes of the book, and what is done to the frames.
-use Rattle.ksm_book.proofs.Names.{Add, All, All-contains_itself, arith, Best, best_dup, best_dup_has_room, BookValue, BookView, change_row, Contains, Dup, DupRow, each_at_page, false, Find}
-use Rattle.ksm_book.proofs.Names.{find_all, find_passes, FindsAt, FindsStill, Frames, GuestPage, HasRoom, HasVisited, idle, IfSome, is_best, is_restless, IsDupOf, IsJoined, IsLaid, IsSound}
-use Rattle.ksm_book.proofs.Names.{item_count, KeeperStep, KeeperView, leaving, lies_on, List, lying, MakesSteps, map, map_mapped, MatchOption, May, MayLeave, Merged, merged_into, merged_state}
-use Rattle.ksm_book.proofs.Names.{MOST_REFERENCES, None, Option, page_visited, PagesView, Performs, Placed, refl, Row, row_at, row_visited, row_visiting, same_page, settled, shared_state, Some}
-use Rattle.ksm_book.proofs.Names.{sound_row_visited, state_of, Sub, subst, sym, true, view_of, VisitsPage, Waiting, Zero, [], ℕ, ◌-◌, ◌∷◌, ◌≡◌, ◌≤◌}
+use Rattle.ksm_book.proofs.Names.{Add, All, All-contains_itself, arith, Best, best_dup, best_dup_has_room, BookValue, BookView, change_row, Contains, Dup, DupRow, each_at_page, false}
+use Rattle.ksm_book.proofs.Names.{Find, find_all, find_passes, FindsAt, FindsStill, Frames, GuestPage, HasRoom, HasVisited, idle, IfSome, is_best, is_restless, IsDupOf, IsJoined, IsLaid}
+use Rattle.ksm_book.proofs.Names.{IsSound, item_count, KeeperStep, KeeperView, leaving, lies_on, lying, MakesSteps, map, map_mapped, MatchOption, May, MayLeave, Merged, merged_into}
+use Rattle.ksm_book.proofs.Names.{merged_state, MOST_REFERENCES, None, Option, page_visited, PagesView, Performs, Placed, refl, Row, row_at, row_visited, row_visiting, settled}
+use Rattle.ksm_book.proofs.Names.{shared_state, Some, sound_row_visited, state_of, Sub, subst, sym, true, view_of, VisitsPage, Waiting, Zero, ℕ, [], ◌-◌, ◌∷◌, ◌≡◌, ◌≤◌}
 use Rattle.frame_table.specs.Kept.{Did}
 use Rattle.ksm_book.proofs.ByPage.{found_page, row_of_page}
 use Rattle.ksm_book.proofs.Keeping.{left_placed, left_spends, may_leave}
@@ -198,10 +198,6 @@ module _ {p : PagesView} {k : KeeperView} {cursor : Option GuestPage} {passes : 
         (rw goes (laid_rows at.laid l (rw leaves.after) (left_spends _ leaves) (left_placed _ leaves zero_hand)))
         (grind (arith, goes, page_is at, at.so)) (grind (arith, goes, page_is at, at.so))
 
-waiting_settles : (page : GuestPage) (rows : List Row) → All (λ r. same_page r.page page ≡ true → shared_state r.state ≡ false) rows
-    → map settled (change_row page (λ r. record r { state = Waiting }) rows) ≡ map settled rows
-waiting_settles page rows alone = grind (arith, map_mapped)
-
 -- the visit of a row that is found to wait makes the row Waiting, and does nothing to the frames
 waits_is : (p q : PagesView) (cursor : Option GuestPage) (passes : ℕ) (row : Row) (frame : Frames) → FindsAt p q row finds.Waits
     → let b = state_of p cursor passes in
@@ -242,8 +238,9 @@ module _ {p : PagesView} {k : KeeperView} {cursor : Option GuestPage} {passes : 
   pub waits_visited : (now new : BookValue) {q : PagesView} {page : GuestPage} → Meets finds.Waits p q k cursor passes (view_of now) page
       → view_of new ≡ book q k cursor passes → HasVisited now new (λ s. page_visited s page) true
   waits_visited now new {q} at then =
-      let settles = waiting_settles at.row.page p.rows
-      (λ i d lt same. rw (row_of_page _ _ _ at.sound.rows_rise (there_is at) i d lt same) (restless_own at.row at.so.0)) in
+      let settles : map settled (change_row at.row.page (λ r. record r { state = Waiting }) p.rows) ≡ map settled p.rows =
+      map_mapped settled _ settled p.rows
+      (λ i d lt. grind (arith, row_of_page _ _ _ at.sound.rows_rise (there_is at) i d lt, restless_own at.row at.so.0)) in
       record {
         comes = λ from s before. grind (arith, before, at.is, at.found, at.so, then_idle);
         still = λ _ from s before.

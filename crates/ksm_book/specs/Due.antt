@@ -1,10 +1,10 @@
 -- Passes that visit only the pages that are due: what waits, and would wait again, is left as it is (own).
-use Rattle.std.specs.Prelude.{◌≡◌, Bool, true, false, not, ◌&&◌, All, List, ◌∷◌, fold, map, Option, Some, None, is_none, if◌then◌else◌}
+use Rattle.std.specs.Prelude.{◌≡◌, Bool, true, false, not, ◌&&◌, All, List, map, Option, Some, None, is_none, if◌then◌else◌}
 use Rattle.ksm_base.specs.declared.page.GuestPage.{GuestPage}
 use Rattle.ksm_base.specs.declared.row.Row.{Row}
-use Rattle.ksm_base.specs.Rows.{change_rows, comes_before, row_at, same_page, settled, waiting_state}
+use Rattle.ksm_base.specs.Rows.{change_row, change_rows, comes_before, row_at, same_page, settled, waiting_state}
 use Rattle.ksm_base.specs.State.{BookState}
-use Rattle.ksm_base.specs.Visit.{after_cursor, best_dup, is_for_zero, partner, pass_begun, waits_for}
+use Rattle.ksm_base.specs.Visit.{after_cursor, best_dup, is_for_zero, partner, pass_begun}
 use Rattle.ksm_rmap.specs.Items.{has_item}
 use Rattle.ksm_pages.specs.Paged.{is_restless}
 use Rattle.ksm_pages.specs.declared.row.Spot.{Spot}
@@ -55,27 +55,20 @@ takes_over b row =
     is_restless row && is_none (best_dup b.knobs b.rows b.dups row) && row.unchanged
     && not (is_for_zero b.knobs row) && comes_later row.page (partner b.knobs b.rows row)
 
--- the book in which no row waits any more for this one
-abbrev pub freed : BookState → Row → BookState
-freed b row = record b { rows = change_rows (waits_for b.knobs row) settled b.rows }
+-- the book once a row, if one is given, waits no more
+abbrev pub freed : BookState → Option Row → BookState
+freed b None = b
+freed b (Some w) = record b { rows = change_row w.page settled b.rows }
 
--- after the visit of a row where rows further on still wait: none waits any more for a row that takes over
+-- after the visit of a row where rows further on still wait: what waits for a row that takes over does so no more
 abbrev pub due_row_visited : Stage → Option Row → Stage
 due_row_visited s None = s
 due_row_visited s (Some row) =
-    visited (if takes_over s.0 row then (freed s.0 row, s.1) else s) (Some row)
+    visited (if takes_over s.0 row then (freed s.0 (partner s.0.knobs s.0.rows row), s.1) else s) (Some row)
 
 -- the same for the row of a page
 abbrev pub due_visited : Stage → GuestPage → Stage
 due_visited s page = due_row_visited s (row_at page s.0.rows)
-
--- the same for the rows of some pages, one after another
-abbrev pub due_visits : Stage → List GuestPage → Stage
-due_visits s pages = fold due_visited s pages
-
--- where the page was due, it is so no longer, and every other page is due as it was
-abbrev pub IsDueNoMore : GuestPage → BookState → BookState → Type 0
-IsDueNoMore page old new = (pages : List GuestPage) → AreDue old (page ∷ pages) → AreDue new pages
 
 -- the book as it is where no row from a page on waits
 abbrev pub hidden_from : GuestPage → BookState → BookState

@@ -62,8 +62,9 @@ impl State {
         ensures refused { OnErr result (StaysBefore spot.page self.old self.new) }
         ensures refused_row { OnErr result (restless_at spot.page self.old.state.rows ≡ true) }
     {
+        let found = self.pages.visit(spot)?;
         self.lies_lawfully();
-        match self.pages.visit(spot)? {
+        match found {
             Find::Gone | Find::Waits => {}
             Find::Changed => return Ok(()),
             Find::Dup(best) => self.join(table, spot, best)?,

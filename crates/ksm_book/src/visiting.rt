@@ -58,6 +58,7 @@ impl State {
         ensures refused_row { OnErr result (restless_at spot.page self.new.state.rows ≡ true) }
     {
         let found = self.pages.visit(spot)?;
+        self.lies_lawfully();
         match found {
             Find::Gone => Ok(Visited::Gone),
             Find::Waits => Ok(Visited::Same),

@@ -1,11 +1,29 @@
-use Rattle.ksm_book.proofs.Names.{arith, BookValue, Comes, false, list_any, list_any_none, None, none_counted, refl, Some, subst, sym, TellsDue, true, ◌+◌, ◌∙◌, ◌≡◌, ◌≤◌}
+use Rattle.ksm_book.proofs.Names.{arith, BookValue, Comes, false, Fault, filter, IsCarried, IsScanned, length, length-filter, length-map, List, list_any, list_any_none, mergeable_count}
+use Rattle.ksm_book.proofs.Names.{mergeable_pages, None, none_counted, Ok, Option, refl, Row, Scan, scan_stopped, Scanned, Some, subst, sym, TellsDue, true, view_of, visits_beside, ℕ, []}
+use Rattle.ksm_book.proofs.Names.{◌+◌, ◌∙◌, ◌∷◌, ◌≡◌, ◌≤◌}
 use Rattle.ksm_base.specs.declared.fault.Fault.TheVariants.{Memory}
 use Rattle.ksm_book.specs.contracts.state.State.{the_view}
-use Rattle.ksm_book.proofs.Folded.{beside_on, visits_mergeable}
-use Rattle.ksm_book.proofs.Reached.{comes_own, comes_to}
-use Rattle.ksm_book.proofs.ScanCarried.{any_some, scanned, some_pages}
+use Rattle.ksm_book.proofs.Folded.{beside_on, beside_state, visits_mergeable}
+use Rattle.ksm_book.proofs.Reached.{begins, comes_own, comes_to, first}
 use Rattle.ksm_book.proofs.state.State.scan.Goals as goal
 use Rattle.ksm_book.proofs.state.State.scan.Goals.{After-list_restless, After-mergeable}
+
+-- scans visit as many pages as there are mergeable rows
+some_pages : (rows : List Row) → length (mergeable_pages rows) ≡ mergeable_count rows
+some_pages rows = length-map (filter (λ (r : Row). r.mergeable) rows) (λ (r : Row). r.page) ∙ length-filter (λ (r : Row). r.mergeable) rows
+
+-- where there are pages to visit, some row is mergeable
+any_some : (rows : List Row) → 1 ≤ length (mergeable_pages rows) → list_any (λ r. r.mergeable) rows ≡ true
+any_some [] some = absurd (omega arith)
+any_some (r ∷ rows) some = grind (arith, any_some rows)
+
+-- `Scan` is carried out where visits were made and then the scan stopped, or did not, as it answers
+scanned : (v w : BookValue) (count made : ℕ) (stop : Option Fault) → v.state.knobs.run ≡ 1
+    → IsScanned v.state count (Ok (Scanned made stop))
+    → Comes v w (λ s. (scan_stopped stop (visits_beside made s).0, (visits_beside made s).1))
+    → IsCarried (view_of v) (view_of w) (Scan count) (Ok (Scanned made stop))
+scanned v w count made stop running is comes =
+    grind (arith, beside_state, comes v (first v) (begins v))
 
 running : (c : After-mergeable) → c.args.self.now.state.knobs.run ≡ 1
 running c = rw (← c.self.view_is, ← c.knobs.ensures) c.if-knobs-ne1.false

@@ -3,17 +3,8 @@ use Rattle.ksm_book.specs.contracts.state.State.{the_view}
 use Rattle.ksm_book.proofs.RowVisits.{finds_it, found_lawful, shared_visited, waits_visited}
 use Rattle.ksm_book.proofs.state.State.visit_any.Goals as goal
 
-pub invariant_of-self-in-Waits : goal.invariant_of-self-in-Waits
-invariant_of-self-in-Waits c = found_lawful _ c.self.invariant _ c.in_ok-found.ensures.found
-
-pub invariant_of-self-in-Changed : goal.invariant_of-self-in-Changed
-invariant_of-self-in-Changed c = found_lawful _ c.self.invariant _ c.in_ok-found.ensures.found
-
-pub invariant_of-self-in-Dup : goal.invariant_of-self-in-Dup
-invariant_of-self-in-Dup c = found_lawful _ c.self.invariant _ c.in_ok-found.ensures.found
-
-pub invariant_of-self-in-Partner : goal.invariant_of-self-in-Partner
-invariant_of-self-in-Partner c = found_lawful _ c.self.invariant _ c.in_ok-found.ensures.found
+pub invariant_of-self-2 : goal.invariant_of-self-2
+invariant_of-self-2 c = found_lawful _ c.self.invariant _ c.in_ok-found.ensures.found
 
 pub returns-in-Waits-clause-visited : goal.returns-in-Waits-clause-visited
 returns-in-Waits-clause-visited c = waits_visited _ (the_view (record c.self.inside { pages = c.visit.new.self }))
