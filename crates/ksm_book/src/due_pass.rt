@@ -24,6 +24,7 @@ use ksm_pages::{Find, Spot};
 impl State {
     /// Makes a whole pass, which begins now, over the pages that are due. Says whether none was, so that the pass
     /// changed nothing but which rows wait. Where memory is refused, tells the page that was not visited.
+    #[tactic(auto, using(crate::proofs::Reached::comes_own))]
     pub fn pass_over_due(&mut self, table: &FrameTable, due: &mut Due) -> Result<bool, GuestPage>
         requires own { self.old.keeper.table ≡ table.now }
         requires ready { due.old.ready ≡ true }

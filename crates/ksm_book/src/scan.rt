@@ -206,6 +206,7 @@ impl State {
     // Makes at least one visit, and `most` at most, all of one pass. Where that is a whole pass that changed nothing
     // but which rows wait, those that would repeat it are counted too. Where memory is refused, tells how many visits
     // were made.
+    #[tactic(auto, using(crate::proofs::Reached::comes_to, crate::proofs::Reached::comes_own))]
     fn go_on(&mut self, table: &FrameTable, due: &mut Due, most: u64) -> Result<u64, u64>
         requires own { self.old.keeper.table ≡ table.now }
         requires most { 1 ≤ most }
@@ -240,6 +241,7 @@ impl State {
 
     /// Makes visits. Where memory is refused, no more is done than what the reply tells.
     #[inline(never)]
+    #[tactic(auto, using(crate::proofs::Reached::comes_own))]
     pub fn scan(&mut self, table: &FrameTable, due: &mut Due, count: u64) -> Result<Reply, Fault>
         requires own { self.old.keeper.table ≡ table.now }
         requires due { TellsDue due.old self.old.state }

@@ -1,7 +1,7 @@
-use Rattle.ksm_book.proofs.Names.{ahead_before, ap, arith, BookValue, Comes, has_item, last_of, last_visited, length, None, pages_ahead, part_before, pass_ended_at_last}
-use Rattle.ksm_book.proofs.Names.{Stage, sym, true, visit_begun, visits_beside, ◌*◌, ◌<◌, ◌∙◌, ◌≡◌, ◌≤◌}
+use Rattle.ksm_book.proofs.Names.{ahead_before, ap, arith, BookValue, Comes, has_item, last_of, last_visited, length, None, pages_ahead, part_before, pass_ended_at_last, Stage, sym, true}
+use Rattle.ksm_book.proofs.Names.{visit_begun, visits_beside, ◌*◌, ◌<◌, ◌∙◌, ◌≡◌, ◌≤◌}
 use Rattle.ksm_book.proofs.Folded.{begun_ahead, begun_still, page_made, passes_made, some_ahead, stopped_fewer, stopped_made}
-use Rattle.ksm_book.proofs.Reached.{comes_by, comes_own, comes_to, first}
+use Rattle.ksm_book.proofs.Reached.{comes_by, comes_to, first}
 use Rattle.std.proofs.Math.Nat.{div-mul-le_self, le-div_iff_mul-le, one-le-mul}
 use Rattle.ksm_book.proofs.state.State.go_on.Goals as goal
 use Rattle.ksm_book.proofs.state.State.go_on.Goals.{else-whole, In-End, then-whole+then-quiet}
@@ -13,10 +13,6 @@ closed s = (pass_ended_at_last s.0, s.1)
 -- then the pages ahead are those once a visit begins
 ahead_is : (v w : BookValue) → Comes v w closed → pages_ahead w.state ≡ pages_ahead (visit_begun v.state)
 ahead_is v w comes = ap pages_ahead (comes_to v w closed comes) ∙ sym (begun_ahead (pass_ended_at_last v.state))
-
-pub visit_part-requires-clause-own : goal.visit_part-requires-clause-own
-visit_part-requires-clause-own c =
-    comes_own c.args.self.now c.close_pass-ahead.new.self closed c.close_pass-ahead.ensures.comes ∙ c.requires.own
 
 pub visit_part-requires-clause-due : goal.visit_part-requires-clause-due
 visit_part-requires-clause-due c = grind (arith, comes_to)
@@ -43,10 +39,6 @@ returns-in-Err-clause-stopped c =
           (λ from deed is. rw (last, many, (comes from _ is).0) (stopped_made (v.state, deed) sound page there));
     }
 
-pub returns-in-Err-clause-due : goal.returns-in-Err-clause-due
-returns-in-Err-clause-due c = λ known.
-    rw (comes_to c.visit_part.new.self c.set_cursor-in-Err.new.self _ c.set_cursor-in-Err.ensures) (c.visit_part.ensures.due known)
-
 -- the visits go to a page
 pub returns-in-At-clause-made : goal.returns-in-At-clause-made
 returns-in-At-clause-made c =
@@ -62,9 +54,6 @@ returns-in-At-clause-made c =
           (λ _ deed _. page_made (v.state, deed) c.lies_lawfully.ensures.sound c.args.most page c.requires.most ends);
     }
 
-pub returns-in-At-clause-due : goal.returns-in-At-clause-due
-returns-in-At-clause-due c = grind (arith, comes_to)
-
 -- the visits go to the end of the pass: at least one is made, and as many as there are pages ahead
 made : (c : In-End) → (1 ≤ c.in-End.made) × (c.in-End.made ≡ length (pages_ahead (visit_begun c.args.self.now.state)))
 made c =
@@ -75,10 +64,6 @@ made c =
 
 pub nonzero_div-times : goal.nonzero_div-times
 nonzero_div-times c = (made (goal.at.nonzero_div-times c).In-End).0
-
-pub returns-after-whole-clause-due : goal.returns-after-whole-clause-due
-returns-after-whole-clause-due c = λ known.
-    rw (comes_to c.visit_part.new.self c.end_passes.new.self _ c.end_passes.ensures) (c.visit_part.ensures.due known)
 
 pub returns-after-whole-clause-made : goal.returns-after-whole-clause-made
 returns-after-whole-clause-made c =

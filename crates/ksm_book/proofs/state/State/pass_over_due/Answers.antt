@@ -1,6 +1,6 @@
-use Rattle.ksm_book.proofs.Names.{AreDue, arith, comes_before, false, None, refl, rules, subst, sym, up_to, ◌∙◌}
+use Rattle.ksm_book.proofs.Names.{AreDue, arith, comes_before, false, None, refl, rules, subst, sym, up_to}
 use Rattle.ksm_book.proofs.DuePasses.{part_stops, rests_due, visits_due, whole_part, whole_still}
-use Rattle.ksm_book.proofs.Reached.{comes_as, comes_by, comes_own}
+use Rattle.ksm_book.proofs.Reached.{comes_as, comes_by}
 use Rattle.ksm_book.proofs.Walked.{begins_walk, less_room, walk_ends, walks_on}
 use Rattle.ksm_book.proofs.state.State.pass_over_due.Goals as goal
 
@@ -13,9 +13,6 @@ loop-spot-init c = (
 
 pub loop-spot-smaller : goal.loop-spot-smaller
 loop-spot-smaller c = less_room _ _ (search rules, search rules) c.in-Some.ensures.1
-
-pub visit_due-requires-clause-own : goal.visit_due-requires-clause-own
-visit_due-requires-clause-own c = comes_own c.args.self.now c.loop-spot.self _ c.loop-spot.invariant.0.comes ∙ c.requires.own
 
 pub loop-spot-preserved : goal.loop-spot-preserved
 loop-spot-preserved c =

@@ -4,7 +4,7 @@ use Rattle.ksm_book.proofs.Names.{◌+◌, ◌∙◌, ◌∷◌, ◌≡◌, ◌�
 use Rattle.ksm_base.specs.declared.fault.Fault.TheVariants.{Memory}
 use Rattle.ksm_book.specs.contracts.state.State.{the_view}
 use Rattle.ksm_book.proofs.Folded.{beside_on, beside_state, visits_mergeable}
-use Rattle.ksm_book.proofs.Reached.{begins, comes_own, comes_to, first}
+use Rattle.ksm_book.proofs.Reached.{begins, comes_to, first}
 use Rattle.ksm_book.proofs.state.State.scan.Goals as goal
 use Rattle.ksm_book.proofs.state.State.scan.Goals.{After-list_restless, After-mergeable}
 
@@ -44,9 +44,6 @@ loop-done-init c =
     let same : the_view (record c.self.inside { pages = c.list_restless.new.self }) ≡ c.args.self.now = rw c.list_restless.ensures c.self.view_is in
     subst (λ (v : BookValue). (0 ≤ c.args.count) × Comes c.args.self.now v (λ s. s)
     × TellsDue c.args.due.now v.state) (sym same) (omega arith, λ from s before. before, c.requires.due)
-
-pub go_on-requires-clause-own : goal.go_on-requires-clause-own
-go_on-requires-clause-own c = comes_own c.args.self.now c.loop-done.self _ c.loop-done.invariant.1 ∙ c.requires.own
 
 pub go_on-requires-clause-some : goal.go_on-requires-clause-some
 go_on-requires-clause-some c = grind (arith, comes_to, visits_mergeable, c.self.view_is, some_pages)

@@ -1,4 +1,4 @@
-use Rattle.ksm_book.proofs.Names.{ap, BookValue, BookView, change_row, none-some, on_err, row_at, settled, sym, view_of, with_rows, ◌∙◌, ◌≡◌}
+use Rattle.ksm_book.proofs.Names.{ap, BookValue, change_row, none-some, on_err, row_at, settled, sym, view_of, with_rows, ◌∙◌, ◌≡◌}
 use Rattle.ksm_book.proofs.DueFound.{other_alone, taken_comes, taken_leaves, taken_refused, waits_at}
 use Rattle.ksm_book.proofs.state.State.take_over.Goals as goal
 use Rattle.ksm_book.proofs.state.State.take_over.Goals.{After-stop_waiting}
@@ -16,9 +16,6 @@ unreachable-requires c =
 pub stop_waiting-requires : goal.stop_waiting-requires
 stop_waiting-requires c =
     rw c.in-Some.ensures.spot (other_alone c.lies_lawfully.ensures.sound c.requires.takes)
-
-pub visit-requires : goal.visit-requires
-visit-requires c = record { own = ap (λ (v : BookView). v.keeper.table) c.stop_waiting.ensures ∙ c.requires.own }
 
 pub returns-in_err-visit-clause-refused : goal.returns-in_err-visit-clause-refused
 returns-in_err-visit-clause-refused c = on_err _
