@@ -42,9 +42,6 @@ module _ {sh : Shape} {across : ℕ} {k : Ledger} {rows : List Row} {frame : Fra
   ruleset notes = (at_it, at_other)
 
   module _ (hand' : Option ℕ) (n : Follows sh.last_generation (uses g frame rows) (in_hand g hand') old new) where
-    fits : (d : DupRow) → DupFits sh across k d → DupFits sh across next d
-    fits d m = grind (arith, notes, n.life)
-
     served : (r : Row) (o : Option ℕ) → (o ≡ Some g → 1 ≤ uses g frame rows) → IsServed sh k dups r o
         → IsServed sh next dups r o
     served r None used h = h
@@ -58,7 +55,7 @@ module _ {sh : Shape} {across : ℕ} {k : Ledger} {rows : List Row} {frame : Fra
       widths = grind (arith, notes, n.wide);
       lives = grind (arith, notes, n.lived);
       each_row = λ i x lt. served _ _ (uses_some g frame rows i x lt) (p.each_row i x lt);
-      each_dup = All-weaker (DupFits sh across k) (DupFits sh across next) fits dups p.each_dup;
+      each_dup = All-weaker (DupFits sh across k) (DupFits sh across next) (λ d m. grind (arith, notes, n.life)) dups p.each_dup;
       bases = grind (arith, notes, n.base);
       kinds = grind (arith, notes, n.fits);
       empty = p.empty;

@@ -157,11 +157,8 @@ module _ {p : PagesView} {k : KeeperView} {cursor : Option GuestPage} {passes : 
         (leaves : MakesSteps w l (Sub lone ∷ [])) (q : PagesView)
         (goes : q ≡ record p { rows = change_row page change p.rows; frame = q.frame })
         (frame : All (λ r. merged_into best.number r.state ≡ true → q.frame ≡ lies_on page (p.frame r.page) p.frame) p.rows) where
-      frame_is : q.frame ≡ lies_on page (Some g) p.frame
-      frame_is = grind (arith, there, of_item)
-
       q_is : q ≡ record p { rows = change_row page change p.rows; frame = lies_on page (Some g) p.frame }
-      q_is = grind (arith, frame_is)
+      q_is = grind (arith, there, of_item)
 
       steps : MakesSteps k l (Add g ∷ leaving (p.frame page))
       steps = rw left (made_then comes leaves)
@@ -174,7 +171,7 @@ module _ {p : PagesView} {k : KeeperView} {cursor : Option GuestPage} {passes : 
           (laid_joined at.laid at.sound.rows_rise _ row _ at.found found_item g there
           item_merged _ (λ r. refl) state_is same_bytes l steps))
           (grind (arith, q_is, page_is at, told, at.so))
-          (grind (arith, page_is at, live.first, there, steps, frame_is, told, at.so))
+          (grind (arith, page_is at, live.first, there, steps, q_is, told, at.so))
 
   -- a page becomes Zero
   module _ (at : Meets finds.Zero p p k cursor passes v page) where

@@ -178,6 +178,7 @@ impl State {
     // Visits the pages ahead up to the last one, or all of them, where a pass begins or goes on. A whole pass visits
     // only what is due, where that is known; and where one changed nothing but which rows wait, nothing is due. Says
     // whether that was so. Where memory is refused, tells the page that was not visited.
+    #[tactic(auto, using(crate::proofs::Reached::comes_own))]
     fn visit_part(
         &mut self,
         table: &FrameTable,

@@ -1,6 +1,6 @@
 use Rattle.ksm_book.proofs.Names.{arith, HasVisited, part_before, part_visited, pass_begun, Stops, sym, ◌∙◌}
 use Rattle.ksm_book.proofs.DueKept.{more_due}
-use Rattle.ksm_book.proofs.Reached.{comes_own, comes_to}
+use Rattle.ksm_book.proofs.Reached.{comes_to}
 use Rattle.ksm_book.proofs.Folded.{begins_still, begun_ahead, still_on}
 use Rattle.ksm_book.proofs.state.State.visit_part.Goals as goal
 use Rattle.ksm_book.proofs.state.State.visit_part.Goals.{In_ok-quiet}
@@ -10,10 +10,6 @@ pass_over_due-requires-clause-due c =
     let put = c.put_in_order.ensures in
     let same = put.same (put.known ∙ sym put.ready ∙ c.if-put_in_order.true) in
     more_due c.args.self.now.state _ _ (λ p is. same.1 p ∙ is) (c.requires.due same.0)
-
-pub visit_up_to-requires : goal.visit_up_to-requires
-visit_up_to-requires c =
-    record { own = comes_own c.args.self.now c.begin_pass.new.self _ c.begin_pass.ensures ∙ c.requires.own }
 
 visits : (c : In_ok-quiet) → HasVisited c.args.self.now c.visit_up_to.new.self (part_visited c.args.last) c.in_ok-quiet.quiet
 visits c =
