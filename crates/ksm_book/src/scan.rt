@@ -113,6 +113,7 @@ impl State {
 
     // Visits the pages ahead up to the last one, or all of them, and says whether that changed nothing but which rows
     // wait. Where memory is refused, tells the page that was not visited.
+    #[tactic(auto, using(crate::proofs::Reached::comes_own))]
     fn visit_up_to(
         &mut self,
         table: &FrameTable,

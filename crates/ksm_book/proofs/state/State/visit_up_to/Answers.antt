@@ -1,6 +1,6 @@
 use Rattle.ksm_book.proofs.Names.{and_parts, arith, comes_before, FindsUpTo, GuestPage, is_quiet, IsStill, None, Option, rules, subst, sym, up_to, ◌∙◌}
 use Rattle.ksm_book.proofs.Along.{has_filter}
-use Rattle.ksm_book.proofs.Reached.{comes_as, comes_own, comes_to}
+use Rattle.ksm_book.proofs.Reached.{comes_as, comes_to}
 use Rattle.ksm_book.proofs.DuePasses.{due_begins, due_walks}
 use Rattle.ksm_book.proofs.Walked.{before_it, begins_walk, is_ahead, less_room, rests_where, visits_page, walk_ends, walks_on}
 use Rattle.ksm_book.proofs.state.State.visit_up_to.Goals as goal
@@ -14,11 +14,6 @@ loop-spot-init c =
 
 pub loop-spot-smaller : goal.loop-spot-smaller
 loop-spot-smaller c = less_room _ _ (search rules, search rules) c.in-Some.ensures.next.1.0
-
-pub visit-requires : goal.visit-requires
-visit-requires c = record {
-  own = rw c.in-Some.ensures.kept (comes_own c.args.self.now c.loop-spot.self _ c.loop-spot.invariant.0.comes ∙ c.requires.own);
-}
 
 pub loop-spot-preserved : goal.loop-spot-preserved
 loop-spot-preserved c =
