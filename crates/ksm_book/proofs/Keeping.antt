@@ -3,7 +3,7 @@
 use Rattle.ksm_book.proofs.Names.{All, arith, blank, cases_eq, cases_lt, did, DupRow, dying_on, filter_passes, frame_at, Frames, frames_of, get_or, get_or-set_other, get_or-set_same, get_or_past}
 use Rattle.ksm_book.proofs.Names.{IfSome, KeeperView, Keeps, leaving, Ledger, length, length-set, List, MakesSteps, map, MayLeave, None, Note, Option, Placed, Reap, reaped, refl, Row, set, Shape}
 use Rattle.ksm_book.proofs.Names.{Some, spent, spent_on, suc, sum_by-set, with_frame, ℕ, [], ◌+◌, ◌<◌, ◌∷◌, ◌≡◌, ◌≤◌, Add, added, ap, Dying, Finds, Free, HasNewFrame, holding, IsLawful, loads}
-use Rattle.ksm_book.proofs.Names.{mounting, Open, opened, PAGE_WORDS, Provides, puts, Raise, raised, replicate, set-get_or, set-set, stepped, with_more, zero, ◌-◌, ◌∙◌, dying_from, dying_kind}
+use Rattle.ksm_book.proofs.Names.{mounting, Open, opened, PAGE_WORDS, puts, Raise, raised, replicate, set-get_or, set-set, stepped, with_more, zero, ◌-◌, ◌∙◌, dying_from, dying_kind}
 use Rattle.ksm_book.proofs.Names.{FindsNone, free_kind, NoneOf, true, ◌*◌, once_mounted, AreSets, Bool, cond, Freeze, inl, inr, Kind, Marks, Stable, Sub, ◌≢◌, ◌⊎◌}
 use Rattle.std.proofs.lemmas.List.{set_past}
 use Rattle.ksm_book.proofs.Made.{first_made, none_made, step_made, made_one, made_part, made_then, made_none}
@@ -97,13 +97,9 @@ module _ (k : Ledger) (g : ℕ) (lt : g < length k.frames) where
   pub at_again : (a : Note) → frame_at (with_frame k g a) g ≡ a
   at_again a = grind (arith, get_or-set_same)
 
-  -- two changes of a frame's note, one after the other, are one change by both
-  pub again : (a : Note) (F : Note → Note) → with_frame (with_frame k g a) g (F (frame_at (with_frame k g a) g)) ≡ with_frame k g (F a)
-  again a F = grind (arith, at_again, set-set)
-
   -- a change of the frame's note that follows another is one change by both
   pub follow : {l m : Ledger} (a : Note) (F : Note → Note) → m ≡ with_frame l g (F (frame_at l g)) → l ≡ with_frame k g a → m ≡ with_frame k g (F a)
-  follow a F is was = grind (arith, again a F)
+  follow a F is was = grind (arith, at_again, set-set)
 
 module _ {v w : KeeperView} {shape : Shape} {node g : ℕ} (same : shape ≡ v.table.shape) (less : node < shape.nodes) (l : IsLawful v None)
     (finds : Finds v w node g) where
@@ -125,25 +121,19 @@ module _ {v w : KeeperView} {shape : Shape} {node g : ℕ} (same : shape ≡ v.t
       × (length (frame_at r.ledger g).content ≡ PAGE_WORDS)
   raised_ready n is = grind (arith, length-set, at_again, found_placed, found_inside)
 
-module _ {v w : KeeperView} {shape : Shape} {node : ℕ} {bytes : List ℕ} {g : ℕ} (same : shape ≡ v.table.shape) (less : node < shape.nodes) (l : IsLawful v None)
-    (long : length bytes ≡ PAGE_WORDS) (h : Provides v w node bytes g) where
-  abbrev u : KeeperView
-  u = h.searched
-
-  abbrev own : Note
-  own = opened (holding (raised (frame_at u.ledger g)) bytes)
-
   -- a frame that was found and filled is in hand with its bytes
-  pub took : w.ledger ≡ with_frame u.ledger g own → HasNewFrame v w node bytes g
-  took taken_ledger =
-      let free : (frame_at u.ledger g).kind ≡ Free = grind (arith, h.finds.lowest.there) in
-      let now = ap (λ z. frame_at z g) taken_ledger ∙ at_again u.ledger g (found_within same less l h.finds) own in
-      let more = spent_kept u.ledger g own (grind arith) in
-      let before = searched_spends _ h.finds.reaped in
-      let keeps : Keeps v w None (Some g) = λ across rows frame dups p.
-      let q = searched_placed _ h.finds.reaped _ _ _ _ p in
-      rw taken_ledger (noted q g (found_inside same less l h.finds) own _ (grind arith) (grind arith)) in
-      grind (arith, found_inside same less l h.finds)
+  pub took : {u : KeeperView} {bytes : List ℕ} → length bytes ≡ PAGE_WORDS → u.ledger ≡ with_frame w.ledger g (opened (holding (raised (frame_at w.ledger g)) bytes))
+      → HasNewFrame v u node bytes g
+  took {u} {bytes} long is =
+      let own : Note = opened (holding (raised (frame_at w.ledger g)) bytes) in
+      let free : (frame_at w.ledger g).kind ≡ Free = grind (arith, finds.lowest.there) in
+      let now = ap (λ z. frame_at z g) is ∙ at_again w.ledger g found_within own in
+      let more = spent_kept w.ledger g own (grind arith) in
+      let before = searched_spends _ finds.reaped in
+      let keeps : Keeps v u None (Some g) = λ across rows frame dups p.
+      let q = searched_placed _ finds.reaped _ _ _ _ p in
+      rw is (noted q g found_inside own _ (grind arith) (grind arith)) in
+      grind (arith, found_inside)
 
 -- n references that came to a frame change its note alone
 pub adds_ledger : (n : ℕ) {v w : KeeperView} (f : ℕ) → f < length v.ledger.frames → MakesSteps v w (replicate n (Add f))

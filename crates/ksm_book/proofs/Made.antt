@@ -78,11 +78,3 @@ first_made {v} {w} {e} {es} m = by _ m.after m.are
 -- a keeper that made one step went on by that step, with some word that it found
 pub step_made : {v w : KeeperView} {e : KeeperStep} → MakesSteps v w (e ∷ []) → (found : ℕ) × (w ≡ did v e found)
 step_made m = let first = first_made m in (first.0, none_made first.1)
-
--- a keeper that made the steps of two lists made those of the first and then those of the second
-pub parts_made : {v w : KeeperView} (xs ys : List KeeperStep) → MakesSteps v w (xs ++ ys) → (between : KeeperView) × MakesSteps v between xs × MakesSteps between w ys
-parts_made {v} [] ys m = (v, made_none refl, m)
-parts_made {v} (x ∷ xs) ys m =
-    let first = first_made m in
-    let rest = parts_made {v = did v x first.0} xs ys first.1 in
-    (rest.0, made_then (made_one v _ x _ refl) rest.1, rest.2)

@@ -1,5 +1,5 @@
 -- What each step of a command does to a placement.
-use Rattle.ksm_book.proofs.Names.{Agrees, All, All-filter, All-map, all_with_dup, all_with_row, ap, arith, cases_lt, change_row, Contains, Contains-append_left, Contains-append_right, count_alike}
+use Rattle.ksm_book.proofs.Names.{Agrees, All, All-contains_itself, All-filter, All-map, all_with_dup, all_with_row, ap, arith, Bool, cases_eq, cases_lt, find, change_row, Contains, Contains-append_left, Contains-append_right, count_alike}
 use Rattle.ksm_book.proofs.Names.{DupFits, DupRow, elsewhere, eq-eqb, false, filter, filter_passes, find_all, find_none, FitsBase, frame_at, Frames, frames_of, GenerationFits, get_or}
 use Rattle.ksm_book.proofs.Names.{get_or-set_other, get_or-set_same, GuestPage, holding, in_hand, inl, InPageOrder, inr, is_frame, IsInLife, IsServed, item_count, Ledger, length, length-set, lies_on}
 use Rattle.ksm_book.proofs.Names.{List, lt-ltb, map, Merged, merged_into, named_at, nat_lt, None, not, Note, Option, ordered_change, PAGE_WORDS, place_frame, Placed, Private, refl, Row, row_at}
@@ -10,8 +10,10 @@ use Rattle.ksm_book.proofs.ByPage.{all_changed_row, at_changed, change_twice, fo
 use Rattle.frame_core.specs.Ledger.{named_anew}
 use Rattle.ksm_base.proofs.Changes.{contains_filter}
 use Rattle.std.proofs.lemmas.List.Elements.{Contains-get_or}
-use mathlib.Core.Logic.{dite}
-use native.Mathlib.Decide.{ℕ_discrete}
+
+-- what a search finds is in the list
+pub found_in : {X : Type 0} (t : X → Bool) (xs : List X) {x : X} → find t xs ≡ Some x → Contains xs x
+found_in t xs found = find_all t (Contains xs) xs _ found (All-contains_itself xs)
 
 -- a frame serves a row: the row fits the frame, and agrees with each dup
 abbrev pub Serves : Shape → Ledger → List DupRow → Row → ℕ → Type 0
@@ -204,22 +206,18 @@ module _ {sh : Shape} {across : ℕ} {k : Ledger} {rows : List Row} {frame : Fra
         (first_item q kind served.frame _ (lived g) d inside apart (c row) (λ n x l. grind arith)
         (grind arith) item numbers)
 
-  module _ (p : Placed sh across k rows frame dups None) (n : ℕ) (d : DupRow) (lt : n < length dups) where
-    abbrev dup : DupRow
-    dup = get_or dups n d
+  module _ (p : Placed sh across k rows frame dups None) (d : DupRow) (stands : Contains dups d) (life : IsInLife k d.place) where
+    -- the rows on the frame of a dup in its life are its items
+    pub lies_as_item : All (λ r. is_frame (place_frame k d.place) (frame r.page) ≡ merged_into d.number r.state) rows
+    lies_as_item i r0 l = grind arith
 
-    module _ (life : IsInLife k dup.place) where
-      -- the rows on the frame of a dup in its life are its items
-      pub lies_as_item : All (λ r. is_frame (place_frame k dup.place) (frame r.page) ≡ merged_into dup.number r.state) rows
-      lies_as_item i r0 l = grind arith
-
-      -- the references on the frame of a dup in its life are its items
-      pub base_is_items : (frame_at k (place_frame k dup.place)).base ≡ item_count rows dup
-      base_is_items = grind (arith, count_alike)
+    -- the references on the frame of a dup in its life are its items
+    pub base_is_items : (frame_at k (place_frame k d.place)).base ≡ item_count rows d
+    base_is_items = grind (arith, count_alike)
 
     -- a dup without items has no Stable frame in the life that its place names
-    pub stale_is_loose : item_count rows dup ≡ 0 → IsInLife k dup.place → ¬ ((frame_at k (place_frame k dup.place)).kind ≡ Stable)
-    stale_is_loose none life stable = grind (arith, base_is_items life)
+    pub stale_is_loose : item_count rows d ≡ 0 → ¬ ((frame_at k (place_frame k d.place)).kind ≡ Stable)
+    stale_is_loose none stable = grind (arith, base_is_items)
 
   -- a place is emptied, and the dup that stood there goes
   module _ {hand : Option ℕ} (q : ℕ) (inside : q < frames_of sh) (p : Placed sh across k rows frame dups hand) where
@@ -247,12 +245,9 @@ module _ {sh : Shape} {across : ℕ} {k : Ledger} {rows : List Row} {frame : Fra
       each_dup = staying (DupFits sh across k) (DupFits sh across (emptied k q)) (grind (arith, named_off)) p.each_dup;
       bases = p.bases;
       kinds = p.kinds;
-      empty = λ r h. dite (ℕ_discrete r q)
-          (grind (arith, get_or-set_same))
-          (λ ne. named_off r ne ∙ p.empty r
-          (λ n x lt. grind (
-            arith,
-            contains_filter (elsewhere q) dups (get_or dups n x) (Contains-get_or _ n x lt),
-            h,
-          )));
+      empty = λ r h. elim (cases_eq r q) [
+        | inl same ↦ grind (arith, get_or-set_same)
+        | inr ne ↦
+            named_off r ne ∙ p.empty r (λ n x lt. grind (arith, contains_filter (elsewhere q) dups (get_or dups n x) (Contains-get_or _ n x lt), h))
+      ];
     }

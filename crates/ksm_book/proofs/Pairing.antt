@@ -1,5 +1,5 @@
 -- A visited page makes a dup with the page that waits for it: what the keeper may do, and what becomes of the book.
-use Rattle.ksm_book.proofs.Names.{Add, All, All-contains_itself, arith, BookState, BookView, Bool, change_row, Contains, Contains-append_right, count_none, did, dup_of_row, DupRow, each_at_page}
+use Rattle.ksm_book.proofs.Names.{Add, All, arith, BookState, BookView, Bool, change_row, Contains-append_right, count_none, did, dup_of_row, DupRow, each_at_page}
 use Rattle.ksm_book.proofs.Names.{eq-eqb, false, find_all, find_changed_other, find_passes, frames_of, GuestPage, IfSome, if◌then◌else◌, InPageOrder, IsFree, IsLaid, IsVacant, joined_count}
 use Rattle.ksm_book.proofs.Names.{KeeperView, leaving, lies_on, list_any, MakesSteps, May, MayLeave, MayPair, Merged, merged_into, new_place, new_place_free, next_is_new, Option, ordered_change}
 use Rattle.ksm_book.proofs.Names.{PagesView, Partner, partner, place_count, Publish, refl, Row, row_at, shared_state, Some, state_of, Sub, subst, sym, true, waits_for, waits_tells, WaitsFor}
@@ -7,6 +7,7 @@ use Rattle.ksm_book.proofs.Names.{with_dup, Withdraw, withdrawing, [], ℕ, ◌+
 use Rattle.ksm_pages.specs.Paged.{HasRow, paired as are_paired}
 use Rattle.ksm_pages.proofs.Paired.{both_changed}
 use Rattle.ksm_book.proofs.Made.{made_one, made_then}
+use Rattle.ksm_book.proofs.Moves.{found_in}
 use Rattle.ksm_book.proofs.Sharing.{laid_found, laid_joined, may_found, may_join, may_part, spent_most, vacant_loose}
 use Rattle.ksm_book.proofs.ByPage.{at_changed}
 use Rattle.ksm_book.proofs.RowVisits.{filled_by, Leads, leads, Meets, page_is, restless_own, there_is}
@@ -52,7 +53,7 @@ module _ {other : GuestPage} {p : PagesView} {k : KeeperView} {cursor : Option G
   -- the place for a new dup is one of the places
   pub room : new_place (place_count p.shape) p.rows p.dups < place_count p.shape
   room = finds_place b _ at.sound _ at.laid.placed row
-      (find_all _ (Contains p.rows) p.rows row at.found (All-contains_itself p.rows))
+      (found_in _ _ at.found)
       (restless_own row at.so.0)
 
   inside : place < frames_of p.shape

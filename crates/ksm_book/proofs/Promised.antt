@@ -1,13 +1,13 @@
 -- A lawful placement says the sentences that are promised, and so a new dup finds a place.
-use Rattle.ksm_book.proofs.Names.{All, All-append, All-contains_itself, All-filter, All-map, AllPairs, AllPairs-cons, AllPairs-filter, ap, arith, BookState, Bool, cases_Bool, Contains}
-use Rattle.ksm_book.proofs.Names.{Contains-append_left, Contains-append_right, Contains-from_any, count_by, count_mapped, count_more, counts_one, dup_frames, DupRow, eq-eqb, eqb, eqb-true, false}
+use Rattle.ksm_book.proofs.Names.{All, All-append, All-filter, All-map, AllPairs, AllPairs-cons, AllPairs-filter, ap, arith, BookState, Bool, cases_Bool, Contains}
+use Rattle.ksm_book.proofs.Names.{Contains-append_left, Contains-append_right, Contains-from_any, count_by, count_more, counts_one, dup_frames, DupRow, eq-eqb, eqb, eqb-true, false}
 use Rattle.ksm_book.proofs.Names.{filter, filter_passes, find, find_all, find_passes, FindsPlace, frame_at, frame_number, Frames, frames_of, get_or, get_or-map, GuestPage, has_items, home_of_item}
 use Rattle.ksm_book.proofs.Names.{inl, inr, is_frame, is_in_use, is_stale, IsDistinct-from_apart, IsOutlived, IsSound, item_count, Ledger, length-append, length-le_from_distinct_below, length-map}
 use Rattle.ksm_book.proofs.Names.{LieOn, List, lt-ltb, map, Merged, merged_into, None, none_counted, not, own_frames, pairs_append, pairs_mapped, place_frame, Placed, Private, Row, row_at}
 use Rattle.ksm_book.proofs.Names.{shared_state, Some, Stable, StandsOn, subst, suc, true, uses, ℕ, [], ◌++◌, ◌<◌, ◌==◌, ◌∙◌, ◌∷◌, ◌≡◌, ◌≢◌, ◌≤◌}
 use Rattle.ksm_base.proofs.Changes.{contains_filter}
-use Rattle.ksm_base.proofs.Edits.{count_filter_le}
-use Rattle.ksm_book.proofs.Moves.{base_is_items, stale_is_loose}
+use Rattle.ksm_book.proofs.Moves.{base_is_items, found_in, stale_is_loose}
+use Rattle.std.proofs.lemmas.List.Elements.{Contains-get_or}
 use Rattle.ksm_book.proofs.Sharing.{empty_from_most, frames_apart, Lives, lives, first_found, none_stale}
 
 -- what passes a test is among those that pass, and so is what is made of it
@@ -27,18 +27,19 @@ once_each (x ∷ xs) once =
 
 -- a frame is a row's own at most as often as rows lie on it
 own_count : (f : ℕ) (frame : Frames) (rows : List Row) → All (λ r. shared_state r.state ≡ false → (g : ℕ) × (frame r.page ≡ Some g)) rows → count_by (λ g. g == f) (own_frames rows frame) ≤ uses f frame rows
-own_count f frame rows all =
-    let alone : Row → Bool = λ r. not (shared_state r.state) in
-    let each = All-filter alone (λ r. shared_state r.state ≡ false → (g : ℕ) × (frame r.page ≡ Some g)) rows all in
-    let same = count_mapped (λ (r : Row). frame_number (frame r.page)) (λ g. g == f) (λ r. is_frame f (frame r.page))
-    (filter alone rows) (grind (arith, filter_passes, each)) in
-    omega (arith, same, count_filter_le (λ (r : Row). is_frame f (frame r.page)) alone rows)
+own_count f frame [] all = omega arith
+own_count f frame (r ∷ rows) all =
+    let lies = count_more (λ (x : Row). is_frame f (frame x.page)) r rows in
+    let own = count_more (λ g. g == f) (frame_number (frame r.page)) (own_frames rows frame) in
+    grind (arith, all 0 r, own_count f frame rows (λ i d lt. all (suc i) d (omega arith)))
+
+-- what holds of each element that passes a test holds of all that are left by it
+passing_all : {X : Type 0} (test : X → Bool) (P : X → Type 0) (xs : List X) → All (λ x. test x ≡ true → P x) xs → All P (filter test xs)
+passing_all test P xs all i d lt = All-filter test (λ x. test x ≡ true → P x) xs all i d lt (filter_passes test xs i d lt)
 
 all_own : (P : ℕ → Type 0) (rows : List Row) (frame : Frames) → All (λ r. shared_state r.state ≡ false → P (frame_number (frame r.page))) rows → All P (own_frames rows frame)
 all_own P rows frame all =
-    let alone : Row → Bool = λ r. not (shared_state r.state) in
-    let each = All-filter alone (λ r. shared_state r.state ≡ false → P (frame_number (frame r.page))) rows all in
-    All-map P (λ r. frame_number (frame r.page)) (filter alone rows) (grind (arith, filter_passes, each))
+    All-map P _ _ (passing_all (λ r. not (shared_state r.state)) (λ r. P (frame_number (frame r.page))) rows (grind arith))
 
 module _ (b : BookState) (k : Ledger) (s : IsSound b) (frame : Frames) (p : Placed b.shape b.knobs.merge_across_nodes k b.rows frame b.dups None) where
   abbrev own : List ℕ
@@ -53,7 +54,7 @@ module _ (b : BookState) (k : Ledger) (s : IsSound b) (frame : Frames) (p : Plac
   stands : All (λ d. has_items b.rows d ≡ true → StandsOn b k d (place_frame k d.place)) b.dups
   stands n d lt some =
       let a = dup_lives n d lt some in
-      grind (arith, base_is_items p n d lt a.life, home_of_item b s, s.limit n d lt, p.each_dup n d lt)
+      grind (arith, base_is_items p _ (Contains-get_or b.dups n d lt) a.life, home_of_item b s, s.limit n d lt, p.each_dup n d lt)
 
   own_kinds : All (λ f. (frame_at k f).kind ≡ Private) own
   own_kinds = all_own (λ f. (frame_at k f).kind ≡ Private) b.rows frame (grind arith)
@@ -67,9 +68,7 @@ module _ (b : BookState) (k : Ledger) (s : IsSound b) (frame : Frames) (p : Plac
   Live d = Lives k b.dups b.shape b.rows frame d
 
   live_kept : All Live (filter (has_items b.rows) b.dups)
-  live_kept =
-      let kept = All-filter (has_items b.rows) (λ d. has_items b.rows d ≡ true → Live d) b.dups dup_lives in
-      grind (arith, filter_passes, kept)
+  live_kept = passing_all (has_items b.rows) Live b.dups dup_lives
 
   shown_distinct : AllPairs (λ f g. f ≢ g) shown
   shown_distinct =
@@ -89,8 +88,7 @@ module _ (b : BookState) (k : Ledger) (s : IsSound b) (frame : Frames) (p : Plac
     | inl is ↦
         let number : (n : ℕ) × (r.state ≡ Merged n) = grind arith in
         let its = s.items has.0 r has.1 _ (rw has.2 number.1) in
-        let at = find_all (λ d. d.number == number.0) (Contains b.dups) b.dups its.0 its.1.stands
-        (All-contains_itself b.dups) in
+        let at = found_in (λ d. d.number == number.0) b.dups its.1.stands in
         let into : merged_into its.0.number r.state ≡ true = grind (arith, find_passes, eq-eqb) in
         let there =
         passing (λ d. place_frame k d.place) _ _ at
@@ -103,12 +101,11 @@ module _ (b : BookState) (k : Ledger) (s : IsSound b) (frame : Frames) (p : Plac
   in_use_listed : (f : ℕ) → is_in_use (frame_at k f).kind ≡ true → Contains (own ++ shown) f
   in_use_listed f used =
       let first = first_found (λ r. is_frame f (frame r.page)) b.rows (grind (arith, p.kinds f, p.bases f)) in
-      let has = find_all (λ r. is_frame f (frame r.page)) (Contains b.rows) b.rows first.0 first.1
-      (All-contains_itself b.rows) in
+      let has = found_in (λ r. is_frame f (frame r.page)) b.rows first.1 in
       grind (arith, listed, find_passes)
 
   outlived : All (λ d. has_items b.rows d ≡ false → IsOutlived k d.place) b.dups
-  outlived n d lt none = let loose = stale_is_loose p n d lt in grind (arith, loose, p.each_dup n d lt)
+  outlived n d lt none = grind (arith, stale_is_loose p _ (Contains-get_or b.dups n d lt), p.each_dup n d lt)
 
   -- a sound book lies on its frames as promised, where it is placed lawfully and pages without a row lie on none
   pub lie_on : ((page : GuestPage) → row_at page b.rows ≡ None → frame page ≡ None) → LieOn b frame k

@@ -1,16 +1,16 @@
 -- A dup moves to another frame, with all of its items: where its pages lie before and after it.
-use Rattle.ksm_book.proofs.Names.{Agrees, All, All-contains_itself, ap, arith, Bool, cond, Contains, count_alike, count_in, count_none, did, Done, dup_numbered, DupFits, DupRow, each_has_number}
-use Rattle.ksm_book.proofs.Names.{eq-eqb, Err, find_all, find_passes, Finds, frame_at, Frames, frames_of, Free, Freeze, frozen, get_or-set_other, get_or-set_same, GuestPage, has_items, HasRemounted}
+use Rattle.ksm_book.proofs.Names.{Agrees, All, arith, has_items, ◌&&◌, Bool, cases_eq, cond, Contains, inl, inr, count_alike, count_in, count_none, did, Done, DupFits, DupRow, each_has_number, refl}
+use Rattle.ksm_book.proofs.Names.{eq-eqb, Err, find_all, find_passes, Finds, frame_at, Frames, frames_of, Free, Freeze, frozen, get_or-set_other, get_or-set_same, GuestPage, HasRemounted}
 use Rattle.ksm_book.proofs.Names.{instead, InUse, is_frame, IsInLife, IsLaid, IsLowestFree, IsServed, item_count, items_on, KeeperView, Ledger, length-set, List, list_any, list_any_at, MakesSteps}
-use Rattle.ksm_book.proofs.Names.{MayMount, MayMove, merged_into, mounting, named_at, ne_eqb, node_of, None, none_counted, Note, Ok, once_mounted, PagesView, place_frame, Placed, Publish, refl, Row}
-use Rattle.ksm_book.proofs.Names.{row_at, same_Some, set, Shape, Some, Stable, true, uses, with_frame, ℕ, ◌&&◌, ◌+◌, ◌<◌, ◌==◌, ◌∙◌, ◌≡◌, ◌≢◌, ◌≤◌}
+use Rattle.ksm_book.proofs.Names.{MayMount, MayMove, merged_into, mounting, named_at, ne_eqb, node_of, None, none_counted, Note, Ok, once_mounted, PagesView, place_frame, Placed, Publish, Row}
+use Rattle.ksm_book.proofs.Names.{row_at, same_Some, set, Shape, Some, Stable, true, uses, with_frame, ℕ, ◌+◌, ◌<◌, ◌==◌, ◌≡◌, ◌≢◌, ◌≤◌}
+use Rattle.ksm_pages.specs.Paged.{ItemsLieOn}
+use Rattle.std.proofs.lemmas.List.Elements.{All-contains}
 use Rattle.ksm_book.proofs.ByPage.{found_page, same_frames}
 use Rattle.ksm_book.proofs.Keeping.{at_again, searched_placed, searched_spends, spent_kept}
 use Rattle.ksm_book.proofs.Laying.{kept}
-use Rattle.ksm_book.proofs.Moves.{base_is_items, lies_as_item, Serves}
+use Rattle.ksm_book.proofs.Moves.{base_is_items, found_in, lies_as_item, Serves}
 use Rattle.ksm_book.proofs.Sharing.{Lives, lives}
-use mathlib.Core.Logic.{dite}
-use native.Mathlib.Decide.{ℕ_discrete}
 
 -- those that lay on f lie on g, and none lies on f any more
 module _ (f g : ℕ) (frame : Frames) (rows : List Row) where
@@ -64,8 +64,10 @@ module _ {sh : Shape} {across : ℕ} {k : Ledger} {rows : List Row} {frame : Fra
 
     serves : (r : Row) (f : ℕ) → f ≢ g → Serves sh k dups r f
         → IsServed sh next dups r (cond (is_frame left (Some f)) (Some g) (Some f))
-    serves r f far h =
-        dite (ℕ_discrete f left) (λ e. grind (arith, eq-eqb, at_new, moved_agrees)) (λ ne. grind (arith, ne_eqb, named_off, notes, get_or-set_same))
+    serves r f far h = elim (cases_eq f left) [
+      | inl e ↦ grind (arith, eq-eqb, at_new, moved_agrees)
+      | inr ne ↦ grind (arith, ne_eqb, named_off, notes, get_or-set_same)
+    ]
 
     -- rows and dups lie lawfully once a dup has moved from its Stable frame to a free one, with all of its items
     remounted : Placed sh across next rows (instead left g frame) dups None
@@ -76,18 +78,20 @@ module _ {sh : Shape} {across : ℕ} {k : Ledger} {rows : List Row} {frame : Fra
       lives = grind (arith, notes);
       each_row = grind (arith, serves);
       each_dup = λ m x l. grind (arith, p.each_dup m x l, notes, named_off, get_or-set_same);
-      bases = λ h. dite (ℕ_discrete h g)
-          (λ e. rw (e, at_new, uses_new left g frame rows (grind arith)) (p.bases left))
-          (λ ng. dite (ℕ_discrete h left)
-          (λ e. rw (e, at_left, uses_old left g frame rows new_differs) refl)
-          (λ nl. rw (at_rest h ng nl, uses_still left g frame rows h nl ng) (p.bases h)));
+      bases = λ h. elim (cases_eq h g) [
+        | inl e ↦ rw (e, at_new, uses_new left g frame rows (grind arith)) (p.bases left)
+        | inr ng ↦ elim (cases_eq h left) [
+          | inl e ↦ rw (e, at_left, uses_old left g frame rows new_differs) refl
+          | inr nl ↦ rw (at_rest h ng nl, uses_still left g frame rows h nl ng) (p.bases h)
+        ]
+      ];
       kinds = grind (arith, notes);
       empty = grind (arith, named_off);
     }
 
 -- a dup may move to a frame of the node, each item of a dup at its place lies on frame g, and a page without a row on none
 module _ {v : PagesView} {k : KeeperView} {dup : DupRow} {node g : ℕ} (may : MayMove v k dup node)
-    (lie : All (λ d. d.place ≡ dup.place → All (λ r. merged_into d.number r.state ≡ true → v.frame r.page ≡ Some g) v.rows) v.dups)
+    (lie : All (λ d. d.place ≡ dup.place → ItemsLieOn d.number g v) v.dups)
     (absent : (page : GuestPage) → row_at page v.rows ≡ None → v.frame page ≡ None) where
   abbrev sh : Shape
   sh = v.shape
@@ -98,15 +102,19 @@ module _ {v : PagesView} {k : KeeperView} {dup : DupRow} {node g : ℕ} (may : M
   abbrev by_item : Row → Bool
   by_item r = merged_into dup.number r.state
 
-  -- what holds of all dups holds of the one that moves
+  stands : Contains dups dup
+  stands = found_in _ _ may.live
+
   among : (P : DupRow → Type 0) → All P dups → P dup
-  among P all = find_all _ P _ dup may.live all
+  among P all = All-contains P dups dup all stands
 
   item_some : 1 ≤ item_count v.rows dup
   item_some = grind (arith, find_passes)
 
   numbers : All (λ e. e.place ≢ dup.place → e.number ≢ dup.number) dups
-  numbers n x lt apart same = grind (arith, each_has_number, among (λ d. dup_numbered d.number dups ≡ Some d) (each_has_number _ may.sound.2.dups_rise))
+  numbers n x lt apart same =
+      let each = each_has_number _ may.sound.2.dups_rise in
+      grind (arith, each n x lt, each stands.0 dup stands.1)
 
   module _ {w : KeeperView} {f : ℕ} (to : Finds k w node f) where
     abbrev p : Placed sh v.knobs.merge_across_nodes w.ledger v.rows v.frame dups None
@@ -116,15 +124,15 @@ module _ {v : PagesView} {k : KeeperView} {dup : DupRow} {node g : ℕ} (may : M
     n = frame_at w.ledger g
 
     dup_fits : DupFits sh v.knobs.merge_across_nodes w.ledger dup
-    dup_fits = among (DupFits sh v.knobs.merge_across_nodes w.ledger) p.each_dup
+    dup_fits = rw stands.2 at (p.each_dup stands.0 dup stands.1)
 
     live : Lives w.ledger dups sh v.rows v.frame dup
-    live = among (λ d. (item_count v.rows d ≡ 0 → ⊥) → Lives w.ledger dups sh v.rows v.frame d) (lives p) (λ none. omega (arith, item_some))
+    live = (rw stands.2 at (lives p stands.0 dup stands.1)) (λ none. omega (arith, item_some))
 
     item_lies : v.frame live.item.page ≡ Some g
-    item_lies = find_all by_item (λ r. by_item r ≡ true → v.frame r.page ≡ Some g) v.rows live.item live.first
-        (among (λ d. d.place ≡ dup.place → All (λ r. merged_into d.number r.state ≡ true → v.frame r.page ≡ Some g) v.rows) lie refl)
-        live.merged
+    item_lies =
+        let at = found_in by_item v.rows live.first in
+        grind (arith, lie stands.0 dup stands.1, live.merged)
 
     on_frame : g ≡ place_frame w.ledger dup.place
     on_frame = grind (arith, item_lies, live)
@@ -135,15 +143,10 @@ module _ {v : PagesView} {k : KeeperView} {dup : DupRow} {node g : ℕ} (may : M
 
     -- the dup's items are the rows on its frame
     on_it : All (λ r. is_frame g (v.frame r.page) ≡ merged_into dup.number r.state) v.rows
-    on_it = rw on_frame
-        (among (λ d. IsInLife w.ledger d.place → All
-        (λ r. is_frame (place_frame w.ledger d.place) (v.frame r.page) ≡ merged_into d.number r.state) v.rows)
-        (lies_as_item p) live.life)
+    on_it = rw on_frame (lies_as_item p dup stands live.life)
 
     base : n.base ≡ item_count v.rows dup
-    base = rw on_frame
-        (among (λ d. IsInLife w.ledger d.place → (frame_at w.ledger (place_frame w.ledger d.place)).base ≡ item_count v.rows d)
-        (base_is_items p) live.life)
+    base = rw on_frame (base_is_items p dup stands live.life)
 
     -- so they go from there
     items_go : (f' : ℕ) → items_on dup.number f' v.rows v.frame ≡ instead g f' v.frame
@@ -196,7 +199,7 @@ module _ {v : PagesView} {k : KeeperView} {dup : DupRow} {node g : ℕ} (may : M
           at = grind (arith, dup_fits);
           loose = grind (arith, exchanged, on_frame, at_g);
           some = omega (arith, base, item_some);
-          few = grind (arith, base, among);
+          few = grind (arith, base, may.sound.2.limit stands.0 dup stands.1);
         }
 
         -- and the dup stands on the new frame
@@ -204,12 +207,15 @@ module _ {v : PagesView} {k : KeeperView} {dup : DupRow} {node g : ℕ} (may : M
             (does : (before : KeeperView) × MakesSteps u before (mounting g f items (frame_at u.ledger g).content)
             × (x ≡ did before (Publish dup.place f) 0))
             (knows : x.ledger ≡ once_mounted u.ledger g f dup.place items)
-            (q : PagesView) (goes : q ≡ record v { frame = items_on dup.number f v.rows v.frame }) where
+            (q : PagesView) (each : All (λ d. d.place ≡ dup.place → q ≡ record v { frame = items_on d.number f v.rows v.frame }) dups) where
+          goes : q ≡ record v { frame = instead g f v.frame }
+          goes = grind (arith, each stands.0 dup stands.1, items_go f)
+
           ledger_is : x.ledger ≡ next p dup among g f on_frame
           ledger_is = grind (arith, exchanged, at_other f apart, at_g)
 
           laid_moved_dup : IsLaid q x
-          laid_moved_dup = rw (goes ∙ ap (λ fr. record v { frame = fr }) (items_go f)) (record {
+          laid_moved_dup = rw goes (record {
             small = may.laid.small;
             same = grind arith;
             placed = rw ledger_is (remounted p dup among g f on_frame inside (grind (arith, lowest)) live.life known.1
@@ -219,11 +225,11 @@ module _ {v : PagesView} {k : KeeperView} {dup : DupRow} {node g : ℕ} (may : M
 
           -- once the new frame is mounted and the items lie there, the dup has moved to a frame of the node
           pub has_remounted : HasRemounted v q k x dup node (Ok Done)
-          has_remounted = grind (arith, laid_moved_dup, item_lies, known, may_mount, base, at_g, goes, items_go f)
+          has_remounted = grind (arith, laid_moved_dup, item_lies, known, may_mount, base, at_g, goes)
 
 -- where a dup is to move from a place, a dup stands at that place
 pub taken_place : {v : PagesView} {k : KeeperView} {dup : DupRow} {node : ℕ} → MayMove v k dup node
     → list_any (λ d. d.place == dup.place) v.dups ≡ true
 taken_place {v} {dup = dup} may =
-    let at = find_all (λ d. d.place == dup.place && has_items v.rows d) (Contains v.dups) v.dups dup may.live (All-contains_itself v.dups) in
+    let at = found_in (λ d. d.place == dup.place && has_items v.rows d) v.dups may.live in
     grind (arith, list_any_at)

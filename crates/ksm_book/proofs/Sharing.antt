@@ -1,7 +1,7 @@
 -- What becomes of the layout where a page joins a dup, a dup is made, or stale dups go, one by one.
 use Rattle.frame_core.specs.Ledger.{named_anew}
 use Rattle.ksm_base.specs.declared.limits.TheConstants.{MOST_FRAMES, MOST_LIVES, MOST_REFERENCES}
-use Rattle.ksm_book.proofs.Names.{Add, added, All, All-filter, ap, arith, blank, Bool, change_row, Contains, count_by, count_none, did, DupRow, elsewhere, eq-eqb, false, filter, filter_passes, find}
+use Rattle.ksm_book.proofs.Names.{Add, added, All, All-filter, ap, arith, blank, Bool, cases_Bool, change_row, Contains, inl, inr, count_by, count_none, did, DupRow, elsewhere, eq-eqb, false, filter, filter_passes, find}
 use Rattle.ksm_book.proofs.Names.{find_all, find_none, find_passes, frame_at, Frames, frames_of, get_or-set_same, get_or_default, GuestPage, IfSome, if◌then◌else◌, InPageOrder, IsInLife, IsLaid}
 use Rattle.ksm_book.proofs.Names.{IsLoose, IsVacant, item_count, KeeperView, leaving, Ledger, length, lies_on, List, list_any, MakesSteps, May, MayLeave, Merged, merged_into, merged_state, named_at}
 use Rattle.ksm_book.proofs.Names.{None, none_found, Note, Option, PageState, PagesView, place_frame, Placed, Private, Publish, refl, Row, row_at, RowFits, set-get_or, Shape, shared_state, Some, spent}
@@ -12,8 +12,9 @@ use Rattle.ksm_book.proofs.Moves.{base_is_items, emptied, framed, published, Ser
 use Rattle.ksm_book.proofs.Laying.{laid_rows, serves_at}
 use Rattle.ksm_book.proofs.Keeping.{left_placed, left_spends, may_leave, spent_kept, spent_set}
 use Rattle.ksm_book.proofs.Noted.{noted}
-use Rattle.ksm_book.proofs.Made.{none_made, parts_made, step_made, made_none, made_one, made_then}
+use Rattle.ksm_book.proofs.Made.{first_made, none_made, step_made, made_none, made_one, made_then}
 use Rattle.std.proofs.lemmas.Bool.{eq-eqb}
+use Rattle.std.proofs.lemmas.List.Elements.{Contains-get_or}
 use Rattle.ksm_base.proofs.Orders.{Lower}
 
 -- the state of an item of a dup is Merged with the dup's number
@@ -40,30 +41,29 @@ module _ {p : PagesView} {k : KeeperView} (h : IsLaid p k) (rise : InPageOrder p
 
   -- one reference more may come to an item's frame, where its dup has room for one item more
   pub may_join : (d : DupRow) → Contains p.dups d → merged_into d.number item.state ≡ true → item_count p.rows d ≤ MOST_REFERENCES - 1 → May k (Add g)
-  may_join d stands into few = grind (arith, item_fits, base_is_items h.placed stands.0 d stands.1)
+  may_join d stands into few = grind (arith, item_fits, base_is_items h.placed d stands)
 
   module _ (c : Row → Row) (keeps : (r : Row) → (c r).page ≡ r.page) (state : (c row).state ≡ item.state)
       (bytes : (c row).bytes ≡ item.bytes) where
     -- once the reference has come, the page lies there, and its own frame is in the hand
-    joined_hand : (w : KeeperView) → MakesSteps k w (Add g ∷ []) → Placed p.shape across w.ledger (change_row page c p.rows)
+    joined_hand : (w : KeeperView) (n : ℕ) → w ≡ did k (Add g) n → Placed p.shape across w.ledger (change_row page c p.rows)
         (lies_on page (Some g) p.frame) p.dups (p.frame page)
-    joined_hand w comes =
-        let q : Placed p.shape across w.ledger p.rows p.frame p.dups (Some g) = rw (step_made comes).1
+    joined_hand w n is =
+        let q : Placed p.shape across w.ledger p.rows p.frame p.dups (Some g) = rw is
         (noted h.placed g item_fits.0.frame _ (Some g) (grind (arith, item_fits)) (grind arith)) in
         swapped (Some g) c row rise found keeps q (grind (arith, serves_at q found_item there))
 
     -- once a reference came to the item's frame, the frame of the page that joins, if it has one, may be left
     pub may_part : (w : KeeperView) → MakesSteps k w (Add g ∷ []) → IfSome (p.frame page) (MayLeave w)
-    may_part w comes = may_leave w (rw comes.after h.same) _ (joined_hand w comes)
+    may_part w comes = may_leave w (rw comes.after h.same) _ (joined_hand w _ (step_made comes).1)
 
     -- rows and dups lie lawfully once a page is an item, lies on the item's frame and has left its own
     pub laid_joined : (u : KeeperView) → MakesSteps k u (Add g ∷ leaving (p.frame page))
         → IsLaid (record p { rows = change_row page c p.rows; frame = lies_on page (Some g) p.frame }) u
     laid_joined u m =
-        let parts = parts_made _ _ m in
+        let first = first_made m in
         let more = spent_kept k.ledger g (added (frame_at k.ledger g)) (omega arith) in
-        laid_rows h u (rw m.after) (grind (arith, step_made parts.1, left_spends _ parts.2))
-        (left_placed _ parts.2 (joined_hand _ parts.1))
+        laid_rows h u (rw m.after) (grind (arith, left_spends _ first.1)) (left_placed _ first.1 (joined_hand _ first.0 refl))
 
 -- a place where no dup with items stands names no frame that is Stable in the life named
 pub vacant_loose : {sh : Shape} {across : ℕ} {k : Ledger} {rows : List Row} {frame : Frames} {dups : List DupRow} (place : ℕ)
@@ -75,7 +75,7 @@ vacant_loose {k = k} {dups = dups} place p vacant = by _ refl
     by (Some d) found =
         let stale = find_all (λ e. e.place == place)
         (λ e. e.place ≡ place → IsInLife k e.place → ¬ ((frame_at k (place_frame k e.place)).kind ≡ Stable))
-        dups d found (λ n x lt same. stale_is_loose p n x lt (vacant n x lt same)) in
+        dups d found (λ n x lt same life. stale_is_loose p _ (Contains-get_or dups n x lt) life (vacant n x lt same)) in
         grind (arith, stale, find_passes (λ e. e.place == place) dups d found)
 
 -- what a vacant place names is withdrawn, and then it names nothing
@@ -83,16 +83,13 @@ module _ {p : PagesView} {k : KeeperView} (w : KeeperView) (h : IsLaid p k) (pla
     (vacant : IsVacant place p.rows p.dups) where
   -- once what a vacant place names is withdrawn, the place names nothing, and the keeper knows the rest as it was
   pub cleared_ledger : MakesSteps k w (withdrawing p.dups place) → w.ledger ≡ emptied k.ledger place
-  cleared_ledger m = by _ refl m
-    where
-      by : (taken : Bool) → list_any (λ d. d.place == place) p.dups ≡ taken
-          → MakesSteps k w (if taken then Withdraw place ∷ [] else [])
-          → w.ledger ≡ emptied k.ledger place
-      by true is m = rw (step_made m).1
-      by false is m =
-          let none = find_none (λ (d : DupRow). d.place == place) p.dups (none_found _ p.dups is) in
-          rw (none_made m)
-          (grind (arith, h.placed.empty place (grind (arith, none)), set-get_or k.ledger.places place None))
+  cleared_ledger m = elim (cases_Bool (list_any (λ d. d.place == place) p.dups)) [
+    | inl is ↦ rw (step_made (rw is at m)).1
+    | inr is ↦
+        let none = find_none (λ (d : DupRow). d.place == place) p.dups (none_found _ p.dups is) in
+        rw (none_made (rw is at m))
+        (grind (arith, h.placed.empty place (grind (arith, none)), set-get_or k.ledger.places place None))
+  ]
 
 -- pages lie lawfully where a place names nothing any more and the dup that stood there is gone
 pub laid_cleared : {p : PagesView} {k : KeeperView} (w : KeeperView) {place : ℕ} → IsLaid p k → place < frames_of p.shape → w.table ≡ k.table
@@ -159,21 +156,14 @@ module _ {p : PagesView} {k : KeeperView} (h : IsLaid p k) (rise : InPageOrder p
       let ledger : w.ledger ≡ named_anew (emptied k.ledger d.place) d.place f = grind arith in
       grind (arith, with_elsewhere, own, fits, spent_set)
 
--- a dup with items: an item lies on the frame that its place names, which is stable in the life named
+-- a dup with items: the first item lies on the frame that its place names, which is stable in the life named
 pub record Lives (k : Ledger) (dups : List DupRow) (sh : Shape) (rows : List Row) (frame : Frames) (d : DupRow) : Type 0 where
-  -- the first item of the dup
   pub item : Row
-  -- it is found as the first
   pub first : find (λ r. merged_into d.number r.state) rows ≡ Some item
-  -- the item is served by its frame
   pub served : IsServed sh k dups item (frame item.page)
-  -- the item is merged into the dup
   pub merged : merged_into d.number item.state ≡ true
-  -- the item lies on the frame that the dup's place names
   pub lies : frame item.page ≡ Some (place_frame k d.place)
-  -- the frame that the dup's place names is in the life named
   pub life : IsInLife k d.place
-  -- the frame that the dup's place names is Stable
   pub kind : (frame_at k (place_frame k d.place)).kind ≡ Stable
 
 module _ {sh : Shape} {across : ℕ} {k : Ledger} {rows : List Row} {frame : Frames} {dups : List DupRow} (p : Placed sh across k rows frame dups None) where
@@ -218,22 +208,18 @@ few_from m n (d ∷ ds) le rise all =
     (λ i e lt. grind (arith, rise 0 (suc i) e, all (suc i) e)) in
     omega arith
 
--- so far so many stale dups went, and rows and dups lie lawfully
+-- so far so many stale dups went, nothing else changed, and rows and dups lie lawfully
 pub record Drops (p q : PagesView) (k l : KeeperView) (count : ℕ) : Type 0 where
-  -- nothing changed but the dups
   pub pages : q ≡ record p { dups = q.dups }
   -- the dups with items are those that there were
   pub live : filter (has_items p.rows) q.dups ≡ filter (has_items p.rows) p.dups
   -- the stale dups are those that went and those still stale
   pub counted : count + count_by (is_stale p.rows) q.dups ≡ count_by (is_stale p.rows) p.dups
-  -- the keeper is of the same table
   pub own : l.table ≡ k.table
   -- once the places of those still stale are withdrawn, those of all are, in their order
   pub made : (w : KeeperView) → MakesSteps l w (pruning p.rows q.dups p.frame).steps
       → MakesSteps k w (pruning p.rows p.dups p.frame).steps
-  -- now the dups are in the order of their places
   pub rise : InPlaceOrder q.dups
-  -- now rows and dups lie lawfully
   pub laid : IsLaid q l
 
 -- the first stale dup goes next

@@ -101,25 +101,22 @@ each_does (r ∷ rows) v w h = does_then (resettles_does h.1) (each_does rows h.
 dies_still : (sh : Shape) (k : Ledger) (g n f : ℕ) → (frame_at (ledger_after sh k (Reap g) n) f).kind ≡ Dying → ((frame_at k f).kind ≡ Dying) × (f ≡ g → 1 ≤ count_in n)
 dies_still sh k g n f still = grind (arith, cases_eq, cases_lt, set_past, get_or-set_same, get_or-set_other, get_or_past)
 
--- a frame that is dying once frames were reaped was dying before
-was_dying : (sh : Shape) (k : Ledger) (fs : List ℕ) (part : Log) (f : ℕ) → steps_of part ≡ map Reap fs → (frame_at (replayed sh k part) f).kind ≡ Dying → (frame_at k f).kind ≡ Dying
-was_dying sh k fs [] f are still = still
-was_dying sh k [] (s ∷ part) f are still = absurd (grind arith)
-was_dying sh k (g ∷ fs) (s ∷ part) f are still =
-    (dies_still sh k g s.1 f (grind (arith, was_dying sh (ledger_after sh k s.0 s.1) fs part f (grind arith) still))).0
-
--- a frame that was reaped and is dying still was found with a count above zero
-waits : (sh : Shape) (k : Ledger) (fs : List ℕ) (part : Log) (f : ℕ) → steps_of part ≡ map Reap fs → Contains fs f → (frame_at (replayed sh k part) f).kind ≡ Dying
-    → (n : ℕ) × (1 ≤ count_in n) × Contains part (Reap f, n)
-waits sh k [] part f are has still = absurd (omega arith)
-waits sh k (g ∷ fs) [] f are has still = absurd (grind arith)
-waits sh k (g ∷ fs) (s ∷ part) f are (suc i, lt, is) still =
-    let later = waits sh (ledger_after sh k s.0 s.1) fs part f (grind arith) (i, omega arith, is) still in
-    (later.0, later.1, (suc later.2.0, (omega arith), later.2.2))
-waits sh k (g ∷ fs) (s ∷ part) f are (zero, lt, is) still =
-    let first : s.0 ≡ Reap f = grind arith in
-    let now = was_dying sh (ledger_after sh k s.0 s.1) fs part f (grind arith) still in
-    (s.1, (dies_still sh k f s.1 f (rw first at now)).1 refl, (0, omega arith, (λ t. (first t, s.1))))
+-- frames were reaped: one that is dying still was so before, and where it was among them a count above zero was found
+waits : (sh : Shape) (k : Ledger) (fs : List ℕ) (part : Log) (f : ℕ) → steps_of part ≡ map Reap fs → (frame_at (replayed sh k part) f).kind ≡ Dying
+    → ((frame_at k f).kind ≡ Dying) × (Contains fs f → (n : ℕ) × (1 ≤ count_in n) × Contains part (Reap f, n))
+waits sh k [] [] f are still = (still, λ has. absurd (omega arith))
+waits sh k [] (s ∷ part) f are still = absurd (grind arith)
+waits sh k (g ∷ fs) [] f are still = absurd (grind arith)
+waits sh k (g ∷ fs) (s ∷ part) f are still =
+    let first : s.0 ≡ Reap g = grind arith in
+    let rest = waits sh (ledger_after sh k s.0 s.1) fs part f (grind arith) still in
+    let now = dies_still sh k g s.1 f (rw first at rest.0) in
+    (now.0, at first now.1 rest.1)
+  where
+    at : s.0 ≡ Reap g → (f ≡ g → 1 ≤ count_in s.1) → (Contains fs f → (n : ℕ) × (1 ≤ count_in n) × Contains part (Reap f, n))
+        → Contains (g ∷ fs) f → (n : ℕ) × (1 ≤ count_in n) × Contains (s ∷ part) (Reap f, n)
+    at first now later (zero, lt, is) = (s.1, now (sym is), (0, omega arith, grind arith))
+    at first now later (suc i, lt, is) = let m = later (i, omega arith, is) in (m.0, m.1, (suc m.2.0, omega arith, m.2.2))
 
 -- where no frame of a node was found, each that is dying still was found with a count above zero
 pub none_left : {v w : KeeperView} {node : ℕ} → FindsNone v w node → NoneLeft v w node
@@ -136,7 +133,8 @@ none_left {v} {w} {node} h =
           let lt : f - node * size < size = omega arith in
           let at = get_or-range_with_len (node * size) _ _ f lt in
           let long = length-range_with_len (node * size) size in
-          waits sh v.ledger fs _ f m.are (grind (arith, contains_filter, was_dying sh v.ledger fs m.part f m.are dying)) dying;
+          let waited = waits sh v.ledger fs _ f m.are dying in
+          waited.1 (grind (arith, contains_filter, waited.0));
       none = h.none;
     }
 

@@ -1,4 +1,4 @@
-use Rattle.ksm_book.proofs.Names.{arith, find_all, has_items, items_on, refl, seen, ◌&&◌, ◌==◌, ◌≡◌}
+use Rattle.ksm_book.proofs.Names.{arith}
 use Rattle.ksm_book.proofs.Remounts.{has_remounted, may_freeze, may_mount, stays, taken_place}
 use Rattle.ksm_book.proofs.Laying.{turned}
 use Rattle.ksm_book.proofs.moving.remount.Goals as goal
@@ -31,8 +31,4 @@ pub returns : goal.returns
 returns c =
     has_remounted c.requires.may c.dup_frame-left.ensures c.lie_in_order.ensures.absent c.in-Some.ensures _
     c.freeze.ensures.1 (c.freeze.ensures.2.0 c.if-not-freeze.false) c.base-items.ensures c.mount.ensures.made
-    c.mount.ensures.ledger _
-    (find_all (λ d. d.place == c.args.dup.place && has_items c.args.pages.now.rows d)
-    (λ d. d.place ≡ c.args.dup.place → seen c.set_dup_frame.new.self
-    ≡ record (seen c.args.pages.now) { frame = items_on d.number c.in-Some.frame c.args.pages.now.rows (seen c.args.pages.now).frame })
-    c.args.pages.now.dups c.args.dup c.requires.may.live c.set_dup_frame.ensures refl)
+    c.mount.ensures.ledger _ c.set_dup_frame.ensures
