@@ -5,6 +5,7 @@ use Rattle.ksm_book.proofs.Names.{get_or, get_or_from_slice_get, GuestPage, has_
 use Rattle.ksm_book.proofs.Names.{None, none_mapped, not, not_both, one_before, Option, option_map, pairs_head, pairs_tail, Row, row_at, same_page, same_page_eq, slice_get, slice_get-get_or}
 use Rattle.ksm_book.proofs.Names.{slice_get_within, Some, subst, suc, sym, take, true, zero, [], ℕ, ⊤, ◌&&◌, ◌*◌, ◌++◌, ◌+◌, ◌<◌, ◌∙◌, ◌∷◌, ◌≡◌, ◌≤◌}
 use Rattle.ksm_book.proofs.ByPage.{row_of_page}
+use Rattle.std.specs.Prelude.{min}
 use Rattle.ksm_pages.proofs.Found.{first_found as found_first}
 
 -- the first page comes before the second
@@ -173,15 +174,15 @@ along_none asked f rows = grind (arith, change_none (passed asked None) f rows)
 -- how many pages there may be up to the cursor
 abbrev pub position : Option GuestPage → ℕ
 position None = 0
-position (Some p) = p.guest * 4294967296 + p.page + 1
+position (Some p) = p.guest * 4294967296 + min p.page 4294967295 + 1
 
 -- the page at the cursor, if there is one, has a guest below 2^16 and a number below 2^32
 abbrev pub FitsPage : Option GuestPage → Type 0
 FitsPage None = ⊤
 FitsPage (Some p) = (p.guest < 65536) × (p.page < 4294967296)
 
--- the next page of a guest, or of all, after a cursor that fits has a greater position than the cursor
-pub further : (guest : Option ℕ) (last : Option GuestPage) (rows : List Row) (page : GuestPage) → FitsPage last
+-- the next page of a guest, or of all, after a cursor has a greater position than the cursor
+pub further : (guest : Option ℕ) (last : Option GuestPage) (rows : List Row) (page : GuestPage) → FitsPage (Some page)
     → option_map (λ r. r.page) (find (is_next guest last) rows) ≡ Some page → position last < position (Some page)
 further guest last rows page fits told = grind (arith, find_passes)
 

@@ -192,8 +192,8 @@ in_vain v node free dying =
 pub other_if : (made : Bool) (k : Ledger) (f g : ℕ) (note : Note) → g ≢ f → frame_at (cond made (with_frame k f note) k) g ≡ frame_at k g
 other_if made k f g note differs = grind (arith, get_or-set_other)
 
--- a note that was put at a frame is there, if there is such a frame
-ruleset put_there = (cases_lt, get_or-set_same, get_or_past, length-set)
+-- a note that was put at a frame is there, if there is such a frame, and the others are as they were
+pub ruleset put_there = (cases_lt, get_or-set_same, get_or-set_other, get_or_past, length-set)
 
 -- what is known of a frame
 abbrev note : KeeperView → ℕ → Note
@@ -219,14 +219,6 @@ module _ {v w : KeeperView} (found frame : ℕ) {free dying : List ℕ} (are : A
       → Marks dying dying' frame (dying_kind (note w frame).kind) → AreSets w free' dying'
   sets_reaped is f d = both frame (rw is) (λ g ne. grind (arith, other_if)) are (inl f) (inl d)
 
-  -- where a free frame was raised, and marked by its kind among the free ones, both sets are right
-  pub sets_raised : w ≡ did v (Raise frame) found → (note v frame).kind ≡ Free → {free' : List ℕ}
-      → Marks free free' frame (free_kind (note w frame).kind)
-      → AreSets w free' dying
-  sets_raised is may marks =
-      let now : dying_kind (note w frame).kind ≡ dying_kind (note v frame).kind = grind (arith, put_there) in
-      both frame (rw is) (λ g ne. grind (arith, get_or-set_other)) are (inl marks) (inr (refl, now))
-
   -- where a shown frame was frozen, or not, and marked by its kind among the dying ones, both sets are right
   pub sets_frozen : w ≡ did v (Freeze frame) found → (note v frame).kind ≡ Stable → {dying' : List ℕ}
       → Marks dying dying' frame (dying_kind (note w frame).kind)
@@ -235,17 +227,9 @@ module _ {v w : KeeperView} (found frame : ℕ) {free dying : List ℕ} (are : A
       let now : free_kind (note w frame).kind ≡ free_kind (note v frame).kind = grind (arith, put_there) in
       both frame (rw is) (λ g ne. grind (arith, other_if)) are (inr (refl, now)) (inl marks)
 
-  module _ (is : w ≡ did v (Sub frame) found) where
-    -- a frame in use that has lost its last reference, and was put among the dying ones: both sets are right
-    pub sets_taken : MayLeave v frame → (note w frame).base ≡ 0 → {dying' : List ℕ} → Marks dying dying' frame true
-        → AreSets w free dying'
-    sets_taken may none marks =
-        let dies : (note w frame).kind ≡ Dying = grind (arith, put_there) in
-        both frame (rw is) (λ g ne. grind (arith, get_or-set_other)) are (inr (refl, grind arith)) (inl (grind arith))
-
-    -- where a frame has lost a reference, and has one left, both sets are right as they are
-    pub sets_lowered : (note w frame).base ≢ 0 → AreSets w free dying
-    sets_lowered left =
-        let kept : (note w frame).kind ≡ (note v frame).kind = grind (arith, put_there) in
-        both frame (rw is) (λ g ne. grind (arith, get_or-set_other)) are (inr (refl, ap free_kind kept))
-        (inr (refl, ap dying_kind kept))
+  -- a frame in use that has lost its last reference, and was put among the dying ones: both sets are right
+  pub sets_taken : w ≡ did v (Sub frame) found → MayLeave v frame → (note w frame).base ≡ 0 → {dying' : List ℕ} → Marks dying dying' frame true
+      → AreSets w free dying'
+  sets_taken is may none marks =
+      let dies : (note w frame).kind ≡ Dying = grind (arith, put_there) in
+      both frame (rw is) (λ g ne. grind (arith, get_or-set_other)) are (inr (refl, grind arith)) (inl (grind arith))

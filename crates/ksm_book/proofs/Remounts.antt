@@ -189,18 +189,9 @@ module _ {v : PagesView} {k : KeeperView} {dup : DupRow} {node g : ℕ} (may : M
 
         -- after the exchange the new frame may take the place of the old one, with as many references as that had
         pub may_mount : {items : ℕ} → items ≡ n.base → MayMount u g f dup.place items
-        may_mount is = record {
-          exists = grind (arith, inside);
-          known = grind (arith, inside, p.frames_long, exchanged, length-set);
-          free = grind (arith, lowest, at_other f apart);
-          old = grind (arith, known);
-          dying = grind (arith, at_g);
-          wide = grind (arith, at_g, at_other, p.widths);
-          at = grind (arith, dup_fits);
-          loose = grind (arith, exchanged, on_frame, at_g);
-          some = omega (arith, base, item_some);
-          few = grind (arith, base, may.sound.2.limit stands.0 dup stands.1);
-        }
+        may_mount is =
+            let limit = may.sound.2.limit stands.0 dup stands.1 in
+            grind (arith, inside, known, exchanged, length-set, p.frames_long, lowest, at_other f apart, at_other, at_g, p.widths, dup_fits, on_frame, base, item_some)
 
         -- and the dup stands on the new frame
         module _ {x : KeeperView} {items : ℕ} (items_are : items ≡ n.base)

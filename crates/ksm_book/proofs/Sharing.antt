@@ -95,12 +95,7 @@ module _ {p : PagesView} {k : KeeperView} (w : KeeperView) (h : IsLaid p k) (pla
 pub laid_cleared : {p : PagesView} {k : KeeperView} (w : KeeperView) {place : ℕ} → IsLaid p k → place < frames_of p.shape → w.table ≡ k.table
     → w.ledger ≡ emptied k.ledger place
     → IsLaid (record p { dups = filter (elsewhere place) p.dups }) w
-laid_cleared {p} {k} w h inside e is = record {
-  small = h.small;
-  same = rw e h.same;
-  placed = rw is (withdrawn _ inside h.placed);
-  spent = omega (arith, ap spent is);
-}
+laid_cleared w h inside e is = let placed = withdrawn _ inside h.placed in grind arith
 
 -- where each element that passes a test passes another too, that other takes out none of them
 pub inside_of : {X : Type 0} (p q : X → Bool) (xs : List X) → All (λ x. p x ≡ true → q x ≡ true) xs → filter p (filter q xs) ≡ filter p xs

@@ -1,10 +1,10 @@
 -- A walk from page to page comes to the visits of all pages ahead, where visits of those passed over do nothing.
-use Rattle.ksm_book.proofs.Names.{after_cursor, ahead_before, ahead_up_to, All, All-cons, All-filter, All-head, All-tail, and_parts, ap, AreAscending, arith, BookState, BookValue, Bool}
+use Rattle.ksm_book.proofs.Names.{after_cursor, ahead_before, ahead_up_to, All, All-cons, All-filter, and_parts, ap, AreAscending, arith, BookState, BookValue, Bool}
 use Rattle.ksm_book.proofs.Names.{cases_Bool, Comes, comes_before, Deed, false, filter, filter_none, filter_passes, find_all, fold, fold-append, get_or, get_or_from_slice_get, GuestPage}
-use Rattle.ksm_book.proofs.Names.{has_item, HasVisited, if◌then◌else◌, inl, inr, is_restless, IsSound, IsStill, List, mergeable_pages, nat_lt, None, not, one_before, Option, page_visited}
+use Rattle.ksm_book.proofs.Names.{has_item, HasVisited, inl, inr, is_restless, IsSound, IsStill, List, mergeable_pages, not, one_before, Option, page_visited}
 use Rattle.ksm_book.proofs.Names.{pages_ahead, pairs_head, pairs_tail, Reached, refl, restless_at, same_page_eq, slice_get_within, Some, Stage, StaysStill, subst, suc, sym, take, take-suc, true}
-use Rattle.ksm_book.proofs.Names.{true≢false, up_to, [], ℕ, ◌&&◌, ◌*◌, ◌+◌, ◌-◌, ◌<◌, ◌^◌, ◌∙◌, ◌∷◌, ◌≡◌}
-use Rattle.ksm_book.proofs.Along.{Before, FitsPage, after_later, has_filter, place_of, place_splits}
+use Rattle.ksm_book.proofs.Names.{true≢false, up_to, [], ℕ, ◌&&◌, ◌-◌, ◌<◌, ◌∙◌, ◌∷◌, ◌≡◌}
+use Rattle.ksm_book.proofs.Along.{Before, FitsPage, after_later, has_filter, place_of, place_splits, position}
 use Rattle.ksm_book.proofs.Reached.{Agree, agrees, comes_to}
 use Rattle.ksm_book.proofs.Folded.{ascending_ahead, by_row, Goes, page_goes, restless_mergeable, still_on}
 
@@ -29,9 +29,7 @@ module _ (visit : Visit) where
   -- visits that do nothing
   pub resting : (pages : List GuestPage) (s : Stage) → All (Rests visit s.0) pages → fold visit s pages ≡ s
   resting [] s rest = refl
-  resting (page ∷ pages) s rest =
-      ap (λ z. fold visit z pages) (All-head (Rests visit s.0) page pages rest s.1)
-      ∙ resting pages s (All-tail (Rests visit s.0) page pages rest)
+  resting (page ∷ pages) s rest = grind (arith, rest 0 page, resting pages s (λ k d lt. rest (suc k) d (omega arith)))
 
   module _ (reached : Option GuestPage) (b : BookState) where
     abbrev passed : GuestPage → Bool
@@ -118,14 +116,7 @@ none_walked visit s =
 -- a walk begins at the book's cursor
 pub begins_walk : (visit : Visit) (v : BookValue) (reached : Option GuestPage) → reached ≡ v.state.cursor → (last : Option GuestPage) (quiet : Bool)
     → IsSound v.state → IsWalking visit last v v reached quiet
-begins_walk visit v reached at last quiet sound = record {
-  began = sound;
-  goes = (sound, refl);
-  comes = λ from s before. grind (arith, none_walked visit s);
-  still = λ _ from s before. grind (arith, none_walked visit s);
-  behind = λ p is. grind arith;
-  within = λ p is out. grind arith;
-}
+begins_walk visit v reached at last quiet sound = grind (arith, none_walked visit)
 
 module _ {visit : Visit} (is : IsVisit visit) {last : Option GuestPage} {old mid : BookValue} {reached : Option GuestPage} {quiet : Bool}
     (w : IsWalking visit last old mid reached quiet) where
@@ -191,14 +182,9 @@ rests_where b reached test none q =
     (λ calm _ _. visits_page.calm b q calm) (λ r found restless after inside. absurd (true≢false (sym inside
     ∙ find_all _ (λ s. is_restless s ≡ true → after_cursor reached s.page ≡ true → test s.page ≡ false) _ r found none restless after)))
 
--- a page's number in its guest, or the greatest there is
-abbrev page_in : ℕ → ℕ
-page_in page = if nat_lt page (2 ^ 32) then page else 2 ^ 32 - 1
-
 -- how many pages there may be behind a cursor
 abbrev pub room_behind : Option GuestPage → ℕ
-room_behind None = 2 ^ 48 + 1
-room_behind (Some p) = 2 ^ 48 - (p.guest * 2 ^ 32 + page_in p.page)
+room_behind cursor = 281474976710656 - position cursor
 
 -- there are fewer behind a page that is behind the cursor
 pub less_room : (cursor : Option GuestPage) (page : GuestPage) → FitsPage (Some page) → after_cursor cursor page ≡ true

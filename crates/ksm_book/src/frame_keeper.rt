@@ -118,7 +118,7 @@ impl FrameKeeper {
     }
 
     /// One reference less on a frame. With the last it is dying.
-    #[tactic(auto, using(crate::proofs::Keeping::sets_lowered))]
+    #[tactic(auto, using(crate::proofs::Keeping::put_there))]
     pub fn sub(&mut self, table: &FrameTable, frame: u32)
         requires own { self.old.table ≡ table.now }
         requires may { MayLeave self.old frame }
@@ -146,6 +146,7 @@ impl FrameKeeper {
     }
 
     /// Takes a free frame into its next life, to be filled.
+    #[tactic(auto, using(crate::proofs::Keeping::put_there))]
     pub fn raise(&mut self, table: &FrameTable, frame: u32)
         requires own { self.old.table ≡ table.now }
         requires may { May self.old (Raise frame) }

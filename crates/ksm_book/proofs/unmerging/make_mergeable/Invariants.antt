@@ -1,5 +1,5 @@
 use Rattle.ksm_book.proofs.Names.{is_of, seen, ◌-◌, ◌≡◌}
-use Rattle.ksm_book.proofs.Along.{FitsPage, IsAlong, position}
+use Rattle.ksm_book.proofs.Along.{IsAlong, position}
 use Rattle.ksm_book.proofs.Unmerged.{in_scan}
 use Rattle.ksm_book.proofs.unmerging.make_mergeable.Given as goal
 
@@ -7,7 +7,6 @@ abbrev pub invariant-pages : goal.invariant-pages
 invariant-pages l = record {
   along : IsAlong (is_of l.guest) in_scan l.fn.pages.rows l.pages.rows l.last;
   pages : seen l.pages ≡ record (seen l.fn.pages) { rows = l.pages.rows };
-  fits : FitsPage l.last;
 }
 
 abbrev pub decreases-pages : goal.decreases-pages
