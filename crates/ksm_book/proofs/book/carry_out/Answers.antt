@@ -23,15 +23,12 @@ returns-in-Drop-clause-due c = λ known.
 
 pub returns-in-Prune-clause-due : goal.returns-in-Prune-clause-due
 returns-in-Prune-clause-due c = λ known.
-    let due : AreDue c.args.state.now.state c.if-not-matches.due.pages = grind (arith, known) in
-    stays_due _ _ Prune _ _ (λ _ _. fewer_due c.args.state.now.state _ _ due) due c.prune.ensures
+    stays_due _ _ Prune _ _ (λ _ _. fewer_due c.args.state.now.state _ _ (grind (arith, known))) (grind (arith, known)) c.prune.ensures
 
 pub returns-in-MoveDup-clause-due : goal.returns-in-MoveDup-clause-due
 returns-in-MoveDup-clause-due c = λ known.
-    let due : AreDue c.args.state.now.state c.if-not-matches.due.pages = grind (arith, known) in
-    stays_due _ _ (MoveDup _ _) _ _ (λ _ _. due) due c.move_dup.ensures
+    stays_due _ _ (MoveDup _ _) _ _ (λ _ _. grind (arith, known)) (grind (arith, known)) c.move_dup.ensures
 
 pub returns-in-SetPagesToScan-clause-due : goal.returns-in-SetPagesToScan-clause-due
 returns-in-SetPagesToScan-clause-due c = λ known.
-    let due : AreDue c.args.state.now.state c.if-not-matches.due.pages = grind (arith, known) in
-    stays_due _ _ (SetPagesToScan _) _ _ (λ _ _. due) due c.set_pages_to_scan.ensures
+    stays_due _ _ (SetPagesToScan _) _ _ (λ _ _. grind (arith, known)) (grind (arith, known)) c.set_pages_to_scan.ensures
