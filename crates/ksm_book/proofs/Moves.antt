@@ -1,5 +1,6 @@
 -- What each step of a command does to a placement.
-use Rattle.ksm_book.proofs.Names.{Agrees, All, All-contains_itself, All-filter, All-map, all_with_dup, all_with_row, ap, arith, Bool, cases_eq, cases_lt, find, change_row, Contains, Contains-append_left, Contains-append_right, count_alike}
+use Rattle.ksm_book.proofs.Names.{Agrees, All, All-contains_itself, All-filter, All-map, all_with_dup, all_with_row, ap, arith, Bool, cases_eq, cases_lt, find, change_row, Contains}
+use Rattle.ksm_book.proofs.Names.{Contains-append_left, Contains-append_right, count_alike}
 use Rattle.ksm_book.proofs.Names.{DupFits, DupRow, elsewhere, eq-eqb, false, filter, filter_passes, find_all, find_none, FitsBase, frame_at, Frames, frames_of, GenerationFits, get_or}
 use Rattle.ksm_book.proofs.Names.{get_or-set_other, get_or-set_same, GuestPage, holding, in_hand, inl, InPageOrder, inr, is_frame, IsInLife, IsServed, item_count, Ledger, length, length-set, lies_on}
 use Rattle.ksm_book.proofs.Names.{List, lt-ltb, map, Merged, merged_into, named_at, nat_lt, None, not, Note, Option, ordered_change, PAGE_WORDS, place_frame, Placed, Private, refl, Row, row_at}

@@ -1,7 +1,8 @@
 -- What becomes of the layout where a page joins a dup, a dup is made, or stale dups go, one by one.
 use Rattle.frame_core.specs.Ledger.{named_anew}
 use Rattle.ksm_base.specs.declared.limits.TheConstants.{MOST_FRAMES, MOST_LIVES, MOST_REFERENCES}
-use Rattle.ksm_book.proofs.Names.{Add, added, All, All-filter, ap, arith, blank, Bool, cases_Bool, change_row, Contains, inl, inr, count_by, count_none, did, DupRow, elsewhere, eq-eqb, false, filter, filter_passes, find}
+use Rattle.ksm_book.proofs.Names.{Add, added, All, All-filter, ap, arith, blank, Bool, cases_Bool, change_row, Contains, inl, inr, count_by, count_none, did, DupRow, elsewhere, eq-eqb, false}
+use Rattle.ksm_book.proofs.Names.{filter, filter_passes, find}
 use Rattle.ksm_book.proofs.Names.{find_all, find_none, find_passes, frame_at, Frames, frames_of, get_or-set_same, get_or_default, GuestPage, IfSome, if◌then◌else◌, InPageOrder, IsInLife, IsLaid}
 use Rattle.ksm_book.proofs.Names.{IsLoose, IsVacant, item_count, KeeperView, leaving, Ledger, length, lies_on, List, list_any, MakesSteps, May, MayLeave, Merged, merged_into, merged_state, named_at}
 use Rattle.ksm_book.proofs.Names.{None, none_found, Note, Option, PageState, PagesView, place_frame, Placed, Private, Publish, refl, Row, row_at, RowFits, set-get_or, Shape, shared_state, Some, spent}
