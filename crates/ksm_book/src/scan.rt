@@ -69,10 +69,12 @@ impl Made {
 }
 
 impl State {
-    fn set_cursor(&mut self, cursor: Option<GuestPage>)
+    // So many visits lead on to a page.
+    fn set_cursor(&mut self, cursor: Option<GuestPage>, visits: u64)
         ensures { Comes self.old self.new (λ s. (record s.0 { cursor = cursor }, s.1)) }
     {
         self.cursor = cursor;
+        self.made = self.made.wrapping_add(visits as usize);
     }
 
     // So many passes have ended.
@@ -81,6 +83,7 @@ impl State {
     {
         self.passes = self.passes.saturating_add(count);
         self.cursor = None;
+        self.made = 0;
     }
 
     // The first page behind one, up to the last one, that a visit may change, or a page before it.
@@ -150,12 +153,12 @@ impl State {
         ensures comes { Comes self.old self.new (λ s. (pass_ended_at_last s.0, s.1)) }
         ensures ahead { EndsAt (pages_ahead self.new.state) most result }
     {
-        let ahead = self.pages.ahead(self.cursor, most);
+        let ahead = self.pages.ahead(self.cursor, self.made, most);
         let nowhere = is_none(ahead);
         let under_way = self.cursor().is_some();
         if nowhere && under_way {
             self.end_passes(1);
-            return self.pages.ahead(self.cursor, most);
+            return self.pages.ahead(self.cursor, self.made, most);
         }
         ahead
     }
@@ -224,7 +227,7 @@ impl State {
         match self.visit_part(table, due, last(ahead)) {
             Ok(quiet) => match ahead {
                 Ahead::At(page) => {
-                    self.set_cursor(Some(page));
+                    self.set_cursor(Some(page), most);
                     Ok(most)
                 }
                 Ahead::End(made) => {
@@ -235,7 +238,7 @@ impl State {
             },
             Err(page) => {
                 let (made, last) = self.pages.between(self.cursor, page);
-                self.set_cursor(last);
+                self.set_cursor(last, made);
                 Err(made)
             }
         }

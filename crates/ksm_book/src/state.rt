@@ -30,11 +30,13 @@ use ksm_pages::{Pages, Spot};
 use std::alloc::Global;
 use std::marker::Model;
 
-/// The rows and dups in their frames, the page visited last in this pass, and how many passes have ended.
+/// The rows and dups in their frames, the page visited last in this pass, with a guess of how many visits led to it, and how
+/// many passes have ended.
 pub struct State {
     pub(crate) pages: Pages,
     pub(crate) keeper: FrameKeeper,
     pub(crate) cursor: Option<GuestPage>,
+    pub(crate) made: usize,
     pub(crate) passes: u64,
 }
 
@@ -75,6 +77,7 @@ impl State {
                 pages,
                 keeper,
                 cursor: None,
+                made: 0,
                 passes: 0,
             }),
             Err(fault) => Err((keeper.close(), fault)),
@@ -89,6 +92,7 @@ impl State {
             pages: _pages,
             keeper,
             cursor: _,
+            made: _,
             passes: _,
         } = self;
         keeper.close()

@@ -4,6 +4,7 @@ use Rattle.ksm_pages.proofs.Names.{filter_mapped, find, find_all, find_mapped, g
 use Rattle.ksm_pages.proofs.Names.{length-map, length-take-le, List, map, map-append, marked, Named, named_by, nat_lt, nat_tests, None, not, Option, option_map, page_of, pages_behind, pages_between}
 use Rattle.ksm_pages.proofs.Names.{pairs_head, pairs_mapped, pairs_tail, refl, rules, slice_get, slice_get-get_or, slice_get-map, slice_get_past, Some, suc, sym, take, true, up_to_few, visited}
 use Rattle.ksm_pages.proofs.Names.{with_named, zero, ℕ, ◌&&◌, ◌+◌, ◌-◌, ◌<◌, ◌^◌, ◌∙◌, ◌∷◌, ◌≡◌, ◌≤◌}
+use Rattle.std.specs.Prelude.{AllPairs}
 use Rattle.std.proofs.lemmas.List.{drop-map, nil_from_length, take-map}
 use Rattle.ksm_base.proofs.Edits.{count_more}
 use Rattle.ksm_rmap.proofs.Keys.{before_as_key, behind_as_key, same_as_key}
@@ -147,6 +148,23 @@ module _ (items : List Item) {now : List Named} (seen_as : map named_by items �
 
   pub visited_at : (place : ℕ) {key : ℕ} → key_at (kept_marked items) place ≡ Some key → slice_get (visited now) place ≡ Some (page_of key)
   visited_at place {key} is = grind (arith, visited_is, slice_get-map)
+
+  -- where a page is the one at a place of the visited ones, those behind it stand behind that place
+  pub behind_at : AreAscending items → (place : ℕ) {page : GuestPage} → slice_get (visited now) place ≡ Some page → pages_behind (Some page) (visited now) ≡ drop (suc place) (visited now)
+  behind_at rise place is = go (visited now) (rw visited_is in_order) place is
+    where
+      in_order : AllPairs (λ p q. comes_before p q ≡ true) (map page_by (kept_marked items))
+      in_order = pairs_mapped Less (λ p q. comes_before p q ≡ true) (λ x. x.key ≡ x.key) page_by (λ x y _ _ less. grind (arith, nat_tests))
+          (kept_marked items) (λ k d lt. refl) (AllPairs-filter Less _ _ rise)
+
+      go : (pages : List GuestPage) → AllPairs (λ p q. comes_before p q ≡ true) pages → (place : ℕ) {page : GuestPage} → slice_get pages place ≡ Some page
+          → pages_behind (Some page) pages ≡ drop (suc place) pages
+      go [] rise place is = grind arith
+      go (p ∷ pages) rise zero is = grind (arith, filter_all, pairs_head (λ p q. comes_before p q ≡ true) p pages rise)
+      go (p ∷ pages) rise (suc n) {page} is =
+          let behind : comes_before p page ≡ true = grind (arith, pairs_head (λ p q. comes_before p q ≡ true) p pages rise n page, slice_get_past, slice_get-get_or pages n page) in
+          let apart : comes_before page p ≡ false = grind arith in
+          rw apart (go pages (pairs_tail (λ p q. comes_before p q ≡ true) p pages rise) n is)
 
   -- where so many visited pages do not come behind a cursor, those behind it are the others
   pub behind_is : (cursor : Option GuestPage) (key : ℕ) → ((n : ℕ) → after_cursor cursor (page_of n) ≡ not (nat_lt n key)) → AreAscending items

@@ -1,5 +1,5 @@
 //! All pages in order, with rank: a page is found by a search, and the visits of a scan are counted, not walked.
-ghost use Rattle.std.specs.Prelude.{◌≡◌, ℕ, ◌≤◌, ◌<◌, ◌^◌, [], true, None, IfErr, IfSome, OnErr, OnOk};
+ghost use Rattle.std.specs.Prelude.{◌≡◌, ℕ, ◌+◌, ◌≤◌, ◌<◌, ◌^◌, [], true, None, Some, IfErr, IfSome, IsTrue, OnErr, OnOk};
 ghost use Rattle.std.specs.Prelude.{count_by, drop, find, is_some, length, nat_lt, not, option_map};
 ghost use Rattle.ksm_base.specs.declared.page.GuestPage.{GuestPage};
 ghost use Rattle.ksm_base.specs.Visit.{after_cursor};
@@ -141,23 +141,40 @@ impl<P: Part> Order<P> {
         self.pages.set_mark(key_of(page), mergeable);
     }
 
-    /// How many of the pages that a scan visits do not come behind a cursor.
-    fn passed(&self, cursor: Option<GuestPage>) -> usize
-        ensures ahead { pages_behind cursor (visited self.now) ≡ drop result (visited self.now) }
-        ensures within { result ≤ length (visited self.now) }
+    /// Whether a page is the one at a place among those that a scan visits, so that all behind that place come behind it.
+    #[inline(always)]
+    fn is_at(&self, page: GuestPage, place: usize) -> bool
+        ensures within { IsTrue result → place < length (visited self.now) }
+        ensures behind { IsTrue result
+            → pages_behind (Some page) (visited self.now) ≡ drop (place + 1) (visited self.now) }
     {
-        match cursor {
-            None => 0,
-            Some(_) => self.pages.up_to(from_of(cursor)),
+        match self.pages.nth(place) {
+            Some(key) => key == key_of(page),
+            None => false,
         }
     }
 
-    /// What so many visits behind the cursor come to, one at least.
-    pub fn ahead(&self, cursor: Option<GuestPage>, visits: u64) -> Ahead
+    /// How many of the pages that a scan visits do not come behind a cursor. The guess is tried first.
+    fn passed(&self, cursor: Option<GuestPage>, guess: usize) -> usize
+        ensures ahead { pages_behind cursor (visited self.now) ≡ drop result (visited self.now) }
+        ensures within { result ≤ length (visited self.now) }
+    {
+        let Some(page) = cursor else {
+            return 0;
+        };
+        if guess > 0 && self.is_at(page, guess - 1) {
+            return guess;
+        }
+        self.pages.up_to(from_of(cursor))
+    }
+
+    /// What so many visits behind the cursor come to, one at least. How many visits of the pass led to the cursor is a guess,
+    /// and spares a search where it is right.
+    pub fn ahead(&self, cursor: Option<GuestPage>, guess: usize, visits: u64) -> Ahead
         requires { 1 ≤ visits }
         ensures { EndsAt (pages_behind cursor (visited self.now)) visits result }
     {
-        let passed = self.passed(cursor);
+        let passed = self.passed(cursor, guess);
         let left = (self.pages.count() - passed) as u64;
         if left <= visits {
             return Ahead::End(left);
@@ -173,7 +190,7 @@ impl<P: Part> Order<P> {
         ensures count { result.0 ≡ length (pages_between cursor page (visited self.now)) }
         ensures last { result.1 ≡ last_of cursor (pages_between cursor page (visited self.now)) }
     {
-        let passed = self.passed(cursor);
+        let passed = self.passed(cursor, 0);
         let before = self.pages.up_to(key_of(page));
         if before <= passed {
             return (0, cursor);

@@ -297,13 +297,13 @@ impl Rows {
         }
     }
 
-    /// What so many visits behind the cursor come to.
+    /// What so many visits behind the cursor come to. How many visits of the pass led to the cursor is a guess.
     #[tactic(auto, using(crate::proofs::Reading::pages_by))]
-    pub fn ahead(&self, cursor: Option<GuestPage>, visits: u64) -> Ahead
+    pub fn ahead(&self, cursor: Option<GuestPage>, guess: usize, visits: u64) -> Ahead
         requires { 1 ≤ visits }
         ensures { EndsAt (pages_behind cursor (mergeable_pages (rows_of self.now.held))) visits result }
     {
-        self.order.ahead(cursor, visits)
+        self.order.ahead(cursor, guess, visits)
     }
 
     /// How many pages behind the cursor and before a page a scan visits, and the last of them, or else the cursor.

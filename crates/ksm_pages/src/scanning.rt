@@ -9,12 +9,12 @@ use crate::row::Spot;
 use ksm_base::GuestPage;
 
 impl Pages {
-    /// Where so many visits behind the cursor end.
-    pub fn ahead(&self, cursor: Option<GuestPage>, visits: u64) -> Ahead
+    /// Where so many visits behind the cursor end. How many visits of the pass led to the cursor is a guess.
+    pub fn ahead(&self, cursor: Option<GuestPage>, guess: usize, visits: u64) -> Ahead
         requires { 1 ≤ visits }
         ensures { EndsAt (pages_behind cursor (mergeable_pages self.now.rows)) visits result }
     {
-        self.rows.ahead(cursor, visits)
+        self.rows.ahead(cursor, guess, visits)
     }
 
     /// How many visits behind the cursor come before a page, and the page of the last of them; the cursor where there
