@@ -6,14 +6,14 @@
 //! and `set_by_node` walk over all.
 
 ghost use Rattle.std.specs.Prelude.{◌≡◌, ◌⊎◌, ◌≤◌, ◌<◌, ◌^◌, true, false, [], None, Some, All, IfErr, IfOk, IfSome};
-ghost use Rattle.std.specs.Prelude.{MatchOption, OnErr, OnOk, ◌==◌, count_by, filter, find, if◌then◌else◌, is_some};
-ghost use Rattle.std.specs.Prelude.{length, map, not, option_map, slice_get};
+ghost use Rattle.std.specs.Prelude.{MatchOption, OnErr, OnOk, ◌==◌, count_by, find, is_some};
+ghost use Rattle.std.specs.Prelude.{length, map, not, option_map};
 ghost use Rattle.std.specs.Fn.{FnOnceReturnsAtMut};
 ghost use Rattle.ksm_base.specs.declared.limits.TheConstants.{MOST_FRAMES};
 ghost use Rattle.ksm_base.specs.declared.page.GuestPage.{GuestPage};
 ghost use Rattle.ksm_base.specs.declared.row.PageState.TheVariants.{Merged, Waiting, Zero};
-ghost use Rattle.ksm_base.specs.Apply.{fresh_row, let_go as as_let_go};
-ghost use Rattle.ksm_base.specs.Rows.{InPageOrder, settled, shared_state, waiting_state};
+ghost use Rattle.ksm_base.specs.Apply.{fresh_row};
+ghost use Rattle.ksm_base.specs.Rows.{InPageOrder, settled, shared_state};
 ghost use Rattle.ksm_base.specs.Visit.{after_cursor};
 ghost use Rattle.ksm_pages.specs.Ahead.{EndsAt, FindsNext, last_of, mergeable_pages, pages_behind, pages_between};
 ghost use Rattle.ksm_pages.specs.Filed.{AreFiled, AreListed, IsMade, IsTally, IsUnder, KeepsPage, key_in};

@@ -3,7 +3,7 @@
 
 ghost use Rattle.std.specs.Prelude.{◌≡◌, true, false, None, Some, Err, All, ◌==◌, ◌&&◌, IfNone, IfOk, IsTrue, OnOk, OnErr, option_map};
 ghost use Rattle.ksm_base.specs.declared.fault.Fault.TheVariants.{Memory};
-ghost use Rattle.ksm_base.specs.declared.row.PageState.TheVariants.{Merged, Private, Zero};
+ghost use Rattle.ksm_base.specs.declared.row.PageState.TheVariants.{Merged, Zero};
 ghost use Rattle.ksm_base.specs.Rows.{all_zero as has_only_zeroes, merged_into};
 ghost use Rattle.ksm_pages.specs.declared.pages.Find.TheVariants as finds;
 ghost use Rattle.ksm_pages.specs.Paged.{Finds, HasRoom, HasRow, IsAlone, MayPair, NoneHas, changed, is_restless, lies_on, relaid};
