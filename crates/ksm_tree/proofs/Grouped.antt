@@ -126,5 +126,11 @@ rows_fit p (r ∷ rows) below rise =
 -- the totals have room for each group as it is
 pub totals_tell : (t : ℕ) (b : List ℕ) (p : ℕ) {rows : List DupRow} {totals : Totals} → p ≤ MOST_FRAMES → All (λ r. r.place < p) rows → InPlaceOrder rows → AreTotals rows totals → Tells (length (group_places t b rows)) totals
 totals_tell t b p {rows} {totals} few below rise are =
-    rw (places_size t b rows) (omega (arith, count_by-le-length (leads rows) rows, count_by-le-length (in_chain rows) rows,
-    chains_parted t b _ rise, dups_parted t b rows, rows_fit p rows below rise))
+    rw (places_size t b rows) (omega (
+      arith,
+      count_by-le-length (leads rows) rows,
+      count_by-le-length (in_chain rows) rows,
+      chains_parted t b _ rise,
+      dups_parted t b rows,
+      rows_fit p rows below rise,
+    ))

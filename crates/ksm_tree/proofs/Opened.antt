@@ -39,5 +39,5 @@ stale_slots (s ∷ slots) = grind (arith, count_more (holds is_stale) s slots, c
 -- each slot is empty, or its dup is stale or has items
 pub three_kinds : (slots : List (Option Dup)) → count_by is_none slots + count_by (holds is_stale) slots + count_by is_live (present slots) ≡ length slots
 three_kinds [] = refl
-three_kinds (s ∷ slots) = 
+three_kinds (s ∷ slots) =
     grind (arith, count_more is_none s slots, count_more (holds is_stale) s slots, count_more is_live, three_kinds slots)

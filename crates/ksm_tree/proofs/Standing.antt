@@ -54,7 +54,7 @@ module _ (g : Groups) {later : Slab Group} (numbers : BTreeMap Content ℕ) (k :
   keeps change = record {
     lawful = λ q n. grind (arith, same_content {p = k} {q = q}, updates.0 q, g.lawful q n, fills);
     chains = λ t b.
-    grind (arith, updates.0 (content_of t b), same_content {p = k} {q = content_of t b}, fills, fills.changed, (g.lawful k number).1);
+        grind (arith, updates.0 (content_of t b), same_content {p = k} {q = content_of t b}, fills, fills.changed, (g.lawful k number).1);
   }
 
 -- where a dup stands in each group, each content with a number is in use

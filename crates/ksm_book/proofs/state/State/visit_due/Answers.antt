@@ -50,7 +50,7 @@ left c =
     let by = λ (w : BookValue) (f : Find) (is : was.in_ok-found.found ≡ f).
     left_due c.args.self.now w c.args.spot.page f (seen was.visit.new.self) was.self.invariant (ap view_of was.self.view_is) (rw is at was.in_ok-found.ensures.found) in
     elim c.match-found.branch [
-      | in-Gone w ↦ rw w.self-is (elim w.in-Gone.is [ | inl gone ↦ by _ _ gone refl | inr waits ↦ by _ _ waits refl ])
+      | in-Gone w ↦ rw w.self-is (elim w.in-Gone.is [ inl gone ↦ by _ _ gone refl | inr waits ↦ by _ _ waits refl ])
       | in-Dup+in_ok-join-in-Dup w ↦ rw w.self-is (by _ _ w.in-Dup.is w.in_ok-join-in-Dup.ensures.visited)
       | in-Zero w ↦ rw w.self-is (by _ _ w.in-Zero.is w.become_zero.ensures.visited)
       | in-Partner+in_ok-pair-in-Partner w ↦
