@@ -30,7 +30,7 @@ use ksm_pages::{Pages, Spot};
 use std::alloc::Global;
 use std::marker::Model;
 
-/// The rows and dups in their frames, the page visited last in this pass, with a guess of how many visits led to it, and how
+/// The rows and dups in their frames, the page visited last in this pass, a guess of how many visits led to it, and how
 /// many passes have ended.
 pub struct State {
     pub(crate) pages: Pages,

@@ -235,7 +235,8 @@ copied frame bytes h = record { row = stored bytes h.row; frame = Some frame; in
 
 -- a row at home on another node, with a frame of its own
 abbrev pub rehoused : ℕ → ℕ → Held → Held
-rehoused frame node h = record { row = record h.row { home = node; state = Private }; frame = Some frame; in_tree = Not }
+rehoused frame node h =
+    record { row = record h.row { home = node; state = Private }; frame = Some frame; in_tree = Not }
 
 -- a row to which the unstable tree does not lead
 abbrev pub out_of_tree : Held → Held

@@ -44,8 +44,8 @@ impl Pages {
         left
     }
 
-    /// The page gets a frame of its own in the stead of what it had, and is at home on another node. Gives the frame where
-    /// it lay, if it had one.
+    /// The page gets a frame of its own in the stead of what it had, and is at home on another node. Gives the frame
+    /// where it lay, if it had one.
     pub fn move_on(&mut self, spot: Spot, frame: u32, node: u32) -> Option<u32>
         requires { IsKnown spot.page self.old.rows }
         ensures left { result ≡ (seen self.old).frame spot.page }
@@ -122,8 +122,8 @@ impl Pages {
         left
     }
 
-    /// The page gets a frame of its own in the stead of what it had, and is not unchanged. Gives the frame where it lay, if
-    /// it had one.
+    /// The page gets a frame of its own in the stead of what it had, and is not unchanged. Gives the frame where it lay,
+    /// if it had one.
     pub fn unshare_on(&mut self, spot: Spot, frame: u32) -> Option<u32>
         requires { IsKnown spot.page self.old.rows }
         ensures left { result ≡ (seen self.old).frame spot.page }

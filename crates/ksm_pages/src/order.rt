@@ -141,7 +141,7 @@ impl<P: Part> Order<P> {
         self.pages.set_mark(key_of(page), mergeable);
     }
 
-    /// Whether a page is the one at a place among those that a scan visits, so that all behind that place come behind it.
+    /// Whether a page is the one at a place among those that a scan visits. Then those behind that place come behind it.
     #[inline(always)]
     fn is_at(&self, page: GuestPage, place: usize) -> bool
         ensures within { IsTrue result → place < length (visited self.now) }
@@ -168,8 +168,8 @@ impl<P: Part> Order<P> {
         self.pages.up_to(from_of(cursor))
     }
 
-    /// What so many visits behind the cursor come to, one at least. How many visits of the pass led to the cursor is a guess,
-    /// and spares a search where it is right.
+    /// What so many visits behind the cursor come to, one at least. How many visits of the pass led to the cursor is a
+    /// guess, and spares a search where it is right.
     pub fn ahead(&self, cursor: Option<GuestPage>, guess: usize, visits: u64) -> Ahead
         requires { 1 ≤ visits }
         ensures { EndsAt (pages_behind cursor (visited self.now)) visits result }
