@@ -1,17 +1,19 @@
 -- A list in order that is cut in three, what comes before a key, the part in which the key is or would be, and what comes
 -- behind it: each call answers of the list what it answers of that part.
 use Rattle.std.proofs.Common.{◌≡◌, ℕ, zero, suc, ◌+◌, ◌<◌, ◌≤◌, Bool, List, [], ◌∷◌, ◌++◌, length, get_or, take, drop, refl, ap, arith, None}
-use Rattle.std.specs.Prelude.{◌&&◌, cond, All, count_by, filter, find, nat_lt, set, slice_get}
+use Rattle.std.specs.Prelude.{◌&&◌, cond, All, filter, find, nat_lt, set, slice_get}
 use Rattle.std.specs.Option.{option_or}
 use Rattle.std.proofs.lemmas.Bool.Decides.{nat_tests}
 use Rattle.std.proofs.lemmas.List.{append-nil, append_assoc, length-drop, length-take-le, map-append, set_split, take-append-drop}
 use Rattle.std.proofs.lemmas.List.Folds.{find-append}
-use Rattle.std.proofs.lemmas.List.Sums.{count_by-le-length, sum_by-append, sum_by-cons}
+use Rattle.std.proofs.lemmas.List.Sums.{count_by-le-length}
 use Rattle.std.proofs.lemmas.List.Elements.{All-tail, filter-append}
+use Rattle.ksm_base.proofs.Edits.{count-append, count_more}
 use Rattle.ksm_order.specs.declared.item.Item.{Item}
 use Rattle.ksm_order.specs.Places.{IsHere, IsPlace}
+use Rattle.ksm_order.proofs.Ordered.{absent_parts, numbers_ordered}
 use Rattle.ksm_order.proofs.Places.{before_here, behind_here, cut_here, from_there, in_front}
-use Rattle.ksm_order.specs.Listed.{AreAscending, AreBefore, AreBehind, is_at, is_from, many, marked, up_to, with_item, with_mark, without}
+use Rattle.ksm_order.specs.Listed.{AreAscending, AreBefore, AreBehind, is_at, is_from, many, marked, up_to, with_item, with_mark}
 
 -- whether an item comes before a key, and whether it comes behind
 abbrev pub low : ℕ → Item → Bool
@@ -20,23 +22,17 @@ low key y = nat_lt y.key key
 abbrev pub high : ℕ → Item → Bool
 high key y = nat_lt key y.key
 
--- one more is counted where it passes, and what is counted in two lists in a row is the sum of both counts
-count-cons : {X : Type 0} (p : X → Bool) (x : X) (xs : List X) → count_by p (x ∷ xs) ≡ cond (p x) 1 0 + count_by p xs
-count-cons p = sum_by-cons (λ x. cond (p x) 1 0)
-
-count-append : {X : Type 0} (p : X → Bool) (xs ys : List X) → count_by p (xs ++ ys) ≡ count_by p xs + count_by p ys
-count-append p = sum_by-append (λ x. cond (p x) 1 0)
-
--- the same of the marked ones, and of the marked ones that come before a key
+-- one more is counted where it is marked, and the marked ones of two lists in a row are those of both;
+-- so it is with the marked ones that come before a key
 pub many-cons : (x : Item) (xs : List Item) → many (x ∷ xs) ≡ cond x.marked 1 0 + many xs
-many-cons = count-cons (λ (x : Item). x.marked)
+many-cons = count_more (λ (x : Item). x.marked)
 
 pub many-append : (xs ys : List Item) → many (xs ++ ys) ≡ many xs + many ys
 many-append = count-append (λ (x : Item). x.marked)
 
 pub up_to-cons : (key : ℕ) (x : Item) (xs : List Item)
     → up_to key (x ∷ xs) ≡ cond (x.marked && low key x) 1 0 + up_to key xs
-up_to-cons key = count-cons (λ (x : Item). x.marked && low key x)
+up_to-cons key = count_more (λ (x : Item). x.marked && low key x)
 
 up_to-append : (key : ℕ) (xs ys : List Item) → up_to key (xs ++ ys) ≡ up_to key xs + up_to key ys
 up_to-append key = count-append (λ (x : Item). x.marked && low key x)
@@ -52,33 +48,17 @@ pub all_marked : (xs : List Item) → many xs ≡ length xs → marked xs ≡ xs
 all_marked [] all = refl
 all_marked (x ∷ xs) all = grind (arith, all_marked xs, many-cons x xs, count_by-le-length (λ (y : Item). y.marked) xs)
 
--- no more are marked of those that are kept than of all
-pub many_kept : (p : Item → Bool) (xs : List Item) → many (filter p xs) ≤ many xs
-many_kept p [] = omega arith
-many_kept p (x ∷ xs) = grind (arith, many-cons x xs, many-cons x (filter p xs), many_kept p xs)
-
--- a list that does not have a key is the same list without the key
-pub without_none : (key : ℕ) (xs : List Item) → find (is_at key) xs ≡ None → xs ≡ without key xs
-without_none key [] none = refl
-without_none key (x ∷ xs) none = grind (arith, without_none key xs)
-
--- nor does a mark change it
+-- a mark does not change a list that does not have its key
 pub mark_none : (key : ℕ) (mark : Bool) (xs : List Item) → find (is_at key) xs ≡ None → xs ≡ with_mark key mark xs
 mark_none key mark [] none = refl
 mark_none key mark (x ∷ xs) none = grind (arith, mark_none key mark xs)
 
--- all but the item of a key come before the key or behind it
-many_parted : (key : ℕ) (xs : List Item) → find (is_at key) xs ≡ None
-    → many (filter (low key) xs) + many (filter (high key) xs) ≡ many xs
-many_parted key [] absent = refl
-many_parted key (y ∷ ys) absent =
-    grind (arith, nat_tests, many_parted key ys, many-cons y ys, many-cons y (filter (low key) ys), many-cons y (filter (high key) ys))
-
 -- an item whose key is not there counts as one more where it is marked
-pub many_with : (x : Item) (xs : List Item) → find (is_at x.key) xs ≡ None
+pub many_with : (x : Item) (xs : List Item) → AreAscending xs → find (is_at x.key) xs ≡ None
     → many (with_item x xs) ≡ many xs + cond x.marked 1 0
-many_with x xs absent =
-    omega (arith, many-append (filter (low x.key) xs) (x ∷ filter (high x.key) xs), many-cons x (filter (high x.key) xs), many_parted x.key xs absent)
+many_with x xs rise absent =
+    let parts = absent_parts numbers_ordered (λ y. y.key) x.key xs (λ i j d less lt. grind (arith, nat_tests, rise i j d)) absent in
+    grind (arith, ap many parts, many-append, many-cons x (filter (high x.key) xs))
 
 -- what stands at a place stands first from there on
 slice_get-drop : (at : ℕ) (xs : List Item) → slice_get xs at ≡ slice_get (drop at xs) 0
@@ -95,15 +75,11 @@ before key (x ∷ xs) ahead =
     grind (arith, nat_tests, ahead 0 x, many-cons x xs, up_to-cons key x xs)
 
 -- and among items that do not, or that come behind it
-pub up_to_behind : (key : ℕ) (ys : List Item) → All (λ x. key ≤ x.key) ys → up_to key ys ≡ 0
-up_to_behind key [] from = refl
-up_to_behind key (y ∷ ys) from =
-    grind (arith, nat_tests, from 0 y, up_to_behind key ys (All-tail (λ x. key ≤ x.key) y ys from))
-
--- the first of them does not come before the key
-pub from_first : (key : ℕ) (ys : List Item) → All (λ x. key ≤ x.key) ys → find (is_from key) ys ≡ slice_get ys 0
-from_first key [] from = refl
-from_first key (y ∷ ys) from = grind (arith, nat_tests, from 0 y)
+pub from_on : (key : ℕ) (ys : List Item) → All (λ x. key ≤ x.key) ys
+    → (find (is_from key) ys ≡ slice_get ys 0) × (up_to key ys ≡ 0)
+from_on key [] from = (refl, refl)
+from_on key (y ∷ ys) from =
+    grind (arith, nat_tests, from 0 y, up_to-cons key y ys, from_on key ys (All-tail (λ x. key ≤ x.key) y ys from))
 
 behind : (key : ℕ) (ys : List Item) → AreBehind key ys
     → (find (is_at key) ys ≡ None) × (find (is_from key) ys ≡ slice_get ys 0) × (up_to key ys ≡ 0) × (filter (low key) ys ≡ []) × (filter (high key) ys ≡ ys)
@@ -122,9 +98,6 @@ module _ (key : ℕ) (xs run ys : List Item) (ahead : AreBefore key xs) (after :
   up_to_between =
       omega (arith, up_to-append key xs (run ++ ys), up_to-append key run ys, before key xs ahead, behind key ys after)
 
-  pub without_between : without key (xs ++ (run ++ ys)) ≡ xs ++ (without key run ++ ys)
-  without_between = grind (arith, filter-append, before key xs ahead, without_none, behind key ys after)
-
   pub mark_between : (mark : Bool) → with_mark key mark (xs ++ (run ++ ys)) ≡ xs ++ (with_mark key mark run ++ ys)
   mark_between mark = grind (arith, map-append, before key xs ahead, mark_none, behind key ys after)
 
@@ -137,12 +110,12 @@ with_between x xs run ys ahead after =
 -- where so many items come before the key, the first that does not is the next
 pub from_cut : {key : ℕ} {xs : List Item} {at : ℕ} → IsPlace (λ x. x.key) key xs at → find (is_from key) xs ≡ slice_get xs at
 from_cut {key} {xs} {at} place =
-    grind (arith, slice_get-drop at xs, ap (find (is_from key)) (take-append-drop at xs), find-append, before key (take at xs) (in_front place), from_first key (drop at xs) (from_there place))
+    grind (arith, slice_get-drop at xs, ap (find (is_from key)) (take-append-drop at xs), find-append, before key (take at xs) (in_front place), from_on key (drop at xs) (from_there place))
 
 -- and so many marked ones come before the key as are marked in front
 pub up_to_cut : {key : ℕ} {xs : List Item} {at : ℕ} → IsPlace (λ x. x.key) key xs at → up_to key xs ≡ many (take at xs)
 up_to_cut {key} {xs} {at} place =
-    omega (arith, ap (up_to key) (take-append-drop at xs), up_to-append key (take at xs) (drop at xs), before key (take at xs) (in_front place), up_to_behind key (drop at xs) (from_there place))
+    omega (arith, ap (up_to key) (take-append-drop at xs), up_to-append key (take at xs) (drop at xs), before key (take at xs) (in_front place), from_on key (drop at xs) (from_there place))
 
 -- the item of a key is marked where it stands
 pub mark_here : {key : ℕ} {xs : List Item} {at : ℕ} → AreAscending xs → IsHere (λ x. x.key) key xs at → (d : Item) (mark : Bool)

@@ -1,9 +1,9 @@
 -- An item that comes in, and a part that changes or is cut in two: what that is for all items.
-use Rattle.std.proofs.Common.{◌≡◌, ℕ, ◌+◌, ◌-◌, ◌<◌, ◌≤◌, Bool, true, false, List, [], ◌∷◌, ◌++◌, length, get_or, take, drop, refl, sym, ap, arith, add-one, ◌∙◌, length-set}
-use Rattle.std.specs.Prelude.{◌≢◌, ◌==◌, All, cond, filter, flat_map, if◌then◌else◌, insert, not, remove, set}
+use Rattle.std.proofs.Common.{◌≡◌, ℕ, ◌+◌, ◌-◌, ◌<◌, ◌≤◌, Bool, true, false, List, [], ◌∷◌, ◌++◌, length, get_or, take, drop, refl, ap, arith, add-one, length-set}
+use Rattle.std.specs.Prelude.{◌≢◌, ◌==◌, All, cond, filter, flat_map, if◌then◌else◌, insert, remove, set}
 use Rattle.std.specs.Int.{from_bool}
 use Rattle.std.proofs.lemmas.Bool.Decides.{nat_tests}
-use Rattle.std.proofs.lemmas.List.{append-nil, append_assoc, drop-set-lt, drop_at, get_or-append_right, get_or-map, get_or_append_left, length-append, length-drop, length-map, length-take-le}
+use Rattle.std.proofs.lemmas.List.{append-nil, append_assoc, drop-set-lt, drop_at, get_or-map, length-append, length-drop, length-map, length-take-le}
 use Rattle.std.proofs.lemmas.List.{nil_from_length, set_split, take-append-drop, take-set, take_at}
 use Rattle.std.proofs.lemmas.List.Concat.{flat_map-append}
 use Rattle.std.proofs.lemmas.List.Elements.{All-append, All-cons, All-drop, All-nil, All-take}
@@ -14,12 +14,9 @@ use Rattle.std.proofs.lemmas.List.Sums.{sum_by-remove}
 use Rattle.ksm_order.specs.declared.item.Item.{Item}
 use Rattle.ksm_order.specs.Listed.{AreAscending, AreBefore, AreBehind, AreParts, begins_behind, is_at, IsCounted, IsCut, IsPartOf, is_nothing, many, with_item, with_mark, without}
 use Rattle.ksm_order.proofs.Places.{with_rises}
-use Rattle.ksm_order.proofs.Between.{high, low, many_kept, many-append, mark_between, with_between, without_between}
+use Rattle.ksm_order.proofs.Between.{high, low, many-append, mark_between, with_between}
+use Rattle.ksm_order.proofs.Ordered.{numbers_ordered, without_between}
 use Rattle.ksm_order.proofs.Parts.{ahead_of, behind_of, cut, front, halves_rise, rest}
-
--- without a key no more are marked
-pub many_without : (key : ℕ) (xs : List Item) → many (without key xs) ≤ many xs
-many_without key = many_kept (λ y. not (is_at key y))
 
 -- a test as a number is 1 where it passes and 0 where it does not
 pub byte_of : (b : Bool) → from_bool b ≡ cond b 1 0
@@ -32,31 +29,14 @@ pub removed_counted : {xs : List Item} {n : ℕ} → IsCounted xs n → (at : �
     → (from_bool x.marked ≤ n) × (n - from_bool x.marked ≡ many (remove xs at))
 removed_counted {xs = xs} is at {x = x} within stood = grind (arith, sum_by-remove (λ (y : Item). cond y.marked 1 0) xs at x within, byte_of x.marked)
 
--- two lists in order make one in order where each item of the first comes before each of the second
-rises_append : (xs ys : List Item) → AreAscending xs → AreAscending ys
-    → ((i j : ℕ) (d : Item) → i < length xs → j < length ys → (get_or xs i d).key < (get_or ys j d).key)
-    → AreAscending (xs ++ ys)
-rises_append xs ys first second cross i j d less lt =
-    let n = length xs in
-    grind (arith, first i j d, second (i - n) (j - n) d, cross i (j - n) d, get_or_append_left xs ys d, get_or-append_right xs ys n i d refl, get_or-append_right xs ys n j d refl, length-append xs ys)
-
--- a list in order stays in order where some are left out
-pub filter_rises : (p : Item → Bool) (xs : List Item) → AreAscending xs → AreAscending (filter p xs)
-filter_rises = AllPairs-filter (λ x y. x.key < y.key)
-
 -- a list in order that is cut in two, with how many of both are marked
 counted_halves : {xs : List Item} {n : ℕ} (ys zs : List Item) → IsCounted xs n → ys ++ zs ≡ xs
     → (many zs ≤ n) × IsCounted ys (n - many zs) × IsCounted zs (many zs)
 counted_halves ys zs is whole =
-    let rise = halves_rise ys zs (rw whole is.ascending) in
-    let counted = sym (ap many whole) ∙ many-append ys zs in (
-      omega arith,
-      record { ascending = rise.0; counted = omega arith },
-      record { ascending = rise.1; counted = refl },
-    )
+    grind (arith, halves_rise ys zs (rw whole is.ascending), ap many whole, many-append ys zs)
 
 -- the same at a place
-pub counted_cut : {xs : List Item} {n : ℕ} → IsCounted xs n → (at : ℕ)
+pub counted_cut : {xs : List Item} {n : ℕ} (is : IsCounted xs n) (at : ℕ)
     → (many (drop at xs) ≤ n) × IsCounted (take at xs) (n - many (drop at xs)) × IsCounted (drop at xs) (many (drop at xs))
 counted_cut {xs = xs} is at = counted_halves (take at xs) (drop at xs) is (take-append-drop at xs)
 
@@ -103,21 +83,12 @@ module _ {P : Type 0} {f : P → List Item} {parts : List P} {n : ℕ} (are : Ar
   pub parts_cut : AreParts f (take at parts) × AreParts f (drop at parts) × (many (flat_map f (drop at parts)) ≤ n)
       × IsCounted (flat_map f (take at parts)) (n - many (flat_map f (drop at parts))) × IsCounted (flat_map f (drop at parts)) (many (flat_map f (drop at parts)))
   parts_cut =
-      let halves = counted_halves (flat_map f (take at parts)) (flat_map f (drop at parts)) are.1 whole in (
-        record { filled = All-take (Full f) at parts are.0.filled; ascending = halves.1.ascending },
-        record { filled = All-drop (Full f) at parts are.0.filled; ascending = halves.2.ascending },
-        halves.0,
-        halves.1,
-        halves.2,
-      )
+      grind (arith, counted_halves (flat_map f (take at parts)) (flat_map f (drop at parts)) are.1 whole, All-take (Full f) at parts are.0.filled, All-drop (Full f) at parts are.0.filled)
 
   pub items_cut : 0 < at → at < length parts
       → IsCut (flat_map f parts) (flat_map f (take at parts)) (flat_map f (drop at parts))
-  items_cut some within = record {
-    whole = sym whole;
-    front_filled = some_items f (take at parts) parts_cut.0.filled (grind (arith, length-take-le at parts));
-    back_filled = some_items f (drop at parts) parts_cut.1.filled (grind (arith, length-drop at parts));
-  }
+  items_cut some within =
+      grind (arith, whole, parts_cut, some_items f (take at parts), some_items f (drop at parts), length-take-le at parts, length-drop at parts)
 
 -- a change that touches only what lies between the items in front of a key and those behind it, and keeps the order
 pub record IsLocal (key : ℕ) (h : List Item → List Item) : Type 0 where
@@ -137,7 +108,11 @@ local_mark key mark =
     record { between = λ xs run ys ahead after. mark_between key xs run ys ahead after mark; rises = mark_rises key mark }
 
 pub local_without : (key : ℕ) → IsLocal key (without key)
-local_without key = record { between = without_between key; rises = filter_rises (λ y. not (is_at key y)) }
+local_without key = record {
+  between = λ xs run ys ahead after. without_between numbers_ordered (λ y. y.key) key xs run ys
+      (λ k d lt. grind (arith, nat_tests, ahead k d)) (λ k d lt. grind (arith, nat_tests, after k d));
+  rises = AllPairs-filter (λ x y. x.key < y.key) _;
+}
 
 -- a list with an item put in is not empty, nor is one that was none with a mark
 pub with_filled : (x : Item) (xs : List Item) → with_item x xs ≢ []
@@ -155,14 +130,8 @@ module _ {P : Type 0} {f : P → List Item} {key : ℕ} {parts : List P} {at : �
       let later = drop (at + 1) parts in
       let old = cut f parts at place.within is in
       let now : flat_map f all ≡ front f parts at ++ (flat_map f news ++ rest f parts at) = grind (arith, whole, flat_map-append) in
-      let items : flat_map f all ≡ h (flat_map f parts) = grind (arith, local.between (front f parts at) (f q) (rest f parts at) place.ahead place.behind) in (
-        record {
-          filled = rw whole (All-append (Full f) (take at parts) (news ++ later) (All-take (Full f) at parts are.filled) (All-append (Full f) news later filled (All-drop (Full f) (at + 1) parts are.filled)));
-          ascending = rw items (local.rises _ are.ascending);
-        },
-        items,
-        grind (arith, many-append),
-      )
+      let each = All-append (Full f) (take at parts) (news ++ later) (All-take (Full f) at parts are.filled) (All-append (Full f) news later filled (All-drop (Full f) (at + 1) parts are.filled)) in
+      grind (arith, whole, each, local.between (front f parts at) (f q) (rest f parts at) place.ahead place.behind, local.rises _ are.ascending, many-append)
 
   -- one part in its place
   pub set_part : {p : P} → f p ≡ h (f q) → h (f q) ≢ []
@@ -174,11 +143,7 @@ pub same_part : {P : Type 0} {f : P → List Item} {key : ℕ} {parts : List P} 
     → IsPartOf f key parts at → q ≡ get_or parts at q → f p ≡ f q
     → AreParts f (set parts at p) × (flat_map f (set parts at p) ≡ flat_map f parts) × IsPartOf f key (set parts at p) at
 same_part {f = f} {key = key} {parts = parts} {at = at} {q = q} {p = p} are place is same =
-    let set = set_part are place is (local_none key) same (grind (arith, are.filled at q)) in (
-      set.0,
-      set.1,
-      record { within = grind (arith, length-set); ahead = grind (arith, take-set); behind = grind (arith, drop-set-lt) },
-    )
+    grind (arith, set_part are place is (local_none key) same (grind (arith, are.filled at q)), length-set, take-set, drop-set-lt)
 
 -- a part that is cut in two
 module _ {P : Type 0} {f : P → List Item} {key : ℕ} {parts : List P} {at : ℕ} {q p m : P} (are : AreParts f parts) (place : IsPartOf f key parts at) (is : q ≡ get_or parts at q) (halves : IsCut (f q) (f p) (f m)) where
@@ -199,15 +164,9 @@ module _ {P : Type 0} {f : P → List Item} {key : ℕ} {parts : List P} {at : �
 
   -- the key is in the first half where the second begins behind it, and else in the second
   pub into_first : begins_behind key (f m) ≡ true → IsPartOf f key two at
-  into_first begins = record {
-    within = omega (arith, there.0);
-    ahead = grind (arith, two_is, take_at (take at parts) (p ∷ m ∷ drop (at + 1) parts) at, length-take-le at parts);
-    behind = behind_of f two (at + 1) there.0 there.1 key split.0 begins;
-  }
+  into_first begins =
+      grind (arith, there, two_is, take_at (take at parts) (p ∷ m ∷ drop (at + 1) parts) at, length-take-le at parts, behind_of f two (at + 1) there.0 there.1 key split.0 begins)
 
   pub into_second : begins_behind key (f m) ≡ false → IsPartOf f key two (at + 1)
-  into_second from = record {
-    within = there.0;
-    ahead = ahead_of f two (at + 1) there.0 there.1 key split.0 from;
-    behind = grind (arith, two_is, drop_at (take at parts ++ (p ∷ m ∷ [])) (drop (at + 1) parts) (at + 1 + 1), length-take-le at parts, length-append, append_assoc);
-  }
+  into_second from =
+      grind (arith, ahead_of f two (at + 1) there.0 there.1 key split.0 from, there, two_is, drop_at (take at parts ++ (p ∷ m ∷ [])) (drop (at + 1) parts) (at + 1 + 1), length-take-le at parts, length-append, append_assoc)

@@ -1,44 +1,23 @@
 -- One more element of a list, and those behind it moved up by one: it is put in.
-use Rattle.std.proofs.Common.{◌≡◌, ℕ, ◌+◌, ◌-◌, ◌<◌, ◌≤◌, List, [], ◌∷◌, ◌++◌, add-one, ap, ap₂, arith, drop, get_or, length, sym, take, ◌∙◌}
+use Rattle.std.proofs.Common.{◌≡◌, ℕ, ◌+◌, ◌-◌, ◌<◌, ◌≤◌, List, [], ◌∷◌, ◌++◌, add-one, ap, arith, drop, get_or, length, sym, take, ◌∙◌}
 use Rattle.std.specs.Prelude.{insert, remove, set}
 use Rattle.std.specs.List.{copy_within}
 use Rattle.std.proofs.Math.Seq.{take-append_seam, take-suc}
-use Rattle.std.proofs.lemmas.List.{append-nil, append_assoc, drop-drop, drop-take, drop_all, length-append, length-drop, length-take-le, set_at, take-append-le, take_rest}
+use Rattle.std.proofs.lemmas.List.{append-nil, append_assoc, drop-drop, drop-take, drop_all, length-append, length-drop, length-take-le, set_at, take-append-le}
 
 -- one more behind a list, the elements from an index on moved up by one, and that one written there: it is put in
 pub moved_up : {X : Type 0} (xs : List X) (at : ℕ) (x : X) → at ≤ length xs → set (copy_within (xs ++ x ∷ []) at (length xs) (at + 1)) at x ≡ insert xs at x
 moved_up xs at x within =
     let l = xs ++ x ∷ [] in
     let many = length-append xs (x ∷ []) in
-    let front =
-    ap (λ n. take n l) (add-one at) ∙ take-suc l at x (omega arith) ∙ ap (λ ys. ys ++ get_or l at x ∷ []) (take-append-le at xs (x ∷ []) within) in
-    let back =
+    let back : take (length xs - at) (drop at l) ≡ drop at xs =
     sym (drop-take at _ l) ∙ ap (λ n. drop at (take n l)) (omega arith) ∙ ap (drop at) (take-append_seam xs (x ∷ [])) in
-    ap (λ ys. set ys at x) (ap₂ (λ a b. a ++ b) (ap₂ (λ a b. a ++ b) front back) (drop_all _ l (omega arith))
-    ∙ append-nil ((take at xs ++ get_or l at x ∷ []) ++ drop at xs)
-    ∙ append_assoc (take at xs) (get_or l at x ∷ []) (drop at xs))
-    ∙ set_at (take at xs) (get_or l at x) (drop at xs) x at (length-take-le at xs within)
-
--- those behind an element moved down by one, over it, without the last: the element is taken out
-pub moved_down : {X : Type 0} (xs : List X) (at : ℕ) → at < length xs
-    → take (length xs - 1) (copy_within xs (at + 1) (length xs) at) ≡ remove xs at
-moved_down xs at within =
-    let kept = take at xs ++ drop (at + 1) xs in
-    let back = drop (at + (length xs - (at + 1))) xs in
-    let long : length xs - 1 ≡ length kept = grind (arith, length-append (take at xs) (drop (at + 1) xs), length-take-le at xs, length-drop (at + 1) xs) in
-    (λ i. take (long i) ((take at xs ++ take_rest xs (at + 1) i) ++ back))
-    ∙ take-append_seam kept back
-    ∙ λ i. take at xs ++ drop (add-one at i) xs
+    grind (arith, back, add-one at, take-suc l at x, take-append-le at xs (x ∷ []), drop_all, append-nil, append_assoc, set_at (take at xs) (get_or l at x) (drop at xs) x at (length-take-le at xs within))
 
 -- the elements from one on turned by it, without the last: the element is taken out
 pub turned_down : {X : Type 0} (xs : List X) (at : ℕ) → at < length xs
     → take (length xs - 1) (take at xs ++ (drop 1 (drop at xs) ++ take 1 (drop at xs))) ≡ remove xs at
 turned_down xs at within =
-    let rest = drop at xs in
-    let behind : drop 1 rest ≡ drop (at + 1) xs = drop-drop 1 at xs in
     let kept = take at xs ++ drop (at + 1) xs in
     let long : length xs - 1 ≡ length kept = grind (arith, length-append (take at xs) (drop (at + 1) xs), length-take-le at xs, length-drop (at + 1) xs) in
-    (λ i. take (long i) (take at xs ++ (behind i ++ take 1 rest)))
-    ∙ ap (take (length kept)) (sym (append_assoc (take at xs) (drop (at + 1) xs) (take 1 rest)))
-    ∙ take-append_seam kept (take 1 rest)
-    ∙ λ i. take at xs ++ drop (add-one at i) xs
+    grind (arith, drop-drop 1 at xs, append_assoc, take-append_seam kept (take 1 (drop at xs)), add-one at)

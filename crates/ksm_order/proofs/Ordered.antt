@@ -40,10 +40,6 @@ pub any_found : {X : Type 0} (p : X → Bool) (xs : List X) → list_any p xs �
 any_found p [] = refl
 any_found p (x ∷ xs) = grind (arith, any_found p xs)
 
--- an option that is not full is empty
-pub none_of : {X : Type 0} (found : Option X) → is_some found ≡ false → found ≡ None
-none_of found none = grind arith
-
 -- where no element passes a test, a search by that test finds nothing
 pub none_found : {X : Type 0} (p : X → Bool) (xs : List X) → list_any p xs ≡ false → find p xs ≡ None
 none_found p xs none = grind (arith, any_found)

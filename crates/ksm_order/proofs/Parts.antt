@@ -9,7 +9,7 @@ use Rattle.std.proofs.lemmas.List.Elements.{filter-append}
 use Rattle.std.proofs.lemmas.List.Sums.{length-filter}
 use Rattle.ksm_order.specs.declared.item.Item.{Item}
 use Rattle.ksm_order.specs.Listed.{AreAscending, AreBefore, AreBehind, AreParts, begins_behind, is_at, is_from, IsPartOf, key_at, many, marked, up_to}
-use Rattle.ksm_order.proofs.Between.{find_between, from_between, from_first, many-append, many-cons, up_to-cons, up_to_between}
+use Rattle.ksm_order.proofs.Between.{find_between, from_between, from_on, many-append, many-cons, up_to-cons, up_to_between}
 
 -- no more marked ones come before a key than are marked
 pub up_to_few : (key : ℕ) (xs : List Item) → up_to key xs ≤ many xs
@@ -127,7 +127,7 @@ module _ {P : Type 0} {f : P → List Item} {key : ℕ} {parts : List P} {at : �
       let later = rest f parts (at + 1) in
       let whole = from_cut f parts (at + 1) next there in
       let after : AreBehind key (run ++ later) = rw whole at place.behind in
-      grind (arith, first_of run later, are.filled (at + 1) p, from_first key run (λ k c lt. grind (arith, after k c, length-append run later, get_or_append_left run later c k)))
+      grind (arith, first_of run later, are.filled (at + 1) p, from_on key run (λ k c lt. grind (arith, after k c, length-append run later, get_or_append_left run later c k)))
 
 -- what a part says of all
 pub ruleset steps = (find_in_part, many_front)

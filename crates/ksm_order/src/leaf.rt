@@ -63,6 +63,7 @@ fn place_by(items: &[Item], guess: usize, key: u64) -> usize
 }
 
 /// Where the item of a key stands.
+#[tactic(auto, using(crate::proofs::Ordered::none_found))]
 #[inline(always)]
 fn position(items: &[Item], guess: usize, key: u64) -> Option<usize>
     requires { AreAscending items.now }

@@ -1,6 +1,5 @@
 //! The place of a key in a list whose keys do not fall. And items in the order of their keys, each marked or not, with
-//! rank: how many marked items stand before a key, and which is the one at a place. A tree of fixed height, of which the
-//! height is its type.
+//! rank: how many marked items stand before a key, and which is the one at a place. A tree whose height is its type.
 #![tactic(auto)]
 
 mod item;

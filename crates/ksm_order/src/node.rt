@@ -49,6 +49,7 @@ impl<P: Part> Node<P> {
 
 /// Whether it is known that no part in front of one has items of a key or behind it.
 #[inline(always)]
+#[tactic(auto, using(crate::proofs::Parts::ahead_of))]
 fn reaches_back<P: Part>(parts: &[P], at: usize, key: u64) -> bool
     requires parts { AreParts P.items parts.now }
     requires within { at < length parts.now }
@@ -59,6 +60,7 @@ fn reaches_back<P: Part>(parts: &[P], at: usize, key: u64) -> bool
 
 /// Whether it is known that no part behind one has items of a key or before it.
 #[inline(always)]
+#[tactic(auto, using(crate::proofs::Parts::behind_of))]
 fn reaches_on<P: Part>(parts: &[P], at: usize, key: u64) -> bool
     requires parts { AreParts P.items parts.now }
     requires within { at < length parts.now }
@@ -230,7 +232,7 @@ fn put<P: Part>(
 }
 
 /// Takes the item of a key out of a part, and answers how many items fewer are marked.
-#[tactic(auto, using(crate::proofs::Changes::many_without))]
+#[tactic(auto, using(ksm_base::proofs::Edits::count_filter_le))]
 fn remove_from<P: Part>(part: &mut P, key: u64) -> usize
     ensures removed { P.items part.new ≡ without key (P.items part.old) }
     ensures fewer { result + many (P.items part.new) ≡ many (P.items part.old) }
@@ -307,6 +309,7 @@ impl<P: Part> Part for Node<P> {
         Ok(node)
     }
 
+    #[tactic(auto, using(crate::proofs::Between::many_with, crate::proofs::Changes::byte_of))]
     fn insert(&mut self, item: Item) -> Result<(), AllocError> {
         // No memory holds more items than can be counted.
         let Some(count) = self.count.checked_add(usize::from(item.marked)) else {
@@ -327,6 +330,7 @@ impl<P: Part> Part for Node<P> {
         self.count = self.count - was + is;
     }
 
+    #[tactic(auto, using(crate::proofs::Changes::nothing_of_parts))]
     fn is_empty(&self) -> bool {
         self.parts.is_empty()
     }

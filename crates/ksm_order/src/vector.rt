@@ -14,8 +14,8 @@ pub fn insert_at<T: Copy>(items: &mut Vec<T>, at: usize, item: T) -> Result<(), 
     Ok(())
 }
 
-// More elements than so many are moved by `memmove`, whose call is dear for fewer. The `insert` and `remove` of the kit's
-// vectors always call it.
+// More elements than so many are moved by `memmove`, whose call is dear for fewer. The kit's vectors always call it for
+// `insert` and `remove`.
 const FAR: usize = 48;
 
 /// The last element comes to stand at an index, and those from there on move up by one.

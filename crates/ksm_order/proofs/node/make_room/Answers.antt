@@ -1,4 +1,4 @@
-use Rattle.std.proofs.Common.{sym, ◌∙◌, arith}
+use Rattle.std.proofs.Common.{arith}
 use Rattle.ksm_order.specs.Listed.{AreParts, IsPartOf}
 use Rattle.ksm_order.proofs.Changes.{into_first, into_second, same_part, split}
 use Rattle.ksm_order.proofs.node.make_room.Goals as goal
@@ -13,33 +13,21 @@ place g c = rw c.in_ok-reserve.ensures.items c.requires.place
 pub returns-in_err-more : goal.returns-in_err-more
 returns-in_err-more g c =
     let s = (goal.at.returns-in_err-more g c).After-spill in
-    let kept = same_part (are g s) (place g s) c.index_mut.ensures.value c.in_err-more.ensures.failed in
-    record { parts = kept.0; items = grind (arith, c.in_ok-reserve.ensures.items); place = grind arith }
+    grind (arith, c.in_ok-reserve.ensures.items, same_part (are g s) (place g s) c.index_mut.ensures.value c.in_err-more.ensures.failed)
 
 pub returns-in-None : goal.returns-in-None
 returns-in-None g c =
     let s = (goal.at.returns-in-None g c).After-spill in
-    let kept = same_part (are g s) (place g s) c.index_mut.ensures.value (rw c.in-None.is at c.in_ok-more.ensures.kept) in
-    record { parts = kept.0; items = grind (arith, c.in_ok-reserve.ensures.items); place = kept.2 }
+    grind (arith, c.in_ok-reserve.ensures.items, same_part (are g s) (place g s) c.index_mut.ensures.value (rw c.in-None.is at c.in_ok-more.ensures.kept))
 
 pub returns-then-behind : goal.returns-then-behind
 returns-then-behind g c =
     let s = (goal.at.returns-then-behind g c).After-spill in
     let cut = rw c.in-Some.is at c.in_ok-more.ensures.cut in
-    let both = split (are g s) (place g s) c.index_mut.ensures.value cut in
-    record {
-      parts = rw c.in_ok-insert.ensures.items both.0;
-      items = grind (arith, c.in_ok-insert.ensures.items, c.in_ok-reserve.ensures.items);
-      place = rw c.in_ok-insert.ensures.items (into_first (are g s) (place g s) c.index_mut.ensures.value cut (sym c.begins_behind-behind.ensures ∙ c.if-behind.true));
-    }
+    grind (arith, c.in_ok-insert.ensures.items, c.in_ok-reserve.ensures.items, split (are g s) (place g s) c.index_mut.ensures.value cut, into_first (are g s) (place g s) c.index_mut.ensures.value cut)
 
 pub returns-else-behind : goal.returns-else-behind
 returns-else-behind g c =
     let s = (goal.at.returns-else-behind g c).After-spill in
     let cut = rw c.in-Some.is at c.in_ok-more.ensures.cut in
-    let both = split (are g s) (place g s) c.index_mut.ensures.value cut in
-    record {
-      parts = rw c.in_ok-insert.ensures.items both.0;
-      items = grind (arith, c.in_ok-insert.ensures.items, c.in_ok-reserve.ensures.items);
-      place = rw c.in_ok-insert.ensures.items (into_second (are g s) (place g s) c.index_mut.ensures.value cut (sym c.begins_behind-behind.ensures ∙ c.if-behind.false));
-    }
+    grind (arith, c.in_ok-insert.ensures.items, c.in_ok-reserve.ensures.items, split (are g s) (place g s) c.index_mut.ensures.value cut, into_second (are g s) (place g s) c.index_mut.ensures.value cut)

@@ -4,10 +4,8 @@ use Rattle.ksm_order.proofs.node.put_in.Goals as goal
 
 pub returns-in_err-insert : goal.returns-in_err-insert
 returns-in_err-insert g c =
-    let kept = same_part c.requires.parts c.requires.place c.index_mut.ensures.value c.in_err-insert.ensures.kept in
-    record { parts = kept.0; added = grind arith; kept = grind arith }
+    grind (arith, same_part c.requires.parts c.requires.place c.index_mut.ensures.value c.in_err-insert.ensures.kept)
 
 pub returns : goal.returns
 returns g c =
-    let put = set_part c.requires.parts c.requires.place c.index_mut.ensures.value (local_with c.args.item) c.in_ok-insert.ensures.added (search with_filled) in
-    record { parts = put.0; added = put.1; kept = tt }
+    grind (arith, set_part c.requires.parts c.requires.place c.index_mut.ensures.value (local_with c.args.item) c.in_ok-insert.ensures.added (search with_filled))

@@ -10,8 +10,4 @@ returns g c =
     let split : IsPartitionedBy (λ x. nat_lt (g.T.Keyed.key_of x) c.args.key) c.args.items.now = λ i j d le lt later. grind (arith, nat_tests, c.requires i j d) in
     let point = IsPartitionPoint-from_clause (λ x. nat_lt (g.T.Keyed.key_of x) c.args.key) _ _
     c.partition_point.ensures.partitioned split (λ a r q k. search rules) in
-    record {
-      within = c.partition_point.ensures.bound;
-      ahead = λ k d start lt. grind (arith, point.0 k d start lt, nat_tests);
-      behind = λ k d start lt. grind (arith, point.1 k d start lt, nat_tests);
-    }
+    grind (arith, c.partition_point.ensures.bound, point, nat_tests)

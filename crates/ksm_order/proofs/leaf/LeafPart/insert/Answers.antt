@@ -14,10 +14,7 @@ added c =
 
 pub invariant_of-self-2 : goal.invariant_of-self-2
 invariant_of-self-2 c =
-    record {
-      ascending = rw (added c) (with_rises (λ y. y.key) c.args.item _ c.self.invariant.ascending);
-      counted = grind (arith, added c, many_with c.args.item c.self.inside.items.items, byte_of);
-    }
+    grind (arith, added c, with_rises (λ y. y.key) c.args.item _ c.self.invariant.ascending, many_with c.args.item c.self.inside.items.items c.self.invariant.ascending, byte_of)
 
 pub returns-clause-added : goal.returns-clause-added
 returns-clause-added c = rw (← c.self.view_is) (added c)

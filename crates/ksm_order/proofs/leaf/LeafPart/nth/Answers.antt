@@ -6,11 +6,7 @@ use Rattle.ksm_order.proofs.Between.{all_marked}
 use Rattle.ksm_order.proofs.leaf.LeafPart.nth.Goals as goal
 
 pub returns-then-place-items : goal.returns-then-place-items
-returns-then-place-items c =
-    let xs = c.self.inside.items.items in
-    rw (← c.self.view_is) (grind (arith, slice_get-get_or, all_marked xs, count_by-le-length (λ (x : Item). x.marked) xs))
+returns-then-place-items c = grind (arith, slice_get-get_or, all_marked, count_by-le-length (λ (x : Item). x.marked))
 
 pub returns-else-place-items : goal.returns-else-place-items
-returns-else-place-items c =
-    let xs = c.self.inside.items.items in
-    rw (← c.self.view_is) (grind (arith, slice_get_past, all_marked xs, count_by-le-length (λ (x : Item). x.marked) xs))
+returns-else-place-items c = grind (arith, slice_get_past, all_marked, count_by-le-length (λ (x : Item). x.marked))

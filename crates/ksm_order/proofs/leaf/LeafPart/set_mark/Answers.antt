@@ -4,7 +4,7 @@ use Rattle.ksm_order.proofs.leaf.LeafPart.set_mark.Goals as goal
 
 pub returns-in-Some : goal.returns-in-Some
 returns-in-Some c =
-    rw (← c.self.view_is) (grind (arith, mark_here c.self.invariant.ascending (rw c.as_slice.ensures.value at c.in-Some.ensures.here) c.index_mut.result.now c.args.mark))
+    grind (arith, mark_here c.self.invariant.ascending (rw c.as_slice.ensures.value at c.in-Some.ensures.here) c.index_mut.result.now c.args.mark)
 
 pub returns-in_default : goal.returns-in_default
-returns-in_default c = rw (← c.self.view_is) (grind (arith, mark_none c.args.key c.args.mark c.self.inside.items.items))
+returns-in_default c = grind (arith, mark_none c.args.key c.args.mark)
