@@ -11,10 +11,6 @@ key_of page = page.guest * 2 ^ 32 + page.page
 abbrev pub page_of : ℕ → GuestPage
 page_of key = record { guest = key / 2 ^ 32; page = key % 2 ^ 32 }
 
--- the keys ascend, so no key stands twice
-abbrev pub AreKeysAscending : List ℕ → Type 0
-AreKeysAscending keys = AllPairs (λ k l. k < l) keys
-
 -- the keys with this one among them, at its place in the order
 abbrev pub with_key : ℕ → List ℕ → List ℕ
 with_key key keys = filter (λ k. nat_lt k key) keys ++ key ∷ filter (λ k. nat_lt key k) keys
@@ -23,8 +19,8 @@ with_key key keys = filter (λ k. nat_lt k key) keys ++ key ∷ filter (λ k. na
 abbrev pub without_key : ℕ → List ℕ → List ℕ
 without_key key keys = filter (λ k. not (k == key)) keys
 
--- the keys of the items of a dup
+-- the keys of the items of a dup: they ascend, so none stands twice
 pub record AreKeys (keys : List ℕ) : Type 0 where
-  pub ascending : AreKeysAscending keys
+  pub ascending : AllPairs (λ k l. k < l) keys
   pub small : All (λ k. k < 2 ^ 48) keys
   pub few : length keys ≤ MOST_REFERENCES

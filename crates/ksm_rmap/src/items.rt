@@ -6,7 +6,7 @@ ghost use Rattle.std.specs.List.{list_any};
 ghost use Rattle.ksm_base.specs.declared.limits.TheConstants.{MOST_REFERENCES};
 ghost use Rattle.ksm_base.specs.declared.page.GuestPage.{GuestPage};
 ghost use Rattle.ksm_rmap.specs.Items.{AreAscending, has_item, with_item, without_item};
-ghost use Rattle.ksm_rmap.specs.Keys.{AreKeysAscending, page_of};
+ghost use Rattle.ksm_rmap.specs.Keys.{page_of};
 
 use crate::key::{key_of, page_of};
 use ksm_base::{Fault, GuestPage};
@@ -89,6 +89,7 @@ impl Items {
     }
 
     /// How many pages there are.
+    #[tactic(auto, using(crate::proofs::Keys::pages_rise))]
     pub fn len(&self) -> usize
         ensures count { result ≡ length self.now }
         ensures few { result ≤ MOST_REFERENCES }

@@ -1,11 +1,10 @@
-use Rattle.std.proofs.Common.{◌≡◌, ◌∙◌, ◌<◌, ◌^◌, ap, arith, false, length, map, sym, ℕ}
+use Rattle.std.proofs.Common.{◌≡◌, ◌∙◌, ◌<◌, ◌^◌, arith, length, ℕ}
 use Rattle.std.specs.Prelude.{◌==◌, insert}
-use Rattle.std.specs.List.{list_any, refill}
+use Rattle.std.specs.List.{refill}
 use Rattle.std.proofs.lemmas.List.{length-map}
 use Rattle.std.proofs.lemmas.List.Edits.{length-insert}
 use Rattle.std.proofs.lemmas.List.Elements.{All-append, All-cons, All-filter}
-use Rattle.ksm_rmap.specs.Items.{has_item, with_item}
-use Rattle.ksm_rmap.specs.Keys.{page_of, with_key}
+use Rattle.ksm_rmap.specs.Keys.{with_key}
 use Rattle.ksm_rmap.proofs.Keys.{has_by_key, with_by_key}
 use Rattle.ksm_base.proofs.Edits.{find_none}
 use Rattle.ksm_order.specs.Places.{IsPlace}
@@ -19,10 +18,7 @@ put : (c : goal.After-self-1) → c.move_last.new.items ≡ insert c.self.inside
 put c = c.move_last.ensures c.self.inside.keys.items c.key_of-key.result (c.as_mut_slice.ensures.value ∙ c.in_ok-push.ensures.ok)
 
 long : (c : goal.After-self-1) → length c.move_last.new.items ≡ length c.push.new.self.items
-long c =
-    ap length (put c)
-    ∙ length-insert c.self.inside.keys.items c.place_near_end-at.result c.key_of-key.result (rw (sym c.as_slice.ensures) c.place_near_end-at.ensures.within)
-    ∙ sym c.in_ok-push.ensures.len
+long c = grind (arith, put c, length-insert, c.in_ok-push.ensures.len)
 
 -- it was not there, as its page was not, so it stands behind those before it
 added : (c : goal.After-self-1)
@@ -30,12 +26,11 @@ added : (c : goal.After-self-1)
 added c =
     let keys = c.self.inside.keys.items in
     let key = c.key_of-key.result in
-    let absent : list_any (λ k. k == key) keys ≡ false = rw c.key_of-key.ensures.key
-    (sym (has_by_key c.args.page c.key_of-key.ensures.few _) ∙ ap (has_item c.args.page) c.self.view_is ∙ c.requires.absent) in
+    let absent = none_found (λ k. k == key) keys (grind (arith, has_by_key c.args.page c.key_of-key.ensures.few, c.requires.absent)) in
     let place : IsPlace (λ k. k) key keys c.place_near_end-at.result = rw c.as_slice.ensures at c.place_near_end-at.ensures in
     refilled c.push.new.self.items c.move_last.new.items (long c)
     ∙ put c
-    ∙ insert_here place key (find_none (λ k. k == key) keys (none_found (λ k. k == key) keys absent))
+    ∙ insert_here place key (find_none (λ k. k == key) keys absent)
 
 pub invariant_of-self-2 : goal.invariant_of-self-2
 invariant_of-self-2 c =
@@ -45,20 +40,9 @@ invariant_of-self-2 c =
       ascending = rw (added c) (with_rises (λ k. k) key _ c.self.invariant.ascending);
       small = rw (added c) (All-append Small _ _ (All-filter _ Small _ c.self.invariant.small)
           (All-cons Small key _ c.key_of-key.ensures.small (All-filter _ Small _ c.self.invariant.small)));
-      few = omega (
-        arith,
-        ap length (refilled c.push.new.self.items c.move_last.new.items (long c)),
-        long c,
-        c.in_ok-push.ensures.len,
-        length-map c.self.inside.keys.items page_of,
-        ap length c.self.view_is,
-        c.requires.fewer,
-      );
+      few = grind (arith, refilled c.push.new.self.items c.move_last.new.items (long c), long c, c.in_ok-push.ensures.len, length-map, c.requires.fewer);
     }
 
 pub returns-clause-added : goal.returns-clause-added
 returns-clause-added c =
-    ap (map page_of) (added c)
-    ∙ ap (λ n. map page_of (with_key n c.self.inside.keys.items)) c.key_of-key.ensures.key
-    ∙ with_by_key c.args.page c.key_of-key.ensures.few c.self.inside.keys.items
-    ∙ ap (with_item c.args.page) c.self.view_is
+    grind (arith, added c, with_by_key c.args.page c.key_of-key.ensures.few)
