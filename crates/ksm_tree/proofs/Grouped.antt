@@ -71,12 +71,9 @@ module _ (t : ℕ) (b : List ℕ) where
       elim (cases_Bool (of_it r)) [
         | inl inside ↦
             let none = count_none leader rows (λ k d lt. grind (arith, (first k d lt).0, group_own (get_or rows k d) r)) in
-            let behind = list_all-from_AllPass (λ e. not (same_group r e) || nat_le r.place e.place) rows
-            (λ k d lt. grind (arith, (first k d lt).0)) in
-            grind (arith, count_more of_it)
+            grind (arith, count_more of_it, list_all-from_AllPass (λ e. not (same_group r e) || nat_le r.place e.place) rows (λ k d lt. grind (arith, (first k d lt).0)))
         | inr outside ↦
-            let alike = count_alike leader (λ d. of_it d && leads_group rows d) rows
-            (λ k e lt. grind (arith, group_own (get_or rows k e) r)) in
+            let alike = count_alike leader (λ d. of_it d && leads_group rows d) rows (λ k e lt. grind (arith, group_own (get_or rows k e) r)) in
             grind (arith, count_more of_it, one_leads rows (pairs_tail Lower r rows rise))
       ]
 

@@ -1,10 +1,11 @@
 -- The best dup to join: a walk over a group, keeping the better of two, ends at the one that the definition chooses of all.
-use Rattle.ksm_tree.proofs.Names.{add-one, All, All-filter, All-map, ap, ArePlacesToJoin, arith, best_of, Bool, candidate_of, cases_Bool, cond, drop, drop-cons, Dup, dup_at, false, filter, filter_map}
+use Rattle.ksm_tree.proofs.Names.{All, All-filter, All-map, ap, ArePlacesToJoin, arith, best_of, Bool, candidate_of, cases_Bool, cond, drop, Dup, dup_at, false, filter, filter_map}
 use Rattle.ksm_tree.proofs.Names.{filter_passes, find, get_or, group_places, if◌then◌else◌, in_group, inl, InPlaceOrder, inr, is_no_worse, is_open, items_in, length, List, list_all, map, may_join}
 use Rattle.ksm_tree.proofs.Names.{nat_le, nat_lt, nat_tests, None, not, Option, pairs_head, pairs_tail, refl, rows_of, Some, suc, sym, true, zero, ℕ, [], ◌%◌, ◌&&◌, ◌+◌, ◌-◌, Lower, ◌<◌, ◌==◌, ◌^◌}
 use Rattle.ksm_tree.proofs.Names.{◌||◌, ◌∙◌, ◌∷◌, ◌≡◌, ◌≤◌}
 use Rattle.ksm_tree.proofs.Alike.{filter_mapped, map_mapped}
 use Rattle.ksm_tree.proofs.Changes.{all_rows}
+use Rattle.std.proofs.lemmas.List.{drop_more}
 use Rattle.std.specs.Option.{option_or}
 
 -- a walk that keeps the better of two, over dups that pass a test
@@ -96,8 +97,7 @@ module _ (t : ℕ) (b : List ℕ) (limit : ℕ) (dups : List Dup) where
       → walked_at (if nat_le least items && nat_lt items limit then option_or (candidate_of t b (if items == least then acc else None) false (dup_at (get_or places i 0) dups)) acc else acc) (drop (i + 1) places)
       ≡ walked_at acc (drop i places)
   stepped acc places i within has is one =
-      let rest : drop i places ≡ get_or places i 0 ∷ drop (i + 1) places = rw (add-one, drop-cons places i 0) in
-      grind (arith, rest)
+      grind (arith, drop_more places i 0)
 
   -- the dups at whose places the walk looks: those of the group, or all that are open
   abbrev tried : Bool → Dup → Bool

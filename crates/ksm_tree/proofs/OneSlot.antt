@@ -113,32 +113,23 @@ module _ {slots : Slots} {counts : List ℕ} {empty stale : CountedSet} (h : Are
   -- the least place in the set of the empty ones is the least that no dup has
   pub first_empty : (found : Option ℕ) → FindsLeast empty.set 0 (length slots) found → found ≡ empty_place (length slots) (rows_of (present slots))
   first_empty None none =
-      let first = empty_first 0 (length slots) slots h.placed (before h.empties (omega arith) none) (omega arith) in
-      grind (arith, get_or_past, first)
+      grind (arith, get_or_past, empty_first 0 (length slots) slots h.placed (before h.empties (omega arith) none))
   first_empty (Some p) least =
-      let none = before h.empties (omega (arith, least.high_is)) least.least in
-      grind (arith, least.there, empty_first 0 p slots h.placed none (omega (arith, least.high_is)))
+      grind (arith, least.there, empty_first 0 p slots h.placed (before h.empties (omega (arith, least.high_is)) least.least))
 
   -- the least place in the set of the stale ones is that of the first stale dup
   pub first_stale : (found : Option ℕ) → FindsLeast stale.set 0 (length slots) found → found ≡ place_of (find is_stale (present slots))
   first_stale None none =
-      let first = first_found is_stale (length slots) slots (before h.stales (omega arith) none) in
-      grind (arith, get_or_past, first (λ less. absurd (omega arith)))
+      grind (arith, get_or_past, first_found is_stale (length slots) slots (before h.stales (omega arith) none))
   first_stale (Some p) least =
       let none = before h.stales (omega (arith, least.high_is)) least.least in
-      let at = slot_found 0 p p slots (omega arith) h.placed in
-      grind (arith, least.there, first_found is_stale p slots none, at, found_stands {p = p} (present slots))
+      grind (arith, least.there, first_found is_stale p slots none, slot_found 0 p p slots, found_stands {p = p} (present slots))
 
   -- the slots are right once one changes, its count with it, and the sets follow
   pub slots_set : (p : ℕ) {n : ℕ} (s : Option Dup) {empty' stale' : CountedSet} → p < length slots → n ≡ count_in s → ArePlaced p (s ∷ [])
       → IsMarked empty empty' p (is_none s) → IsMarked stale stale' p (holds is_stale s) → AreSlots (set slots p s) (set counts p n) empty' stale'
-  slots_set p s within is at empties stales = record {
-    few = rw length-set h.few;
-    placed = placed_set 0 p p s slots (omega arith) at h.placed;
-    counted = grind (arith, map-set);
-    empties = set_marked s within empties h.empties;
-    stales = set_marked s within stales h.stales;
-  }
+  slots_set p s within is at empties stales =
+      grind (arith, length-set, placed_set 0 p p s slots, map-set, set_marked s within empties h.empties, set_marked s within stales h.stales)
 
   -- the slots are right once the items of one dup changed, and its place is marked as stale or not
   pub slots_changed : (p : ℕ) {n : ℕ} (f : List GuestPage → List GuestPage) {stale' : CountedSet} → is_some (get_or slots p None) ≡ true → n ≡ length (f (items_in (get_or slots p None)))
@@ -147,10 +138,6 @@ module _ {slots : Slots} {counts : List ℕ} {empty stale : CountedSet} (h : Are
       let within : p < length slots = grind (arith, get_or_past) in
       let at = stands p _ f _ (slot_found 0 p p slots (omega arith) h.placed) in
       slots_set p _ within (grind arith) at (grind (arith, h.empties)) (grind arith)
-
--- items with one more are not none, and were not where they are not one
-pub grown : (page : GuestPage) (pages : List GuestPage) {n : ℕ} → n ≡ length (with_item page pages) → ((n == 0) ≡ false) × ((n ≡ 1 → ⊥) → (length pages == 0) ≡ false)
-grown page pages is = grind (arith, length-append, nil_from_length)
 
 module _ (p : ℕ) (shelf : ShelfState) {s : SlotsState} (view : slots_seen shelf ≡ s) (placed : ArePlaced 0 shelf.slots) where
   -- the dup seen at a place is what its slot holds
@@ -164,10 +151,6 @@ module _ (p : ℕ) (shelf : ShelfState) {s : SlotsState} (view : slots_seen shel
   -- a place where a dup is seen has a slot
   pub seen_within : is_some (dup_at p s.dups) ≡ true → p < length shelf.slots
   seen_within known = grind (arith, get_or_past, seen_slot)
-
--- items of which a page is one are not none
-pub had_item : (page : GuestPage) (pages : List GuestPage) → has_item page pages ≡ true → (length pages == 0) ≡ false
-had_item page pages found = grind (arith, nil_from_length)
 
 -- taking a page out of items of which it is none changes no slot
 same_items : (page : GuestPage) (s : Option Dup) → has_item page (items_in s) ≡ false → option_map (change_items_of (without_item page)) s ≡ s

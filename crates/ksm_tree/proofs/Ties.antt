@@ -83,18 +83,14 @@ module _ (rows : List Row) (first second : Row) (row : DupRow) (rise : InPageOrd
   -- the items of another dup
   others : (d : DupRow) → (row.number == d.number) ≡ false → items_of whole d ≡ items_of rows d
   others d fails =
-      let left = items_left half d second.page second_in in
-      let one = unlike rows first.page first rise found d in
-      let two = unlike rows second.page second rise also d in
-      grind (arith, left, one, two, items_left rows d first.page first_in)
+      grind (arith, items_left half d second.page second_in, unlike rows first.page first rise found d, unlike rows second.page second rise also d, items_left rows d first.page first_in)
 
   -- the items of the new dup are the two pages
   both_in : items_of whole row ≡ with_item second.page (first.page ∷ [])
   both_in =
       let rises : InPageOrder half = ordered_map _ _ (λ r. grind arith) rise in
       let joined = items_joined half row second.page rises second_in {r = if same_page first.page second.page then first_in else second} refl (grind (arith, at_written first_in second.page rows)) in
-      let none_in = filter_none (λ r. merged_into row.number r.state) rows none in
-      grind (arith, joined, none_in, items_joined rows row first.page rise first_in refl found)
+      grind (arith, joined, filter_none (λ r. merged_into row.number r.state) rows none, items_joined rows row first.page rise first_in refl found)
 
   -- rows and dups stay tied where two pages make a dup whose number is above all others
   pub tied_made : (dups : List Dup) → All (λ r. r.number < row.number) (rows_of dups) → AreTied rows dups → AreTied whole (with_new (record { row = row; items = with_item second.page (first.page ∷ []) }) dups)

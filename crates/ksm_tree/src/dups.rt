@@ -251,6 +251,7 @@ impl Dups {
     }
 
     /// The same, where the number of the group of the tree and bytes is known.
+    #[tactic(auto, using(crate::proofs::Chained::none_left))]
     pub fn found(
         &mut self,
         group: u32,

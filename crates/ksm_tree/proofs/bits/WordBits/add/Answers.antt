@@ -1,8 +1,6 @@
-use Rattle.ksm_tree.proofs.Names.{ap, arith, length, [], ◌/◌, ◌∷◌, ◌≡◌}
+use Rattle.ksm_tree.proofs.Names.{arith, [], ◌∷◌}
 use Rattle.ksm_tree.proofs.NumberBits.{marks_more}
 use Rattle.ksm_tree.proofs.bits.WordBits.add.Goals as goal
 
 pub returns : goal.returns
-returns c =
-    let at : c.args.number / 64 ≡ 0 = omega (arith, ap length c.self.view_is) in
-    rw (← c.self.view_is) (grind (arith, marks_more (c.self.inside.word ∷ []) c.args.number))
+returns c = grind (arith, marks_more (c.self.inside.word ∷ []) c.args.number)

@@ -22,9 +22,6 @@ seen c = grind (arith, c.self.view_is, c.reserve.ensures.kept, c.reserve-2.ensur
 pub add-requires-clause-counted : goal.add-requires-clause-counted
 add-requires-clause-counted c = told (vacant (goal.at.add-requires-clause-counted c).After-vacate)
 
-pub put-requires-clause-vacant : goal.put-requires-clause-vacant
-put-requires-clause-vacant c = grind (arith, none_left)
-
 pub invariant_of-self-2 : goal.invariant_of-self-2
 invariant_of-self-2 c =
     let here = (goal.at.invariant_of-self-2 c).After-vacate in

@@ -4,8 +4,7 @@ use Rattle.ksm_tree.proofs.dups.Dups.live_at.Goals as goal
 
 pub returns : goal.returns
 returns c =
-    let found = found_passing c.args.place is_live c.self.inside.slots.dups c.self.invariant.lawful.in_place_order in
-    grind (arith, c.then_some.ensures, found)
+    grind (arith, c.then_some.ensures, found_passing c.args.place is_live c.self.inside.slots.dups c.self.invariant.lawful.in_place_order)
 
 pub returns-in_err-dup : goal.returns-in_err-dup
 returns-in_err-dup c =

@@ -1,4 +1,4 @@
-use Rattle.ksm_tree.proofs.Names.{absent_kept, arith, none_found, numbers_ordered, refl, sym, without, ℕ, ◌==◌, ◌<◌, ◌∙◌, ◌≡◌}
+use Rattle.ksm_tree.proofs.Names.{absent_kept, arith, none_found, numbers_ordered, refl, without, ℕ, ◌==◌, ◌<◌, ◌∙◌, ◌≡◌}
 use Rattle.std.proofs.lemmas.List.Kept.{AllPairs-filter}
 use Rattle.ksm_order.specs.Places.{IsHere}
 use Rattle.ksm_order.proofs.Places.{remove_here}
@@ -21,5 +21,4 @@ returns-then-stands_at-clause-without c = grind (arith, taken)
 
 pub returns-else-stands_at-clause-without : goal.returns-else-stands_at-clause-without
 returns-else-stands_at-clause-without c =
-    absent_kept numbers_ordered (λ p. p) c.args.place _
-    (none_found (λ p. p == c.args.place) c.args.self.now.list.items (rw (← c.as_slice-places.ensures, ← c.from-key.ensures) (sym c.if-stands_at.ensures.found)))
+    absent_kept numbers_ordered (λ p. p) c.args.place _ (none_found (λ p. p == c.args.place) _ (grind arith))
