@@ -1,6 +1,6 @@
 -- An item that comes in, and a part that changes or is cut in two: what that is for all items.
 use Rattle.std.proofs.Common.{◌≡◌, ℕ, ◌+◌, ◌-◌, ◌<◌, ◌≤◌, Bool, true, false, List, [], ◌∷◌, ◌++◌, length, get_or, take, drop, refl, ap, arith, add-one, length-set}
-use Rattle.std.specs.Prelude.{◌≢◌, ◌==◌, All, cond, filter, flat_map, if◌then◌else◌, insert, remove, set}
+use Rattle.std.specs.Prelude.{◌≢◌, ◌==◌, All, cond, flat_map, if◌then◌else◌, insert, remove, set}
 use Rattle.std.specs.Int.{from_bool}
 use Rattle.std.proofs.lemmas.Bool.Decides.{nat_tests}
 use Rattle.std.proofs.lemmas.List.{append-nil, append_assoc, drop-set-lt, drop_at, get_or-map, length-append, length-drop, length-map, length-take-le}
@@ -12,9 +12,9 @@ use Rattle.std.proofs.lemmas.Grind.{take-set_at}
 use Rattle.std.proofs.lemmas.List.Kept.{AllPairs-filter}
 use Rattle.std.proofs.lemmas.List.Sums.{sum_by-remove}
 use Rattle.ksm_order.specs.declared.item.Item.{Item}
-use Rattle.ksm_order.specs.Listed.{AreAscending, AreBefore, AreBehind, AreParts, begins_behind, is_at, IsCounted, IsCut, IsPartOf, is_nothing, many, with_item, with_mark, without}
+use Rattle.ksm_order.specs.Listed.{AreAscending, AreBefore, AreBehind, AreParts, begins_behind, is_at, IsCounted, IsCut, IsPartOf, many, with_item, with_mark, without}
 use Rattle.ksm_order.proofs.Places.{with_rises}
-use Rattle.ksm_order.proofs.Between.{high, low, many-append, mark_between, with_between}
+use Rattle.ksm_order.proofs.Between.{many-append, mark_between, with_between}
 use Rattle.ksm_order.proofs.Ordered.{numbers_ordered, without_between}
 use Rattle.ksm_order.proofs.Parts.{ahead_of, behind_of, cut, front, halves_rise, rest}
 
@@ -51,24 +51,15 @@ pub mark_rises : (key : ℕ) (mark : Bool) (xs : List Item) → AreAscending xs 
 mark_rises key mark xs rise i j d less lt =
     grind (arith, rise i j d, get_or-map (mark_of key mark) xs i d d, get_or-map (mark_of key mark) xs j d d, same_key key mark, length-map xs (mark_of key mark))
 
--- whether a list has nothing
-pub nothing_long : (xs : List Item) → is_nothing xs ≡ (length xs == 0)
-nothing_long [] = refl
-nothing_long (x ∷ xs) = grind (arith, nat_tests)
-
--- a list that has nothing is empty
-pub nothing_is : (xs : List Item) → is_nothing xs ≡ true → xs ≡ []
-nothing_is xs is = grind (arith, nat_tests, nothing_long xs, nil_from_length)
-
 abbrev Full : {P : Type 0} → (P → List Item) → P → Type 0
 Full f p = f p ≢ []
 
 -- parts that are filled have nothing exactly where there is no part
 pub nothing_of_parts : {P : Type 0} (f : P → List Item) (parts : List P) → All (Full f) parts
-    → (length parts == 0) ≡ is_nothing (flat_map f parts)
+    → (length parts == 0) ≡ (length (flat_map f parts) == 0)
 nothing_of_parts f [] filled = refl
 nothing_of_parts f (p ∷ ps) filled =
-    grind (arith, nat_tests, filled 0 p, nothing_long (f p ++ flat_map f ps), length-append, nil_from_length (f p))
+    grind (arith, nat_tests, filled 0 p, length-append, nil_from_length (f p))
 
 -- parts that are filled have some items
 some_items : {P : Type 0} (f : P → List Item) (parts : List P) → All (Full f) parts → 0 < length parts
@@ -105,7 +96,7 @@ local_with x = record { between = with_between x; rises = with_rises (λ y. y.ke
 
 pub local_mark : (key : ℕ) (mark : Bool) → IsLocal key (with_mark key mark)
 local_mark key mark =
-    record { between = λ xs run ys ahead after. mark_between key xs run ys ahead after mark; rises = mark_rises key mark }
+    record { between = mark_between key mark; rises = mark_rises key mark }
 
 pub local_without : (key : ℕ) → IsLocal key (without key)
 local_without key = record {
@@ -116,7 +107,7 @@ local_without key = record {
 
 -- a list with an item put in is not empty, nor is one that was none with a mark
 pub with_filled : (x : Item) (xs : List Item) → with_item x xs ≢ []
-with_filled x xs none = grind (arith, length-append (filter (low x.key) xs) (x ∷ filter (high x.key) xs))
+with_filled x xs none = grind (arith, ap length none, length-append)
 
 pub mark_filled : (key : ℕ) (mark : Bool) (xs : List Item) → xs ≢ [] → with_mark key mark xs ≢ []
 mark_filled key mark xs some none = grind (arith, length-map xs (mark_of key mark), nil_from_length)

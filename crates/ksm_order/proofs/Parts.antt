@@ -9,7 +9,8 @@ use Rattle.std.proofs.lemmas.List.Elements.{filter-append}
 use Rattle.std.proofs.lemmas.List.Sums.{length-filter}
 use Rattle.ksm_order.specs.declared.item.Item.{Item}
 use Rattle.ksm_order.specs.Listed.{AreAscending, AreBefore, AreBehind, AreParts, begins_behind, is_at, is_from, IsPartOf, key_at, many, marked, up_to}
-use Rattle.ksm_order.proofs.Between.{find_between, from_between, from_on, many-append, many-cons, up_to-cons, up_to_between}
+use Rattle.ksm_order.proofs.Between.{before, behind, from_on, many-append, many-cons, up_to-append, up_to-cons}
+use Rattle.std.proofs.lemmas.List.Folds.{find-append}
 
 -- no more marked ones come before a key than are marked
 pub up_to_few : (key : ℕ) (xs : List Item) → up_to key xs ≤ many xs
@@ -109,15 +110,15 @@ module _ {P : Type 0} {f : P → List Item} {key : ℕ} {parts : List P} {at : �
 
   -- what is found of the key in all is found there
   pub find_in_part : find (is_at key) (flat_map f parts) ≡ find (is_at key) (f q)
-  find_in_part = grind (arith, cut f parts at place.within is, find_between key _ (f q) _ place.ahead place.behind)
+  find_in_part = grind (arith, cut f parts at place.within is, find-append, before key _ place.ahead, behind key _ place.behind)
 
   pub up_to_in_part : up_to key (flat_map f parts) ≡ many (front f parts at) + up_to key (f q)
   up_to_in_part =
-      grind (arith, cut f parts at place.within is, up_to_between key (front f parts at) (f q) (rest f parts at) place.ahead place.behind)
+      omega (arith, ap (up_to key) (cut f parts at place.within is), up_to-append key (front f parts at) (f q ++ rest f parts at), up_to-append key (f q) (rest f parts at), before key _ place.ahead, behind key _ place.behind)
 
   -- the first item that does not come before the key is in its part, or the first behind it
   pub from_in_part : find (is_from key) (flat_map f parts) ≡ option_or (find (is_from key) (f q)) (slice_get (rest f parts at) 0)
-  from_in_part = grind (arith, cut f parts at place.within is, from_between)
+  from_in_part = grind (arith, cut f parts at place.within is, find-append, before key _ place.ahead, behind key _ place.behind)
 
   -- which is the first in the next part
   pub from_in_next : {p : P} → AreParts f parts → at + 1 < length parts → p ≡ get_or parts (at + 1) p

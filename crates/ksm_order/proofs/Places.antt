@@ -1,19 +1,19 @@
 -- The place of a key in a list whose keys do not fall: what stands in front of it and behind, what an insert and a removal there
 -- leave.
-use Rattle.std.proofs.Common.{◌≡◌, ℕ, ◌+◌, ◌<◌, ◌≤◌, Bool, false, List, ◌∷◌, ◌++◌, []}
+use Rattle.std.proofs.Common.{refl, ◌≡◌, ℕ, ◌+◌, ◌<◌, ◌≤◌, Bool, false, List, ◌∷◌, ◌++◌, []}
 use Rattle.std.proofs.Common.{length, get_or, take, drop, sym, ap, ◌∙◌, arith, Some, inl, inr}
 use Rattle.std.specs.Prelude.{◌==◌, All, AllPairs, filter, find, insert, nat_lt, not, remove}
 use Rattle.std.specs.List.{list_any}
 use Rattle.std.proofs.lemmas.Bool.{cases_Bool, ltb-true}
 use Rattle.std.proofs.lemmas.Bool.Decides.{nat_tests}
 use Rattle.std.proofs.lemmas.List.{append-nil, drop_more, get_or-drop, get_or-take, get_or_default, length-drop, length-take-le, take-append-drop}
-use Rattle.std.proofs.lemmas.List.Elements.{filter-append, filter_passes}
+use Rattle.std.proofs.lemmas.List.Elements.{filter-append}
 use Rattle.std.proofs.lemmas.List.Folds.{find-append, list_any_at, list_any_none}
 use Rattle.ksm_base.proofs.Edits.{find_nothing}
-use Rattle.ksm_base.proofs.Orders.{filter_none, pairs_with}
+use Rattle.ksm_base.proofs.Orders.{filter_none}
 use Rattle.ksm_base.proofs.RowCounts.{filter_all}
 use Rattle.ksm_order.specs.Places.{AreInOrder, IsHere, IsPlace}
-use Rattle.ksm_order.proofs.Ordered.{numbers_ordered, without_between}
+use Rattle.ksm_order.proofs.Ordered.{numbers_ordered, with_rises as with_rises_by, without_between}
 
 -- whether an element comes before a key, comes behind it, or is of it
 abbrev pub low : {X : Type 0} → (X → ℕ) → ℕ → X → Bool
@@ -102,11 +102,8 @@ module _ {X : Type 0} {key_of : X → ℕ} {key : ℕ} {xs : List X} {at : ℕ} 
 -- a list whose keys ascend keeps them so with an element at its place
 pub with_rises : {X : Type 0} (key_of : X → ℕ) (x : X) (xs : List X) → AllPairs (λ y z. key_of y < key_of z) xs
     → AllPairs (λ y z. key_of y < key_of z) (filter (low key_of (key_of x)) xs ++ x ∷ filter (high key_of (key_of x)) xs)
-with_rises {X} key_of x xs rise =
-    let lows : All (λ y. key_of y < key_of x) (filter (low key_of (key_of x)) xs) = λ k d lt. ltb-true _ _ (filter_passes (low key_of (key_of x)) xs k d lt) in
-    let highs : All (λ y. key_of x < key_of y) (filter (high key_of (key_of x)) xs) = λ k d lt. ltb-true _ _ (filter_passes (high key_of (key_of x)) xs k d lt) in
-    pairs_with (λ y z. key_of y < key_of z) (low key_of (key_of x)) (high key_of (key_of x)) x xs rise lows highs
-    (λ k d lt j e le. grind (arith, lows k d lt, highs j e le))
+with_rises key_of x xs rise i j d less lt =
+    ltb-true _ _ (with_rises_by numbers_ordered key_of (key_of x) x xs refl (λ k l e lower le. grind (arith, nat_tests, rise k l e)) i j d less lt)
 
 -- where keys ascend, they do not fall
 pub in_order : {X : Type 0} (key_of : X → ℕ) (xs : List X) → AllPairs (λ x y. key_of x < key_of y) xs → AreInOrder key_of xs

@@ -1,5 +1,5 @@
 -- Items in the order of their keys.
-use Rattle.std.specs.Prelude.{◌≡◌, ◌≢◌, ℕ, ◌+◌, ◌<◌, Bool, true, false, not, ◌&&◌, ◌==◌, List, [], ◌∷◌, ◌++◌, All, AllPairs, count_by, filter, flat_map, drop, if◌then◌else◌, length, map, nat_lt, take}
+use Rattle.std.specs.Prelude.{◌≡◌, ◌≢◌, ℕ, ◌+◌, ◌<◌, Bool, false, not, ◌&&◌, ◌==◌, List, [], ◌∷◌, ◌++◌, All, AllPairs, count_by, filter, flat_map, drop, if◌then◌else◌, length, map, nat_lt, take}
 use Rattle.std.specs.Prelude.{slice_get, Option, option_map}
 use Rattle.ksm_order.specs.declared.item.Item.{Item}
 
@@ -77,8 +77,3 @@ pub record IsPartOf {P : Type 0} (items : P → List Item) (key : ℕ) (parts : 
   pub within : at < length parts
   pub ahead : AreBefore key (flat_map items (take at parts))
   pub behind : AreBehind key (flat_map items (drop (at + 1) parts))
-
--- whether a list has nothing
-abbrev pub is_nothing : List Item → Bool
-is_nothing [] = true
-is_nothing (x ∷ xs) = false

@@ -224,6 +224,7 @@ impl Part for Leaf {
         count_marked(&items[..at])
     }
 
+    #[tactic(auto, using(crate::proofs::Between::nth_steps))]
     fn nth(&self, place: usize) -> Option<u64> {
         let items = self.items.as_slice();
         if self.count < items.len() {

@@ -1,7 +1,7 @@
 //! What each height of the tree promises.
-ghost use Rattle.std.specs.Prelude.{◌≡◌, ◌<◌, ◌^◌, List, [], ◌∷◌, None, IfNone, IfOk, IfSome, OnErr, OnOk, find};
+ghost use Rattle.std.specs.Prelude.{◌≡◌, ◌==◌, ◌<◌, ◌^◌, List, [], ◌∷◌, None, IfNone, IfOk, IfSome, OnErr, OnOk, find};
 ghost use Rattle.std.specs.Prelude.{length};
-ghost use Rattle.ksm_order.specs.Listed.{IsCut, begins_behind, is_at, is_from, is_nothing, key_at};
+ghost use Rattle.ksm_order.specs.Listed.{IsCut, begins_behind, is_at, is_from, key_at};
 ghost use Rattle.ksm_order.specs.Listed.{many, marked, up_to, with_item, with_mark, without};
 ghost use Rattle.ksm_order.specs.declared.item.Item.{Item as TheItem};
 
@@ -33,7 +33,7 @@ pub trait Part: Drop {
 
     /// Whether there is no item.
     fn is_empty(&self) -> bool
-        ensures { result ≡ is_nothing (items self.now) };
+        ensures { result ≡ (length (items self.now) == 0) };
 
     /// Whether it is to be cut in two before one more comes in.
     fn is_full(&self) -> bool;

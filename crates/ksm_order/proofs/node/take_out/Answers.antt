@@ -1,6 +1,7 @@
 use Rattle.std.proofs.Common.{arith, sym, ◌∙◌, []}
-use Rattle.std.proofs.lemmas.List.{drop-set-lt, get_or-set_same, take-set}
-use Rattle.ksm_order.proofs.Changes.{local_without, nothing_is, replaced, set_part}
+use Rattle.std.proofs.lemmas.List.{nil_from_length, drop-set-lt, get_or-set_same, take-set}
+use Rattle.std.proofs.lemmas.Bool.Decides.{nat_tests}
+use Rattle.ksm_order.proofs.Changes.{local_without, replaced, set_part}
 use Rattle.ksm_order.proofs.node.take_out.Goals as goal
 
 pub returns-then-not-is_empty : goal.returns-then-not-is_empty
@@ -12,5 +13,5 @@ returns-then-not-is_empty g c =
 pub returns : goal.returns
 returns g c =
     let at = rw c.as_slice.ensures.value at c.part_of-at.ensures in
-    let none = nothing_is (g.P.Part.items c.remove_from-fewer.new.part) (grind (arith, get_or-set_same)) in
+    let none = nil_from_length (g.P.Part.items c.remove_from-fewer.new.part) (grind (arith, nat_tests, get_or-set_same)) in
     grind (arith, replaced c.requires at c.index_mut.ensures.value (local_without c.args.key) {all = c.remove.new.self.items} [] (λ k d lt. absurd (omega arith)) (sym none ∙ c.remove_from-fewer.ensures.removed) (grind (arith, take-set, drop-set-lt)))
