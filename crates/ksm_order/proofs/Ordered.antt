@@ -58,20 +58,12 @@ module _ {X K : Type 0} {before same : K → K → Bool} (order : IsOrder before
     abbrev is_it : X → Bool
     is_it y = same (key y) q
 
-    -- where all of a list come behind the key, none of them is the key
-    pub none_same : (ys : List X) → All (λ z. high z ≡ true) ys → All (λ z. is_it z ≡ false) ys
-    none_same ys behind k d lt = grind arith
-
     -- where the first element of a list in order is behind the key, so are all others
     pub behind_rest : (y : X) (ys : List X) → AllPairs Before (y ∷ ys) → high y ≡ true → All (λ z. high z ≡ true) ys
     behind_rest y ys rise here k d lt = grind (arith, rise 0 (suc k) d)
 
     behind_it : (y : X) (ys : List X) → AllPairs Before (y ∷ ys) → is_it y ≡ true → All (λ z. high z ≡ true) ys
     behind_it y ys rise equal k d lt = grind (arith, rise 0 (suc k) d)
-
-    -- where all of a list come before the key, none of them has the key
-    pub none_same_low : (xs : List X) → All (λ z. low z ≡ true) xs → All (λ z. is_it z ≡ false) xs
-    none_same_low = grind arith
 
     -- in a list cut in three around a key's run, the key is taken out by taking it out of the run
     pub without_between : (xs run ys : List X) → All (λ z. low z ≡ true) xs → All (λ z. high z ≡ true) ys

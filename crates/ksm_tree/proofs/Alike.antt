@@ -1,6 +1,6 @@
 -- A list that is made of another, element by element: what is searched, kept and counted in it.
-use Rattle.ksm_tree.proofs.Names.{All, arith, Bool, count_by, length-filter, length-map, false, filter, filter-append, find, get_or, if◌then◌else◌, List, map, map-append, option_map, refl, suc, []}
-use Rattle.ksm_tree.proofs.Names.{◌++◌, ◌∙◌, ◌∷◌, ◌≡◌}
+use Rattle.ksm_tree.proofs.Names.{All, arith, Bool, count_by, length-filter, length-map, false, filter, find, get_or, if◌then◌else◌, List, map, option_map, refl, suc, []}
+use Rattle.ksm_tree.proofs.Names.{◌∙◌, ◌∷◌, ◌≡◌}
 use Rattle.std.proofs.lemmas.List.{map-id}
 pub use Rattle.ksm_rmap.proofs.Alike.{filter_mapped, pairs_mapped}
 
@@ -44,8 +44,3 @@ pub chosen : {X Y : Type 0} (f : X → Y) (test : X → Bool) (by : Y → Bool) 
     → map f (filter test (filter (λ x. by (f x)) xs)) ≡ filter by (map f (filter test xs))
 chosen f test by [] = refl
 chosen f test by (x ∷ xs) = grind (arith, chosen f test by xs)
-
--- what a map makes of those kept of two lists in a row is what it makes of those of the first, then of the second
-pub kept_append : {X Y : Type 0} (f : X → Y) (test : X → Bool) (xs ys : List X)
-    → map f (filter test (xs ++ ys)) ≡ map f (filter test xs) ++ map f (filter test ys)
-kept_append f test xs ys = grind (arith, filter-append, map-append)

@@ -1,6 +1,6 @@
 -- The dups in their groups: what is found there, and how that stays right with a change of items, with a dup that goes, and with a new one.
 use Rattle.ksm_tree.proofs.Names.{absent_kept, nat_tests, numbers_ordered, sym, suc, true, place_of, All, All-filter, ap, AreChained, AreTotals, arith, Bool, chain_in, change_at, change_items}
-use Rattle.ksm_tree.proofs.Names.{content_of, Dup, dup_at, dup_of, DupRow, dups_seen, DupsState, false, filter, find, find_none, find_nothing, filter_passes, get, Group, group_places, Groups}
+use Rattle.ksm_tree.proofs.Names.{Dup, dup_at, dup_of, DupRow, dups_seen, DupsState, false, filter, find, find_none, find_nothing, filter_passes, get, Group, group_places, Groups}
 use Rattle.ksm_tree.proofs.Names.{GuestPage, has_number, if◌then◌else◌, in_group, InPlaceOrder, IsCountedAnew, IsMoved, length, List, MOST_FRAMES, nat_lt, None, not, number_in, Option, pairs_head}
 use Rattle.ksm_tree.proofs.Names.{pairs_tail, refl, rows_of, rules, SameChains, SlotsState, Some, stands_at, subst, Tells, with_dup, with_new, with_place, without, without_place, ℕ, [], ◌&&◌, ◌+◌}
 use Rattle.ksm_tree.proofs.Names.{◌<◌, ◌==◌, ◌∙◌, ◌∷◌, ◌≡◌, ◌≤◌}
@@ -17,11 +17,6 @@ group_unlike : (p t : ℕ) (b : List ℕ) (dups : List Dup) → All (λ d. (stan
 group_unlike p t b [] none = refl
 group_unlike p t b (d ∷ dups) none =
     grind (arith, none 0 d (omega arith), group_unlike p t b dups (λ k e lt. none (suc k) e (omega arith)))
-
--- where a dup of another group stands, the places of a group stay without that place
-not_in_group : (p t : ℕ) (b : List ℕ) (dups : List Dup) {d : Dup} → InPlaceOrder (rows_of dups) → dup_at p dups ≡ Some d → in_group t b d.row ≡ false → without p (group_places t b (rows_of dups)) ≡ group_places t b (rows_of dups)
-not_in_group p t b dups rise found outside = group_unlike p t b dups
-    (λ k e lt. grind (arith, found_stands dups found, alone (stands_at p) dups _ rise found k e lt))
 
 -- slots with other dups
 abbrev with_dups : SlotsState → List Dup → Bool → SlotsState
@@ -64,7 +59,9 @@ module _ {s : SlotsState} {next : ℕ} {groups : Groups} (h : AreChained s next 
       let rise = ordered_filter test rows law.in_place_order in
       let grouped : (t : ℕ) (b : List ℕ) → chain_in t b new ≡ group_places t b (filter test rows) = λ t b.
       let kept = chosen (λ (r : DupRow). r.place) (in_group t b) (λ q. not (q == p)) rows in
-      grind (arith, kept, not_in_group p t b s.dups law.in_place_order found, own_group t b d.row) in
+      let passed : in_group t b d.row ≡ false → without p (group_places t b rows) ≡ group_places t b rows = λ outside. group_unlike p t b s.dups
+      (λ k e lt. grind (arith, at, alone (stands_at p) s.dups d law.in_place_order found k e lt)) in
+      grind (arith, kept, passed, own_group t b d.row) in
       let more = more_there p rows d.row law.in_place_order (grind (arith, row_found (stands_at p) (λ r. r.place == p) (λ d. refl) s.dups)) in
       by_rows (filter test rows) (rows_without p s.dups) h.few rise
       (All-filter test (λ r. r.place < s.places) rows law.places_below)
@@ -91,10 +88,6 @@ module _ {s : SlotsState} {next : ℕ} {groups : Groups} (h : AreChained s next 
   -- the group under the number of a tree and bytes lists the places of the dups of that tree and bytes
   pub group_here : g.places.list.items ≡ group_places tree bytes (rows_of s.dups)
   group_here = grind (arith)
-
-  -- the group under the number of a tree and bytes has that tree and those bytes as its content
-  pub content_here : g.content ≡ content_of tree bytes
-  content_here = grind (arith, groups.lawful (content_of tree bytes) number)
 
 -- where a tree and bytes have no number, no dup is of these
 pub ungrouped : {s : SlotsState} {next : ℕ} {groups : Groups} → AreChained s next groups → (t : ℕ) (b : List ℕ) → number_in t b groups ≡ None → All (λ d. in_group t b d.row ≡ false) s.dups

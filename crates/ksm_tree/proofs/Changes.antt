@@ -1,8 +1,8 @@
 -- Dups and their rows: what a dup that comes or goes and a change of items changes of the rows, and where a dup is found.
 use Rattle.ksm_tree.proofs.Names.{All, arith, Bool, change_items, Dup, dup_of, DupRow, filter, find, find_passes, get_or-map, GuestPage, has_number, if◌then◌else◌, InPlaceOrder, find_all, get_or}
 use Rattle.ksm_tree.proofs.Names.{length-map, let_out, Lower, nat_tests, true, ◌||◌, place_of, List, map, map-append, Merged, not, option_map, Option, None, PageState, refl, rows_of, Some, stands_at}
-use Rattle.ksm_tree.proofs.Names.{subst, with_dup, with_new, without_place, ℕ, [], ◌==◌, ◌∷◌, ◌≡◌}
-use Rattle.ksm_tree.proofs.Alike.{filter_mapped, find_mapped}
+use Rattle.ksm_tree.proofs.Names.{subst, with_dup, with_new, without_place, ℕ, ◌==◌, ◌≡◌}
+use Rattle.ksm_tree.proofs.Alike.{filter_mapped, find_mapped, map_mapped}
 use Rattle.ksm_base.proofs.Orders.{one_of_each}
 
 -- the row of a new dup is added to the rows
@@ -15,8 +15,7 @@ rows_without p dups = grind (arith, filter_mapped)
 
 -- other items of the dups that pass a test change no row
 pub rows_same : (test : Dup → Bool) (f : List GuestPage → List GuestPage) (dups : List Dup) → rows_of (map (λ d. if test d then record d { items = f d.items } else d) dups) ≡ rows_of dups
-rows_same test f [] = refl
-rows_same test f (d ∷ dups) = grind (arith, rows_same test f dups)
+rows_same test f dups = map_mapped _ _ _ dups (λ k d lt. grind arith)
 
 -- other items of a dup change no row
 pub rows_items : (number : ℕ) (f : List GuestPage → List GuestPage) (dups : List Dup) → rows_of (change_items number f dups) ≡ rows_of dups

@@ -43,7 +43,7 @@ pub use Rattle.ksm_tree.specs.declared.shelf.Kept.{Kept}
 pub use Rattle.ksm_tree.specs.declared.totals.Totals.{Totals}
 pub use Rattle.slab.proofs.SlabLemmas.{Updates-with_value}
 pub use Rattle.slab.specs.Slab.{get, Slab, with_value}
-pub use Rattle.std.proofs.Common.{add-one, ap, arith, Bool, count_by, drop, drop-cons, false, get_or, get_or-set_other, get_or-set_same, inl, inr, length, length-append, length-set, List, map, None}
+pub use Rattle.std.proofs.Common.{add-one, ap, arith, Bool, count_by, drop, false, get_or, get_or-set_other, get_or-set_same, inl, inr, length, length-append, length-set, List, map, None}
 pub use Rattle.std.proofs.Common.{Option, refl, replicate, rules, set, shr-shr, Some, subst, suc, sym, take, true, true≢false, w64, zero, ℕ, [], ◌*◌, ◌++◌, ◌+◌, ◌-◌, ◌/◌, ◌<◌, ◌∙◌, ◌∷◌, ◌≡◌, ◌≢◌, ◌≤◌}
 pub use Rattle.std.proofs.Math.ListN.{drop_of_length-le, get_or-map}
 pub use Rattle.std.proofs.lemmas.Bool.{cases_Bool, eqb-true}

@@ -3,23 +3,14 @@ use Rattle.ksm_tree.proofs.Names.{ArePlaced, arith, Bool, cond, count_by, count_
 use Rattle.ksm_tree.proofs.Names.{length-replicate, length, List, map, None, Option, places_open, places_where, present, refl, replicate, suc, zero, ℕ, [], ◌*◌, ◌+◌, ◌<◌, ◌∷◌, ◌≡◌, ◌≤◌}
 use Rattle.std.proofs.lemmas.List.Folds.{sum_by-replicate}
 
--- no dup is present in empty slots
-pub none_present : (n : ℕ) → present (replicate n None) ≡ []
-none_present zero = refl
-none_present (suc n) = none_present n
-
-pub none_placed : (k n : ℕ) → ArePlaced k (replicate n None)
-none_placed k zero = tt
-none_placed k (suc n) = (tt, none_placed _ n)
+-- in empty slots no dup is present, each stands at its place, and no place has an item
+pub none_slots : (k n : ℕ) → (present (replicate n None) ≡ []) × ArePlaced k (replicate n None) × (replicate n 0 ≡ map count_in (replicate n None))
+none_slots k zero = (refl, tt, refl)
+none_slots k (suc n) = grind (arith, none_slots (suc k) n)
 
 -- a set that has all of so many places, or none, is that of the empty slots that pass a test
 pub none_set : {test : Option Dup → Bool} (n : ℕ) {places : CountedSet} → n ≤ 64 * length places.set → ((p : ℕ) → p < n → has places.set p ≡ test None) → places.count ≡ n * cond (test None) 1 0 → IsSetOf test (replicate n None) places
 none_set n wide each count = grind (arith, length-replicate, get_or-replicate, sum_by-replicate)
-
--- in empty slots no place has an item
-pub none_counted : (n : ℕ) → replicate n 0 ≡ map count_in (replicate n None)
-none_counted zero = refl
-none_counted (suc n) = grind (arith, none_counted n)
 
 -- by the limit 0 no place is open
 pub none_kept : (k : ℕ) (counts : List ℕ) → places_where (is_open 0) k counts ≡ []
@@ -31,13 +22,9 @@ pub open_seen : (limit k : ℕ) (slots : List (Option Dup)) → ArePlaced k slot
 open_seen limit k [] placed = refl
 open_seen limit k (s ∷ slots) placed = grind (arith, open_seen limit (suc k) slots placed.1)
 
--- as many slots have a stale dup as there are stale dups
-pub stale_slots : (slots : List (Option Dup)) → count_by (holds is_stale) slots ≡ count_by is_stale (present slots)
-stale_slots [] = refl
-stale_slots (s ∷ slots) = grind (arith, count_more (holds is_stale) s slots, count_more is_stale, stale_slots slots)
-
--- each slot is empty, or its dup is stale or has items
-pub three_kinds : (slots : List (Option Dup)) → count_by is_none slots + count_by (holds is_stale) slots + count_by is_live (present slots) ≡ length slots
-three_kinds [] = refl
+-- each slot is empty, or its dup is stale or has items, and as many slots have a stale dup as there are stale dups
+pub three_kinds : (slots : List (Option Dup)) → (count_by is_none slots + count_by (holds is_stale) slots + count_by is_live (present slots) ≡ length slots)
+    × (count_by (holds is_stale) slots ≡ count_by is_stale (present slots))
+three_kinds [] = (refl, refl)
 three_kinds (s ∷ slots) =
-    grind (arith, count_more is_none s slots, count_more (holds is_stale) s slots, count_more is_live, three_kinds slots)
+    grind (arith, count_more is_none s slots, count_more (holds is_stale) s slots, count_more is_live, count_more is_stale, three_kinds slots)

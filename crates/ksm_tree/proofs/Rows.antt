@@ -1,6 +1,6 @@
 -- Dup rows in the order of their places: whose group a row is of, and what a new row changes of the places of a group.
-use Rattle.ksm_tree.proofs.Names.{arith, bytes_eq, bytes_eq-Decides, DupRow, false, group_places, in_group, InPlaceOrder, List, nat_lt, not, true, with_dup, with_place, without, ℕ, ◌&&◌, ◌==◌, ◌≡◌}
-use Rattle.ksm_tree.proofs.Alike.{chosen, kept_append}
+use Rattle.ksm_tree.proofs.Names.{filter-append, map-append, arith, bytes_eq, bytes_eq-Decides, DupRow, false, group_places, in_group, InPlaceOrder, List, nat_lt, not, true, with_dup, with_place, without, ℕ, ◌&&◌, ◌==◌, ◌≡◌}
+use Rattle.ksm_tree.proofs.Alike.{chosen}
 use Rattle.ksm_base.proofs.Orders.{dups_parted}
 
 -- a comparison of bytes is the same in either order
@@ -18,12 +18,11 @@ self_group row = grind (arith, bytes_eq-Decides row.bytes)
 -- a new row of a group adds its place to the places of the group
 pub group_joined : (t : ℕ) (b : List ℕ) (row : DupRow) (rows : List DupRow) → in_group t b row ≡ true → group_places t b (with_dup row rows) ≡ with_place row.place (group_places t b rows)
 group_joined t b row rows inside =
-    let low = chosen (λ (r : DupRow). r.place) (in_group t b) (λ q. nat_lt q row.place) rows in
-    let high = chosen (λ (r : DupRow). r.place) (in_group t b) (nat_lt row.place) rows in
-    grind (arith, kept_append)
+    let by = chosen (λ (r : DupRow). r.place) (in_group t b) in
+    grind (arith, filter-append, map-append, by (λ q. nat_lt q row.place) rows, by (nat_lt row.place) rows)
 
 -- a new dup of another group takes its place out of a group, if the group had that place
 pub group_passed : (t : ℕ) (b : List ℕ) (row : DupRow) (rows : List DupRow) → InPlaceOrder rows → in_group t b row ≡ false → group_places t b (with_dup row rows) ≡ without row.place (group_places t b rows)
 group_passed t b row rows rise outside =
     let rest = chosen (λ (r : DupRow). r.place) (in_group t b) (λ q. not (q == row.place)) rows in
-    grind (arith, kept_append, dups_parted row.place rows rise)
+    grind (arith, filter-append, map-append, dups_parted row.place rows rise)

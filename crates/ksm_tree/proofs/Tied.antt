@@ -1,7 +1,7 @@
 -- What is found at a page, and the pages of the rows merged into a dup, after a change of one row.
-use Rattle.ksm_tree.proofs.Alike.{change_none, chosen, kept_append}
-use Rattle.ksm_order.proofs.Ordered.{found_parts, none_same, none_same_low}
-use Rattle.ksm_tree.proofs.Names.{All, AreCounted, AreTied, arith, Bool, change_row, comes_before, Dup, DupRow, false, filter, filter_passes, find_passes, GuestPage, if◌then◌else◌, InPageOrder}
+use Rattle.ksm_tree.proofs.Alike.{change_none, chosen}
+use Rattle.ksm_order.proofs.Ordered.{found_parts}
+use Rattle.ksm_tree.proofs.Names.{filter-append, All, AreCounted, AreTied, arith, Bool, change_row, comes_before, Dup, DupRow, false, filter, filter_passes, find_passes, GuestPage, if◌then◌else◌, InPageOrder}
 use Rattle.ksm_tree.proofs.Names.{items_of, length-filter, length-map, List, map, map-append, merged_into, not, option_map, pages_ordered, refl, Row, row_at, same_page, Some, suc, true, with_item}
 use Rattle.ksm_tree.proofs.Names.{without_item, without_page, [], ◌++◌, ◌∷◌, ◌≡◌}
 
@@ -26,8 +26,8 @@ module _ (page : GuestPage) where
   change_splits : (new r : Row) (rows : List Row) → InPageOrder rows → row_at page rows ≡ Some r → change_row page (λ _. new) rows ≡ filter ahead rows ++ new ∷ filter behind rows
   change_splits new r rows rise found =
       let kept = change_none (λ s. same_page s.page page) (λ _. new) in
-      let low = kept (filter ahead rows) (none_same_low pages_ordered page_of _ _ (filter_passes ahead rows)) in
-      let high = kept (filter behind rows) (none_same pages_ordered page_of page _ (filter_passes behind rows)) in
+      let low = kept (filter ahead rows) (λ k d lt. grind (arith, pages_ordered.apart, filter_passes ahead rows k d lt)) in
+      let high = kept (filter behind rows) (λ k d lt. grind (arith, pages_ordered.apart_back, filter_passes behind rows k d lt)) in
       let parts = found_parts pages_ordered page_of page rows r rise found in
       grind (arith, map-append, find_passes (λ s. same_page s.page page) rows)
 
@@ -41,7 +41,7 @@ module _ (rows : List Row) (d : DupRow) (page : GuestPage) where
 
   -- the items of a dup have the page once the page's row is merged into it
   pub items_joined : InPageOrder rows → (new : Row) {r : Row} → new.page ≡ page → row_at page rows ≡ Some r → merged new ≡ true → items_of (change_row page (λ _. new) rows) d ≡ with_item page (items_of rows d)
-  items_joined rise new {r} at there passes = grind (arith, change_splits page new r rows rise there, kept_append, chosen page_of merged)
+  items_joined rise new {r} at there passes = grind (arith, change_splits page new r rows rise there, filter-append, map-append, chosen page_of merged)
 
 -- the items of a dup are without the page once the page's row is not merged into it
 pub items_left : (rows : List Row) (d : DupRow) (page : GuestPage) (new : Row) → merged_into d.number new.state ≡ false → items_of (change_row page (λ _. new) rows) d ≡ without_item page (items_of rows d)

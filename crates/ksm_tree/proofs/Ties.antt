@@ -1,10 +1,9 @@
 -- The items of each dup stay the pages of the rows merged into it: the dups after a change of one row, and after a change of all.
-use Rattle.ksm_tree.proofs.Names.{absent_kept, All, All-append, All-cons, All-filter, All-map, ap, AreTied, arith, change_items, change_row, Dup, dup_of, DupRow, each_at_page, eqb-true, false}
+use Rattle.ksm_tree.proofs.Names.{filter-append, map-append, absent_kept, All, All-append, All-cons, All-filter, All-map, ap, AreTied, arith, change_items, change_row, Dup, dup_of, DupRow, each_at_page, eqb-true, false}
 use Rattle.ksm_tree.proofs.Names.{filter_none, find_all, find_passes, get_or, GuestPage, has_item, items_in, Option, InPageOrder, item_count, items_of, length, let_out, List, map, if◌then◌else◌}
 use Rattle.ksm_tree.proofs.Names.{Merged, merged_into, merged_state, None, none_found, ordered_map, pages_ordered, PageState, refl, Row, row_at, rows_of, same_page, Some, suc, sym, true, with_item}
 use Rattle.ksm_tree.proofs.Names.{with_new, with_row, without_item, without_page, without_place, ℕ, [], ◌<◌, ◌==◌, ◌∙◌, ◌∷◌, ◌≡◌}
 use Rattle.ksm_tree.specs.Dups.{items_of as items_numbered}
-use Rattle.ksm_tree.proofs.Alike.{kept_append}
 use Rattle.ksm_tree.proofs.Changes.{all_rows}
 use Rattle.ksm_tree.proofs.Tied.{at_written, items_dropped, items_joined, items_kept, items_left, page_of, tied_counted}
 use Rattle.ksm_order.proofs.Ordered.{absent_parts}
@@ -101,7 +100,7 @@ module _ (rows : List Row) (first second : Row) (row : DupRow) (rise : InPageOrd
 pub tied_inserted : (rows : List Row) (row : Row) (dups : List Dup) → InPageOrder rows → row_at row.page rows ≡ None → merged_state row.state ≡ false → AreTied rows dups → AreTied (with_row row rows) dups
 tied_inserted rows row dups rise absent alone tied k d lt =
     let parts = absent_parts pages_ordered page_of row.page rows rise absent in
-    tied k d lt ∙ ap (λ rs. items_of rs (get_or dups k d).row) parts ∙ grind (arith, kept_append)
+    tied k d lt ∙ ap (λ rs. items_of rs (get_or dups k d).row) parts ∙ grind (arith, filter-append, map-append)
 
 -- rows and dups stay tied where each row changes but for its page and its dup
 pub tied_mapped : (f : Row → Row) (rows : List Row) (dups : List Dup) → All (λ r. ((f r).page ≡ r.page) × ((number : ℕ) → merged_into number (f r).state ≡ merged_into number r.state)) rows → AreTied rows dups → AreTied (map f rows) dups

@@ -1,5 +1,5 @@
 -- Waiting pages, by tree and bytes (mm/ksm: the unstable tree; that one page waits for each content is own).
-use Rattle.std.specs.Prelude.{bytes_eq, find, if◌then◌else◌, List, map, None, Option, option_map, Some, ℕ, ◌&&◌, ◌==◌, ◌≡◌}
+use Rattle.std.specs.Prelude.{bytes_eq, find, if◌then◌else◌, List, map, Option, option_map, ℕ, ◌&&◌, ◌==◌, ◌≡◌}
 use Rattle.ksm_base.specs.declared.page.GuestPage.{GuestPage}
 use Rattle.ksm_tree.specs.declared.content.Content.{Content}
 
@@ -18,12 +18,7 @@ abbrev pub waiting_page : ℕ → List ℕ → List WaitingPage → Option Guest
 waiting_page tree bytes waiting =
     option_map (λ w. w.page) (find (λ w. w.tree == tree && bytes_eq w.bytes bytes) waiting)
 
--- the new waiting pages are the old ones, but that a page waits in a tree with these bytes
-abbrev pub IsAdded : ℕ → List ℕ → GuestPage → List WaitingPage → List WaitingPage → Type 0
-IsAdded tree bytes page old new = (t : ℕ) (b : List ℕ)
-    → waiting_page t b new ≡ (if t == tree && bytes_eq b bytes then Some page else waiting_page t b old)
-
--- the new waiting pages are the old ones, but that none waits in a tree with these bytes
-abbrev pub IsRemoved : ℕ → List ℕ → List WaitingPage → List WaitingPage → Type 0
-IsRemoved tree bytes old new = (t : ℕ) (b : List ℕ)
-    → waiting_page t b new ≡ (if t == tree && bytes_eq b bytes then None else waiting_page t b old)
+-- the new waiting pages are the old ones, but for what waits in a tree with these bytes: a page, or none
+abbrev pub IsSetTo : ℕ → List ℕ → Option GuestPage → List WaitingPage → List WaitingPage → Type 0
+IsSetTo tree bytes page old new = (t : ℕ) (b : List ℕ)
+    → waiting_page t b new ≡ (if t == tree && bytes_eq b bytes then page else waiting_page t b old)

@@ -1,10 +1,10 @@
 //! The unstable tree, for users of this library. The book's own is in `ksm_pages`, which has each page's row.
 #![tactic(auto, using(crate::proofs::Waits::steps))]
 
-ghost use Rattle.std.specs.Prelude.{◌≡◌, [], None, IfOk, OnErr, is_some, true};
+ghost use Rattle.std.specs.Prelude.{◌≡◌, [], None, Some, IfOk, OnErr, is_some, true};
 ghost use Rattle.std.specs.Option.{unwrap_or};
 ghost use Rattle.ksm_tree.specs.Faults.{FailsForMemory};
-ghost use Rattle.ksm_tree.specs.Waits.{IsAdded, IsRemoved, waiting_page};
+ghost use Rattle.ksm_tree.specs.Waits.{IsSetTo, waiting_page};
 
 use crate::content::Content;
 use ksm_base::{Fault, GuestPage, PageBytes};
@@ -59,7 +59,7 @@ impl Waiting {
         page: GuestPage,
     ) -> Result<GuestPage, Fault>
         ensures found { IfOk result (λ found. found ≡ unwrap_or (waiting_page tree bytes.now self.old) page) }
-        ensures added { IfOk result (λ found. IsAdded tree bytes.now found self.old self.new) }
+        ensures added { IfOk result (λ found. IsSetTo tree bytes.now (Some found) self.old self.new) }
         ensures kept { is_some (waiting_page tree bytes.now self.old) ≡ true → self.new ≡ self.old }
         ensures absent { OnErr result (waiting_page tree bytes.now self.old ≡ None) }
         ensures refused { OnErr result (self.new ≡ self.old) }
@@ -76,7 +76,7 @@ impl Waiting {
 
     /// The page that waits in a tree with these bytes waits no more, if there is one.
     pub fn remove(&mut self, tree: u32, bytes: &PageBytes)
-        ensures { IsRemoved tree bytes.now self.old self.new }
+        ensures { IsSetTo tree bytes.now None self.old self.new }
     {
         self.pages.remove(&Content::of(tree, bytes));
     }

@@ -1,5 +1,5 @@
-use Rattle.ksm_tree.proofs.Names.{ap, arith, content_in, found_at, option_map, sym, true, [], ◌∙◌}
-use Rattle.ksm_tree.proofs.Chained.{content_here, group_here}
+use Rattle.ksm_tree.proofs.Names.{ap, arith, content_in, content_of, found_at, option_map, sym, true, [], ◌∙◌}
+use Rattle.ksm_tree.proofs.Chained.{group_here}
 use Rattle.ksm_tree.proofs.Joining.{walk_best}
 use Rattle.ksm_tree.proofs.Standing.{not_unused}
 use Rattle.std.proofs.lemmas.List.{nil_from_length}
@@ -20,7 +20,7 @@ best_in-requires c =
 
 pub returns-clause-best : goal.returns-clause-best
 returns-clause-best c = rw (← c.self.view_is)
-    (λ tree bytes is. grind (arith, c.best_in.ensures, content_here c.self.invariant _ _ is c.in_ok-found.ensures))
+    (λ tree bytes is. grind (arith, c.best_in.ensures, c.self.inside.groups.lawful (content_of tree bytes) c.args.group, c.in_ok-found.ensures))
 
 pub returns-clause-none : goal.returns-clause-none
 returns-clause-none c = rw (← c.self.view_is)
