@@ -61,11 +61,6 @@ nothing_of_parts f [] filled = refl
 nothing_of_parts f (p ∷ ps) filled =
     grind (arith, nat_tests, filled 0 p, length-append, nil_from_length (f p))
 
--- parts that are filled have some items
-some_items : {P : Type 0} (f : P → List Item) (parts : List P) → All (Full f) parts → 0 < length parts
-    → flat_map f parts ≢ []
-some_items f parts filled some none = grind (arith, nat_tests, nothing_of_parts f parts filled)
-
 -- parts in order that are cut in two
 module _ {P : Type 0} {f : P → List Item} {parts : List P} {n : ℕ} (are : AreParts f parts × IsCounted (flat_map f parts) n) (at : ℕ) where
   whole : flat_map f (take at parts) ++ flat_map f (drop at parts) ≡ flat_map f parts
@@ -79,7 +74,7 @@ module _ {P : Type 0} {f : P → List Item} {parts : List P} {n : ℕ} (are : Ar
   pub items_cut : 0 < at → at < length parts
       → IsCut (flat_map f parts) (flat_map f (take at parts)) (flat_map f (drop at parts))
   items_cut some within =
-      grind (arith, whole, parts_cut, some_items f (take at parts), some_items f (drop at parts), length-take-le at parts, length-drop at parts)
+      grind (arith, whole, parts_cut, nat_tests, nothing_of_parts f (take at parts), nothing_of_parts f (drop at parts), length-take-le at parts, length-drop at parts)
 
 -- a change that touches only what lies between the items in front of a key and those behind it, and keeps the order
 pub record IsLocal (key : ℕ) (h : List Item → List Item) : Type 0 where
@@ -104,13 +99,6 @@ local_without key = record {
       (λ k d lt. grind (arith, nat_tests, ahead k d)) (λ k d lt. grind (arith, nat_tests, after k d));
   rises = AllPairs-filter (λ x y. x.key < y.key) _;
 }
-
--- a list with an item put in is not empty, nor is one that was none with a mark
-pub with_filled : (x : Item) (xs : List Item) → with_item x xs ≢ []
-with_filled x xs none = grind (arith, ap length none, length-append)
-
-pub mark_filled : (key : ℕ) (mark : Bool) (xs : List Item) → xs ≢ [] → with_mark key mark xs ≢ []
-mark_filled key mark xs some none = grind (arith, length-map xs (mark_of key mark), nil_from_length)
 
 -- parts in place of the one of a key, which have its items after such a change
 module _ {P : Type 0} {f : P → List Item} {key : ℕ} {parts : List P} {at : ℕ} {q : P} (are : AreParts f parts) (place : IsPartOf f key parts at) (is : q ≡ get_or parts at q) {h : List Item → List Item} (local : IsLocal key h) where
@@ -146,8 +134,7 @@ module _ {P : Type 0} {f : P → List Item} {key : ℕ} {parts : List P} {at : �
 
   pub split : AreParts f two × (flat_map f two ≡ flat_map f parts)
   split =
-      let r = replaced are place is (local_none key) {all = two} (p ∷ m ∷ []) (All-cons (Full f) p (m ∷ []) halves.front_filled (All-cons (Full f) m [] halves.back_filled (All-nil (Full f)))) (grind (arith, append-nil)) two_is in
-      (r.0, r.1)
+      grind (arith, replaced are place is (local_none key) {all = two} (p ∷ m ∷ []) (All-cons (Full f) p (m ∷ []) halves.front_filled (All-cons (Full f) m [] halves.back_filled (All-nil (Full f)))) (grind (arith, append-nil)) two_is)
 
   there : (at + 1 < length two) × (m ≡ get_or two (at + 1) m)
   there =

@@ -73,34 +73,28 @@ pub many_front : {P : Type 0} (f : P → List Item) (parts : List P) (at : ℕ)
 many_front f parts at = grind (arith, ap (flat_map f) (take-append-drop at parts), flat_map-append, many-append)
 
 module _ {P : Type 0} (f : P → List Item) (parts : List P) (at : ℕ) {q : P} (within : at < length parts) (is : q ≡ get_or parts at q) where
-  abbrev ahead : List Item
-  ahead = front f parts at
-
-  abbrev later : List Item
-  later = rest f parts at
-
   -- all items from a part on are its own and those behind, and all are those and the ones in front
-  pub from_cut : flat_map f (drop at parts) ≡ f q ++ later
+  pub from_cut : flat_map f (drop at parts) ≡ f q ++ rest f parts at
   from_cut = grind (arith, drop_more parts at q)
 
-  pub cut : flat_map f parts ≡ ahead ++ (f q ++ later)
+  pub cut : flat_map f parts ≡ front f parts at ++ (f q ++ rest f parts at)
   cut = grind (arith, ap (flat_map f) (take-append-drop at parts), flat_map-append, from_cut)
 
   -- the marked item at a place is in a part, or behind it
   pub nth_cut : (place : ℕ) → key_at (marked (flat_map f (drop at parts))) place
-      ≡ cond (nat_lt place (many (f q))) (key_at (marked (f q)) place) (key_at (marked later) (place - many (f q)))
+      ≡ cond (nat_lt place (many (f q))) (key_at (marked (f q)) place) (key_at (marked (rest f parts at)) (place - many (f q)))
   nth_cut place =
       grind (arith, from_cut, filter-append (λ (x : Item). x.marked), key_append, length-filter (λ (x : Item). x.marked) (f q))
 
   module _ (key : ℕ) (are : AreParts f parts) where
     -- all in front of a part that does not begin behind a key come before the key
-    pub ahead_of : begins_behind key (f q) ≡ false → AreBefore key ahead
-    ahead_of = before_part key ahead (f q) later (grind (arith, are.filled at q)) (grind (arith, cut))
+    pub ahead_of : begins_behind key (f q) ≡ false → AreBefore key (front f parts at)
+    ahead_of = before_part key (front f parts at) (f q) (rest f parts at) (grind (arith, are.filled at q)) (grind (arith, cut))
 
     -- a part that begins behind a key and all that follow come behind the key
     pub behind_of : begins_behind key (f q) ≡ true → AreBehind key (flat_map f (drop at parts))
     behind_of begins =
-        rw from_cut (behind_part key (f q) later (halves_rise ahead (f q ++ later) (grind (arith, cut))).1 begins)
+        rw from_cut (behind_part key (f q) (rest f parts at) (halves_rise (front f parts at) (f q ++ rest f parts at) (grind (arith, cut))).1 begins)
 
 -- a part of the key: what is found there, and counted, is found and counted in all
 module _ {P : Type 0} {f : P → List Item} {key : ℕ} {parts : List P} {at : ℕ} {q : P} (place : IsPartOf f key parts at) (is : q ≡ get_or parts at q) where

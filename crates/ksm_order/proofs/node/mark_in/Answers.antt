@@ -1,6 +1,6 @@
-use Rattle.std.proofs.Common.{arith}
-use Rattle.std.proofs.lemmas.List.{get_or-set_same, get_or_default}
-use Rattle.ksm_order.proofs.Changes.{local_mark, mark_filled, set_part}
+use Rattle.std.proofs.Common.{ap, arith, length}
+use Rattle.std.proofs.lemmas.List.{length-map, nil_from_length, get_or-set_same, get_or_default}
+use Rattle.ksm_order.proofs.Changes.{local_mark, set_part}
 use Rattle.ksm_order.proofs.Parts.{few_in_part}
 use Rattle.ksm_order.proofs.node.mark_in.Goals as goal
 
@@ -13,5 +13,5 @@ pub returns : goal.returns
 returns g c =
     let at = rw c.as_slice.ensures.value at c.part_of-at.ensures in
     let is = c.index_mut.ensures.value in
-    let marked = set_part c.requires.parts at is (local_mark c.args.key c.args.mark) c.set_mark.ensures (mark_filled _ _ (g.P.Part.items c.index_mut.result.now) (grind arith)) in
+    let marked = set_part c.requires.parts at is (local_mark c.args.key c.args.mark) c.set_mark.ensures (λ none. grind (arith, ap length none, length-map, nil_from_length (g.P.Part.items c.index_mut.result.now))) in
     grind (arith, marked, few_in_part at is, get_or-set_same, get_or_default)

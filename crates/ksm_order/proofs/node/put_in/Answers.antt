@@ -1,5 +1,5 @@
-use Rattle.std.proofs.Common.{arith}
-use Rattle.ksm_order.proofs.Changes.{local_with, same_part, set_part, with_filled}
+use Rattle.std.proofs.Common.{ap, arith, length, length-append}
+use Rattle.ksm_order.proofs.Changes.{local_with, same_part, set_part}
 use Rattle.ksm_order.proofs.node.put_in.Goals as goal
 
 pub returns-in_err-insert : goal.returns-in_err-insert
@@ -8,4 +8,4 @@ returns-in_err-insert g c =
 
 pub returns : goal.returns
 returns g c =
-    grind (arith, set_part c.requires.parts c.requires.place c.index_mut.ensures.value (local_with c.args.item) c.in_ok-insert.ensures.added (search with_filled))
+    grind (arith, set_part c.requires.parts c.requires.place c.index_mut.ensures.value (local_with c.args.item) c.in_ok-insert.ensures.added (λ none. grind (arith, ap length none, length-append)))
