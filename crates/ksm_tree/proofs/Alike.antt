@@ -1,6 +1,5 @@
 -- A list that is made of another, element by element: what is searched, kept and counted in it.
-use Rattle.ksm_tree.proofs.Names.{All, arith, Bool, count_by, length-filter, length-map, false, filter, find, get_or, if◌then◌else◌, List, map, option_map, refl, suc, []}
-use Rattle.ksm_tree.proofs.Names.{◌∙◌, ◌∷◌, ◌≡◌}
+use Rattle.ksm_tree.proofs.Names.{All, arith, Bool, count_by, length-filter, length-map, false, filter, find, get_or, if◌then◌else◌, List, map, option_map, refl, suc, [], ◌∙◌, ◌∷◌, ◌≡◌}
 use Rattle.std.proofs.lemmas.List.{map-id}
 pub use Rattle.ksm_rmap.proofs.Alike.{filter_mapped, pairs_mapped}
 

@@ -1,9 +1,8 @@
 -- The dups in their groups: what is found there, and how that stays right with a change of items, with a dup that goes, and with a new one.
-use Rattle.ksm_tree.proofs.Names.{absent_kept, nat_tests, numbers_ordered, sym, suc, true, place_of, All, All-filter, ap, AreChained, AreTotals, arith, Bool, chain_in, change_at, change_items}
-use Rattle.ksm_tree.proofs.Names.{Dup, dup_at, dup_of, DupRow, dups_seen, DupsState, false, filter, find, find_none, find_nothing, filter_passes, get, Group, group_places, Groups}
-use Rattle.ksm_tree.proofs.Names.{GuestPage, has_number, if◌then◌else◌, in_group, InPlaceOrder, IsCountedAnew, IsMoved, length, List, MOST_FRAMES, nat_lt, None, not, number_in, Option, pairs_head}
-use Rattle.ksm_tree.proofs.Names.{pairs_tail, refl, rows_of, rules, SameChains, SlotsState, Some, stands_at, subst, Tells, with_dup, with_new, with_place, without, without_place, ℕ, [], ◌&&◌, ◌+◌}
-use Rattle.ksm_tree.proofs.Names.{◌<◌, ◌==◌, ◌∙◌, ◌∷◌, ◌≡◌, ◌≤◌}
+use Rattle.ksm_tree.proofs.Names.{absent_kept, nat_tests, numbers_ordered, sym, suc, true, place_of, All, All-filter, ap, AreChained, AreTotals, arith, Bool, chain_in, change_at, change_items, Dup}
+use Rattle.ksm_tree.proofs.Names.{dup_at, dup_of, DupRow, dups_seen, DupsState, false, filter, find, find_none, find_nothing, filter_passes, get, Group, group_places, Groups, GuestPage, has_number}
+use Rattle.ksm_tree.proofs.Names.{if◌then◌else◌, in_group, InPlaceOrder, IsCountedAnew, IsMoved, length, List, MOST_FRAMES, nat_lt, None, not, number_in, Option, pairs_head, pairs_tail, refl, rows_of}
+use Rattle.ksm_tree.proofs.Names.{rules, SameChains, SlotsState, Some, stands_at, subst, Tells, with_dup, with_new, with_place, without, without_place, ℕ, [], ◌&&◌, ◌+◌, ◌<◌, ◌==◌, ◌∙◌, ◌∷◌, ◌≡◌, ◌≤◌}
 use Rattle.ksm_tree.proofs.Alike.{chosen, find_alike, map_alike}
 use Rattle.ksm_tree.proofs.OneSlot.{found_stands}
 use Rattle.ksm_tree.proofs.Grouped.{IsMore, more_there, more_with, places_size, totals_less, totals_more, totals_tell}
@@ -145,5 +144,4 @@ kept_by test p apart (d ∷ dups) = grind (arith, apart d, kept_by test p apart 
 pub new_again : (dup : Dup) (dups : List Dup) → with_new dup (without_place dup.row.place dups) ≡ with_new dup dups
 new_again dup dups =
     let p = dup.row.place in
-    let low = kept_by (λ d. nat_lt d.row.place p) p (λ d less. grind (arith, nat_tests)) dups in
-    let high = kept_by (λ d. nat_lt p d.row.place) p (λ d more. grind (arith, nat_tests)) dups in grind arith
+    grind (arith, kept_by (λ d. nat_lt d.row.place p) p (λ d less. grind (arith, nat_tests)) dups, kept_by (λ d. nat_lt p d.row.place) p (λ d more. grind (arith, nat_tests)) dups)

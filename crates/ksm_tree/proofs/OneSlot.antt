@@ -77,8 +77,7 @@ pub first_found : (test : Dup → Bool) (i : ℕ) (slots : Slots) → NoneBefore
 first_found test i [] before here = refl
 first_found test zero (s ∷ slots) before here = grind arith
 first_found test (suc i) (s ∷ slots) before here =
-    let rest = first_found test i slots (λ j less. before (suc j) (omega arith)) (λ less. here (omega arith)) in
-    grind (arith, before 0 (omega arith))
+    grind (arith, before 0 (omega arith), first_found test i slots (λ j less. before (suc j) (omega arith)) (λ less. here (omega arith)))
 
 -- where the dups stand behind place j, it is the least that no dup has
 empty_before : (j k : ℕ) (slots : Slots) → j < k → ArePlaced k slots → empty_from j (rows_of (present slots)) ≡ j
@@ -93,9 +92,7 @@ empty_first k i [] placed before within here = omega arith
 empty_first k zero (s ∷ slots) placed before within here =
     grind (arith, empty_before k (suc k) slots (omega arith) placed.1)
 empty_first k (suc i) (s ∷ slots) placed before within here =
-    let rest = empty_first (suc k) i slots placed.1 (λ j less. before (suc j) (omega arith))
-    (omega arith) here in
-    grind (arith, before 0 (omega arith))
+    grind (arith, before 0 (omega arith), empty_first (suc k) i slots placed.1 (λ j less. before (suc j) (omega arith)) (omega arith) here)
 
 -- the dup found at a place stands there
 pub found_stands : {p : ℕ} (dups : List Dup) {d : Dup} → dup_at p dups ≡ Some d → d.row.place ≡ p

@@ -24,5 +24,4 @@ group_joined t b row rows inside =
 -- a new dup of another group takes its place out of a group, if the group had that place
 pub group_passed : (t : ℕ) (b : List ℕ) (row : DupRow) (rows : List DupRow) → InPlaceOrder rows → in_group t b row ≡ false → group_places t b (with_dup row rows) ≡ without row.place (group_places t b rows)
 group_passed t b row rows rise outside =
-    let rest = chosen (λ (r : DupRow). r.place) (in_group t b) (λ q. not (q == row.place)) rows in
-    grind (arith, filter-append, map-append, dups_parted row.place rows rise)
+    grind (arith, filter-append, map-append, chosen (λ (r : DupRow). r.place) (in_group t b) (λ q. not (q == row.place)) rows, dups_parted row.place rows rise)
