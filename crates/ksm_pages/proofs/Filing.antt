@@ -1,14 +1,13 @@
 -- Entries under keys and the order of their pages: what is found, and what one entry that came, went or changed leaves.
-use Rattle.ksm_pages.proofs.Names.{All, All-append, All-cons, All-filter, All-map, ap, ap₂, AreAscending, AreFiled, arith, Bool, change_held, comes_before, Entry, false, Fills, filter, filter_mapped}
-use Rattle.ksm_pages.proofs.Names.{filter_passes, find, find_all, find_mapped, find_passes, get, get_or, get_or-map, GuestPage, Held, held_at, held_in, held_of, held_under, if◌then◌else◌, InPageOrder}
+use Rattle.ksm_pages.proofs.Names.{All, All-filter, All-map, ap, ap₂, AreAscending, AreFiled, arith, Bool, change_held, comes_before, Entry, false, Fills, filter, filter_mapped}
+use Rattle.ksm_pages.proofs.Names.{filter_passes, find, find_mapped, find_passes, get, get_or, get_or-map, GuestPage, Held, held_at, held_in, held_of, held_under, if◌then◌else◌, InPageOrder}
 use Rattle.ksm_pages.proofs.Names.{is_of, IsRows, IsUnder, key_in, List, map, map-append, map_alike, map_mapped, marked, Named, named_of, None, not, option_map, pairs_mapped, refl, rows_of, RowsView}
-use Rattle.ksm_pages.proofs.Names.{rules, same_page, same_page_eq, same_page_refl, same_page_sym, same_Some, Slab, Some, sym, true, with_held, with_named, without_held, without_named, ℕ, ◌==◌, ◌∙◌}
+use Rattle.ksm_pages.proofs.Names.{rules, same_page, same_page_eq, same_page_refl, same_Some, Slab, Some, sym, true, with_held, with_named, without_held, without_named, ℕ, ◌==◌, ◌∙◌}
 use Rattle.ksm_pages.proofs.Names.{◌≡◌, ◌≢◌}
 use Rattle.ksm_pages.proofs.Options.{mapped_some, none_mapped}
-use Rattle.std.proofs.lemmas.List.{map-id}
+use Rattle.std.proofs.lemmas.List.Folds.{map_fixed}
 use Rattle.ksm_pages.specs.declared.rows.Rows.TheInside.{Inside}
-use Rattle.ksm_tree.proofs.Numbering.{full}
-use Rattle.ksm_pages.proofs.Found.{each_found, find_change, find_gone_other, find_put, find_put_other}
+use Rattle.ksm_pages.proofs.Found.{each_found, find_change, find_gone, find_gone_other, find_put, find_put_other}
 
 abbrev page_of : Named → GuestPage
 page_of n = n.page
@@ -32,16 +31,6 @@ under_named slab n told = search rules
 -- the row under a key is of the page that the order names
 pub page_under : (pass : ℕ) (slab : Slab Entry) {n : Named} → Stands slab n → (held_under pass (get slab n.key)).row.page ≡ n.page
 page_under pass slab told = grind arith
-
--- pages are named as their entries say, where those that are named stand so, and those that stand are named so
-pub filed_by : (slab : Slab Entry) (order : List Named) → All (Stands slab) order
-    → ((key : ℕ) (e : Entry) → get slab key ≡ Some e → find (is_of e.page) order ≡ Some (named_of key e)) → AreFiled slab order
-filed_by slab order stand named n = (
-  λ found. find_all _ (Stands slab) _ n found stand,
-  λ told.
-      let at = mapped_some _ _ told in
-      rw (← at.2) (named n.key at.0 at.1),
-)
 
 -- what holds of the entry that a slab was given, and of all others that stood, holds of all that stand now
 pub all_filled : {slab later : Slab Entry} {key : ℕ} {e : Entry} → Fills slab later key (Some e) → {P : ℕ → Entry → Type 0} → P key e
@@ -81,8 +70,6 @@ module _ (slab : Slab Entry) (order : List Named) (rise : AreAscending order) (f
     pub held_found : (page : GuestPage) → held_at page (held_in pass slab order) ≡ option_map (held_by pass slab) (find (is_of page) order)
     held_found page = grind (arith, find_mapped, page_under, all_stand)
 
-  -- ---------------------------------------------------------------- one entry changed
-
   module _ {key : ℕ} {e : Entry} (stood : get slab key ≡ Some e) where
     -- under another key stands an entry of another page
     pub elsewhere : {k : ℕ} {f : Entry} → get slab k ≡ Some f → k ≢ key → same_page f.page e.page ≡ false
@@ -107,15 +94,13 @@ module _ (slab : Slab Entry) (order : List Named) (rise : AreAscending order) (f
       -- where the flag stays, the order says so already
       pub unmarked : e'.mergeable ≡ e.mergeable → order ≡ marked e.page e'.mergeable order
       unmarked flag =
-          sym (map_alike mark (λ n. n) order (λ k d lt. grind (
+          sym (map_fixed mark order (λ k d lt. grind (
             arith,
             flag,
             each_found page_of _ rise k d lt,
             named_under slab order filed key e stood,
             same_page_eq (get_or order k d).page e.page,
-          )) ∙ map-id order)
-
-    -- ---------------------------------------------------------------- one entry gone
+          )))
 
     module _ {later : Slab Entry} (fills : Fills slab later key None) where
       -- the other pages stand under other keys
@@ -133,15 +118,16 @@ module _ (slab : Slab Entry) (order : List Named) (rise : AreAscending order) (f
 
       -- where one entry is gone with the name of its page, the other pages are named as their entries say
       pub filed_taken : AreFiled later (without_named e.page order)
-      filed_taken =
-          filed_by later _
-          (λ k d lt. grind (arith, away))
-          (λ k f stands.
-          let apart : k ≢ key = grind (arith, full) in
-          let was = sym (fills.others k apart) ∙ stands in
-          find_gone_other page_of _ _ order (same_page_sym e.page f.page ∙ elsewhere was apart) ∙ named_under slab _ filed k f was)
-
-  -- ---------------------------------------------------------------- one entry more
+      filed_taken n = grind (
+        arith,
+        differ_by,
+        fills.others n.key,
+        stood,
+        elsewhere,
+        find_gone page_of e.page order,
+        find_gone_other page_of e.page n.page order,
+        same_page_eq,
+      )
 
   module _ {key : ℕ} {e : Entry} {later : Slab Entry} (vacant : get slab key ≡ None) (absent : find (is_of e.page) order ≡ None) (fills : Fills slab later key (Some e)) where
     -- no page that the order names stands under the new key
@@ -166,21 +152,15 @@ module _ (slab : Slab Entry) (order : List Named) (rise : AreAscending order) (f
 
     -- where an entry came under a vacant key with a name, all pages are named as their entries say
     pub filed_put : AreFiled later (with_named (named_of key e) order)
-    filed_put =
-        filed_by later _ (All-append (Stands later) _ _ (part_stands _)
-        (All-cons (Stands later) (named_of key e) _ (grind arith) (part_stands (comes_before e.page))))
-        (all_filled fills (find_put page_of _ _ order refl)
-        (λ k f was apart. find_put_other _ _ f.page _ _ refl rise absent (differ k f was) ∙ named_under slab _ filed k f was))
-      where
-        part_stands : (test : GuestPage → Bool) → All (Stands later) (filter (λ n. test n.page) order)
-        part_stands test =
-            All-filter _ (Stands later) _
-            (λ k d lt. let n = get_or order k d in ap (option_map (named_of n.key)) (fills.others n.key (taken_key (all_stand k d lt))) ∙ all_stand k d lt)
-
-        differ : (k : ℕ) (f : Entry) → get slab k ≡ Some f → same_page e.page f.page ≡ false
-        differ k f was = grind (arith, absent, named_under, same_page_eq)
-
--- ---------------------------------------------------------------- the rows inside
+    filed_put n = grind (
+      arith,
+      differ_by,
+      fills.others n.key,
+      taken_key,
+      find_put page_of e.page (named_of key e) order,
+      find_put_other page_of e.page n.page (named_of key e) order,
+      same_page_eq,
+    )
 
 -- what is seen of entries in an order, in a pass, where each node has a tree or not
 abbrev pub view : Bool → ℕ → Slab Entry → List Named → RowsView

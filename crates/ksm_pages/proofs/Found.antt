@@ -1,7 +1,7 @@
 -- Lists in the order of their pages: what a search finds once one came, went or changed, and what a write at a page's place leaves.
 use Rattle.ksm_pages.proofs.Names.{[], All, All-cons, AllPairs, ap, arith, before_irrefl, Bool, comes_before, cond, false, filter, filter_passes, find, find-append, find_mapped, find_nothing}
-use Rattle.ksm_pages.proofs.Names.{find_over, find_passes, get_or, GuestPage, if◌then◌else◌, length, length-append, List, map, None, not, Option, option_map, pages_ordered, pairs_head, pairs_mapped}
-use Rattle.ksm_pages.proofs.Names.{pairs_tail, rules, same_page, same_page_eq, same_page_refl, same_page_sym, Some, suc, sym, true, zero, ◌++◌, ◌+◌, ◌∙◌, ◌∷◌, ◌≡◌}
+use Rattle.ksm_pages.proofs.Names.{find_over, find_passes, get_or, GuestPage, if◌then◌else◌, length, length-append, List, map, map_alike, None, not, Option, option_map, pages_ordered, pairs_head, pairs_mapped}
+use Rattle.ksm_pages.proofs.Names.{pairs_tail, rules, same_page, same_page_eq, same_page_refl, same_page_sym, same_Some, Some, suc, sym, true, zero, ◌++◌, ◌+◌, ◌∙◌, ◌∷◌, ◌≡◌}
 use Rattle.ksm_order.proofs.Ordered.{absent_parts}
 
 -- what a search finds among all it finds among those that are kept, where the one found is kept
@@ -57,6 +57,15 @@ module _ {X : Type 0} (key : X → GuestPage) where
     pub write_rises : (f : X → X) → ((y : X) → key (f y) ≡ key y) → (xs : List X) → AllPairs Before xs → AllPairs Before (map (λ y. if is_it y then f y else y) xs)
     write_rises f same xs rise =
         search (rules, pairs_mapped Before Before (λ y. key (if is_it y then f y else y) ≡ key y))
+
+    -- a change of the element of a page writes there what it makes of that one
+    pub change_one : (f : X → X) (xs : List X) {x : X} → AllPairs Before xs → find is_it xs ≡ Some x
+        → map (λ y. if is_it y then f y else y) xs ≡ map (λ y. if is_it y then f x else y) xs
+    change_one f xs {x} rise found = map_alike _ _ xs (λ k d lt.
+        let z = get_or xs k d in
+        let one : is_it z ≡ true → z ≡ x = λ at.
+        same_Some _ _ (sym (each_found xs rise k d lt) ∙ ap (λ q. find (is_of_page q) xs) (same_page_eq _ _ at) ∙ found) in
+        grind (arith, one))
 
     -- with an element of a page that was not there, a list is one longer
     pub length_with : (x : X) (xs : List X) → AllPairs Before xs → find is_it xs ≡ None → length (filter low xs ++ x ∷ filter high xs) ≡ length xs + 1

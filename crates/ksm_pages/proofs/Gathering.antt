@@ -1,8 +1,9 @@
 -- A walk along the order that lists the pages that a visit may change.
-use Rattle.ksm_pages.proofs.Names.{[], after_cursor, All, All-map, ap, AreAscending, AreFiled, AreListed, arith, before_irrefl, Bool, cases_Bool, comes_before, Entry, false, filter, find, find_all}
+use Rattle.ksm_pages.proofs.Names.{[], after_cursor, All, All-map, ap, AreAscending, AreFiled, AreListed, arith, before_irrefl, Bool, comes_before, Entry, false, filter, find, find_all}
 use Rattle.ksm_pages.proofs.Names.{find_none, find_passes, get, GuestPage, has_item, held_of, IfNone, IfSome, inl, InPageOrder, inr, is_of, is_restless, is_some, IsAddedTo, IsUnder, length, List}
 use Rattle.ksm_pages.proofs.Names.{Listing, Named, named_of, None, not, one_before, Option, option_map, Row, rows_of, same_page, same_page_eq, same_page_refl, same_Some, shared_state, Slab, Some}
-use Rattle.ksm_pages.proofs.Names.{Spot, subst, suc, sym, true, true≢false, ℕ, ◌<◌, ◌∙◌, ◌∷◌, ◌≡◌, ◌≤◌, ◌⊎◌}
+use Rattle.ksm_pages.proofs.Names.{Spot, subst, sym, true, ℕ, ◌<◌, ◌∙◌, ◌∷◌, ◌≡◌, ◌≤◌, ◌⊎◌}
+use Rattle.std.proofs.lemmas.List.Folds.{Any-from_list_any}
 use Rattle.ksm_pages.specs.Ahead.{FindsNext}
 use Rattle.ksm_pages.specs.Paged.{is_restless as may_change}
 use Rattle.ksm_pages.proofs.Found.{first_found}
@@ -15,11 +16,9 @@ restless_as pass e = grind arith
 
 -- what holds of all pages of a list holds of one that it has
 all_listed : (P : GuestPage → Type 0) (pages : List GuestPage) → All P pages → (page : GuestPage) → has_item page pages ≡ true → P page
-all_listed P [] all page has = absurd (true≢false (sym has))
-all_listed P (p ∷ pages) all page has = elim (cases_Bool (same_page p page)) [
-  | inl same ↦ subst P (same_page_eq p page same) (all 0 p (omega arith))
-  | inr other ↦ all_listed P pages (λ k d lt. all (suc k) d (omega arith)) page (grind arith)
-]
+all_listed P pages all page has =
+    let at = Any-from_list_any (λ p. same_page p page) pages has in
+    subst P (same_page_eq at.1 page at.4) (subst P at.3 (all at.0 at.1 at.2))
 
 -- of the pages up to a cursor those that a visit may change are listed
 abbrev pub AreListedUpTo : Slab Entry → Option GuestPage → Listing → Type 0

@@ -5,7 +5,7 @@ use Rattle.ksm_pages.proofs.Names.{MOST_REFERENCES, nat_tests, None, number_foun
 use Rattle.ksm_pages.proofs.Names.{shared_state, shares, Some, subst, sym, tied_count, tied_joined, true, with_item, ℕ, ◌<◌, ◌==◌, ◌∙◌, ◌≡◌}
 use Rattle.ksm_tree.specs.Dups.{has_number, items_of as items_numbered}
 use Rattle.ksm_pages.proofs.Changing.{row_found as found_rows}
-use Rattle.ksm_pages.proofs.Leaving.{AreLawful, Comes, held_as, of_dup, of_page, row_there, turned_so, view_of}
+use Rattle.ksm_pages.proofs.Leaving.{AreLawful, Comes, of_dup, of_page, row_there, turned_so, view_of}
 use Rattle.ksm_pages.proofs.Lodgings.{frame_by, seat}
 use Rattle.ksm_pages.proofs.Lone.{shared_lone}
 
@@ -69,8 +69,8 @@ module _ (s : Inside) (are : AreLawful s) (page : GuestPage) {h : Held} (found :
   -- once a page with a frame of its own joined a dup, the pages are lawful, and the page lies where the dup's items do
   pub joins : Comes s rows later (relaid page (λ r. record r { state = Merged number }) (of_dup s number) (seen p))
   joins =
-      turned_so s are page found seen_as rows (shares (Merged number)) (λ r. record r { state = Merged number })
-      (λ x. refl) (λ r. refl) (held_as turned) into (rows_items _ _ _) _ refl
+      turned_so s are page found seen_as (shares (Merged number)) turned (λ x. refl) into (rows_items _ _ _)
+      (λ r. record r { state = Merged number }) (λ r. refl) refl
       (tied_joined _ _ _ are.order (row_there s are _ found) _ _ _ (own_not_merged _ alone) (of_page s are _ found) refl are.tied)
       (λ _. shared_lone s.knobs (dup_rows s.dups.dups) (Merged number) h) refl
 

@@ -1,10 +1,11 @@
 -- The pages once the row of one page changed, or went: they are lawful still, and what is seen of them is changed so.
-use Rattle.ksm_pages.proofs.Names.{ap, AreAlone, AreKept, AreTied, arith, change_held, change_row, Dup, dup_rows, DupsState, false, find_passes, frame_of, Frames, GuestPage, Held, held_at}
+use Rattle.ksm_pages.proofs.Names.{altered, ap, AreAlone, AreKept, AreTied, arith, change_row, Dup, dup_rows, DupsState, false, find_passes, frame_of, Frames, GuestPage, Held, held_at}
 use Rattle.ksm_pages.proofs.Names.{InPageOrder, Inside, is_some, IsAlone, IsKnown, lies_on, List, lodging, lodgings_of, MatchOption, None, Option, option_map, ordered_change, PagesValue, PagesView}
 use Rattle.ksm_pages.proofs.Names.{relaid, Row, row_at, rows_of, RowsView, same_page_eq, seen, shared_state, Some, subst, sym, true, ℕ, ◌∙◌, ◌≡◌}
 use Rattle.ksm_pages.proofs.Changing.{row_told, rows_changed}
-use Rattle.ksm_pages.proofs.Lodgings.{changed_to, frame_by, lodged_changed, seat}
-use Rattle.ksm_pages.proofs.Lone.{IsLone, lone_changed}
+use Rattle.ksm_pages.proofs.Found.{change_one}
+use Rattle.ksm_pages.proofs.Lodgings.{frame_by, lodged_changed, page_of, seat}
+use Rattle.ksm_pages.proofs.Lone.{held_rise, IsLone, lone_changed}
 
 -- where the items of each dup lie
 abbrev pub of_dup : Inside → ℕ → Option ℕ
@@ -109,34 +110,18 @@ module _ (s : Inside) (are : AreLawful s) (page : GuestPage) {h : Held} (found :
   pub lies : {p : PagesValue} → view_of s ≡ p → seat (of_dup s) (Some h) ≡ frame_of p.lodgings page
   lies seen_as = grind (arith, frame_by)
 
-  module _ {p : PagesValue} (seen_as : view_of s ≡ p) (rows : RowsView) where
-    -- once a page's row changed, the page is seen with the new row, on the frame that the new row says
-    pub turned_so : (f : Held → Held) (g : Row → Row) → ((x : Held) → (f x).row ≡ g x.row)
-        → ((r : Row) → (g r).page ≡ r.page)
-        → Become s.rows rows (change_held page f s.rows.held) → {ds : List Dup} {later : DupsState}
-        → later ≡ record s.dups { dups = ds }
-        → dup_rows ds ≡ dup_rows s.dups.dups → (to : Row → Row) → g old ≡ to old
-        → AreTied (change_row page (λ _. to old) (rows_of s.rows.held)) ds
-        → (IsLoneIn s h → IsLoneIn s (f h)) → {frame : Option ℕ}
-        → seat (of_dup s) (Some (f h)) ≡ frame
-        → Comes s rows later (relaid page to frame (seen p))
-    turned_so f g is same turned rest alike to agree tied lone lodged =
-        let before = rows_of s.rows.held in
-        let by_g = rows_changed _ f g _ is in
-        let as_old = changed_to page to _ are.order row_there in
-        let new = by_g ∙ changed_to _ g _ are.order row_there ∙ ap (λ r. change_row page (λ _. r) before) agree
-        ∙ sym as_old in
-        let lain = lodged_changed _ f (λ x. (λ i. (is x i).page) ∙ same x.row) _ _ found
-        ∙ ap (λ o. lies_on page o (frame_of (lodgings_of (of_dup s) s.rows.held))) lodged in
-        rw (← seen_as)
-        (comes s are rows turned new rest alike
-        (subst InPageOrder (sym by_g ∙ new) (ordered_change _ g _ same are.order)) (rw as_old tied)
-        (lone_changed s.knobs _ page f _ are.order found lone are.alone) lain)
-
--- a page that comes to lie where it lay does not move
-pub stays_there : {s : Inside} {rows : RowsView} {later : DupsState} (p : PagesValue) (page : GuestPage) {now : List Row}
-    → Comes s rows later (record (seen p) { rows = now; frame = lies_on page (frame_of p.lodgings page) (frame_of p.lodgings) })
-    → Comes s rows later (record (seen p) { rows = now })
-stays_there {s} {rows} {later} p page {now} =
-    subst (λ lay. Comes s rows later (record (seen p) { rows = now; frame = lay }))
-    (lies_same page)
+  -- once a page's row changed, the page is seen with the new row, on the frame that the new row says
+  pub turned_so : {p : PagesValue} → view_of s ≡ p → {rows : RowsView} (f : Held → Held) → rows ≡ altered page f s.rows
+      → ((x : Held) → (f x).row.page ≡ x.row.page) → {ds : List Dup} {later : DupsState} → later ≡ record s.dups { dups = ds }
+      → dup_rows ds ≡ dup_rows s.dups.dups → (to : Row → Row) → ((r : Row) → (to r).page ≡ r.page) → (f h).row ≡ to old
+      → AreTied (change_row page (λ _. to old) (rows_of s.rows.held)) ds → (IsLoneIn s h → IsLoneIn s (f h))
+      → {frame : Option ℕ} → seat (of_dup s) (Some (f h)) ≡ frame → Comes s rows later (relaid page to frame (seen p))
+  turned_so seen_as {rows} f turned pages rest alike to same agree tied lone lodged =
+      let as_old = change_one (λ (r : Row). r.page) page to _ are.order row_there in
+      let new = ap rows_of (change_one page_of page f _ (held_rise _ are.order) found)
+      ∙ rows_changed page (λ _. f h) (λ _. to old) _ (λ _. agree) ∙ sym as_old in
+      let lain = lodged_changed _ f pages _ _ found
+      ∙ ap (λ o. lies_on page o (frame_of (lodgings_of (of_dup s) s.rows.held))) lodged in
+      rw (← seen_as)
+      (comes s are rows (held_as turned) new rest alike (ordered_change _ to _ same are.order) (rw as_old tied)
+      (lone_changed s.knobs _ page f _ are.order found lone are.alone) lain)

@@ -1,117 +1,93 @@
 -- Each entry in the unstable tree is found there: what one entry that came, went or changed leaves, and what the rows show of it.
-use Rattle.ksm_pages.proofs.Names.{All, ap, AreInTree, AreLed, AreWaitersLed, arith, Bool, bytes_eq-Decides, Entry, false, Fills, find, find_all, find_none, find_nothing, find_passes, get}
-use Rattle.ksm_pages.proofs.Names.{get_or, has_content, Held, held_of, holds, inl, inr, is_in, IsFree, List, map, nat_lt, nat_tests, None, number_of, Option, option_map, page_in_tree}
-use Rattle.ksm_pages.proofs.Names.{refl, same_page_eq, same_Some, Slab, Some, StaysLed, sym, tree_by, true, true≢false, waiting_state, ℕ, ◌∙◌, ◌≡◌, ◌≢◌, ◌⊎◌}
-use Rattle.ksm_pages.proofs.Options.{mapped_some}
+use Rattle.ksm_pages.proofs.Names.{[], All, AreInTree, AreLed, AreWaitersLed, arith, Bool, bytes_eq-Decides, Entry, false, Fills, find, find_all, find_none, find_nothing, find_passes, get}
+use Rattle.ksm_pages.proofs.Names.{has_content, Held, held_of, holds, inl, inr, is_in, IsFree, List, nat_lt, nat_tests, None, Option, option_map, page_in_tree}
+use Rattle.ksm_pages.proofs.Names.{refl, same_page_eq, Slab, Some, StaysLed, tree_by, true, waiting_state, ℕ, ◌==◌, ◌∷◌, ◌≡◌, ◌≢◌, ◌⊎◌}
+use Rattle.std.specs.List.{list_any}
 use Rattle.ksm_pages.specs.declared.unstable.TheConstants.{GONE}
-use Rattle.ksm_pages.specs.Unstable.{holder, if_passes, in_place, Keeps, keys_at, LeadsTo, stands_under}
+use Rattle.ksm_pages.specs.Unstable.{holder, Keeps, meets, stands_as, stands_under}
 use Rattle.ksm_pages.specs.declared.rows.Rows.TheInside.{Inside}
 use Rattle.ksm_pages.specs.declared.unstable.UnstableTree.{UnstableTree}
-use Rattle.ksm_pages.proofs.Found.{find_narrower}
-use Rattle.ksm_pages.proofs.Filing.{all_held, AreRows, each_mapped, one_key, row_found, rows_all, view_of}
-
--- where a test that lets less through is searched for, none is found where none was
-none_less : {X : Type 0} (p q : X → Bool) (xs : List X) → ((y : X) → q y ≡ true → p y ≡ true) → find p xs ≡ None → find q xs ≡ None
-none_less p q xs less none = find_nothing q xs (λ k d lt. grind (arith, find_none p xs none k d lt, less (get_or xs k d)))
-
-module _ (by_node : Bool) (slab : Slab Entry) (u : UnstableTree) (t : ℕ) (b : List ℕ) {key : ℕ} (is : holder by_node slab u t b ≡ Some key) where
-  -- the entry to which the tree leads stands there
-  pub holder_stands : stands_under by_node slab t b key ≡ true
-  holder_stands = grind (arith, find_passes)
-
--- a place gives the same key by a test that lets less through, where that key passes it
-place_less : (p q : ℕ → Bool) → ((k : ℕ) → q k ≡ true → p k ≡ true) → (key : ℕ) → q key ≡ true
-    → (place : Option (List ℕ)) (o : Option ℕ) → in_place p place (if_passes p o) ≡ Some key → in_place q place (if_passes q o) ≡ Some key
-place_less p q less key passes None o is = grind arith
-place_less p q less key passes (Some keys) o is = grind (arith, is, find_narrower p q less keys key, none_less p q keys less)
-
--- in a later slab in which no more entries stand with a tree and bytes the tree leads to the same one, if it stands still
-pub holder_less : (by_node : Bool) (slab : Slab Entry) (u : UnstableTree) (t : ℕ) (b : List ℕ) {key : ℕ} → holder by_node slab u t b ≡ Some key
-    → (later : Slab Entry) → ((k : ℕ) → stands_under by_node later t b k ≡ true → stands_under by_node slab t b k ≡ true)
-    → stands_under by_node later t b key ≡ true → holder by_node later u t b ≡ Some key
-holder_less by_node slab u t b {key} is later less stands =
-    place_less (stands_under by_node slab t b) _ less key stands (keys_at u t b) (number_of t b u.others.entries) is
-
--- where the tree leads to the entry that stands now, it led to the one that stood, with the same home and bytes
-abbrev pub StaysIn : Option Entry → Option Entry → Type 0
-StaysIn was now = (e : Entry) → now ≡ Some e → is_in e.in_tree ≡ true → (d : Entry) × (was ≡ Some d) × StaysLed d e
+use Rattle.ksm_pages.proofs.Filing.{all_held, differ_by, AreRows, one_key, row_found, rows_all, view_of}
 
 -- two numbers are one, or differ
-pub same_or_apart : (m n : ℕ) → (m ≡ n) ⊎ (m ≢ n)
+same_or_apart : (m n : ℕ) → (m ≡ n) ⊎ (m ≢ n)
 same_or_apart m n = grind arith
 
-module _ (by_node : Bool) (slab later : Slab Entry) (u : UnstableTree) (led : AreLed by_node slab u) where
-  -- where the tree led to all entries that are in it, it does so later
-  pub led_still : ((k : ℕ) → StaysIn (get slab k) (get later k)) → AreLed by_node later u
-  led_still stay k e is in_tree =
-      let t = tree_by by_node e.home in
-      let before : holder by_node slab u t e.bytes ≡ Some k = grind (arith, stay k e is in_tree, led k) in
-      let stood = holder_stands by_node slab u t e.bytes before in
-      holder_less by_node slab u t e.bytes before later (less t e.bytes) (grind (arith, bytes_eq-Decides e.bytes e.bytes))
+module _ {by_node : Bool} {slab : Slab Entry} {u : UnstableTree} (led : AreLed by_node slab u) where
+  -- where no more entries are in the tree than were, each with its tree and bytes, it leads to all that are
+  pub led_less : {later : Slab Entry}
+      → ((t : ℕ) (b : List ℕ) (k : ℕ) → stands_as by_node t b (get later k) ≡ true → stands_as by_node t b (get slab k) ≡ true)
+      → AreLed by_node later u
+  led_less less = record {
+    at = λ t b k stands.
+        let was = led.at t b k (less t b k stands) in (was.0, was.1, λ l also. was.2 l (less t b l also));
+  }
+
+  -- so it is where one entry is written anew that is in the tree only as before
+  pub led_written : {later : Slab Entry} {key : ℕ} {d e : Entry} → Fills slab later key (Some e) → get slab key ≡ Some d → StaysLed d e
+      → AreLed by_node later u
+  led_written {later} {key} fills stood stays = led_less (λ t b k stands. grind (arith, differ_by, stood, stays, fills.others k))
+
+  -- and where one comes that is not in the tree, or one goes
+  pub led_out : {later : Slab Entry} {key : ℕ} {o : Option Entry} → Fills slab later key o → ((e : Entry) → o ≡ Some e → is_in e.in_tree ≡ false)
+      → AreLed by_node later u
+  led_out {later} {key} {o} fills out = led_less (λ t b k stands. grind (arith, differ_by, out, fills.others k))
+
+  -- where a search comes to each entry as before, the tree leads to all that are in it
+  pub led_kept : {new : UnstableTree} → Keeps by_node slab u new → AreLed by_node slab new
+  led_kept keeps = record {
+    at = λ t b k stands.
+        let was = led.at t b k stands in (was.0, keeps t b k (grind (arith, was.0)) was.1, was.2);
+  }
+
+  -- and so it does where one entry came to be in it, and a search comes to that too
+  pub led_entered : {later : Slab Entry} {key : ℕ} {d e : Entry} {new : UnstableTree} → get slab key ≡ Some d → Fills slab later key (Some e)
+      → ((k : ℕ) → stands_as by_node (tree_by by_node d.home) d.bytes (get slab k) ≡ false) → e.home ≡ d.home → e.bytes ≡ d.bytes
+      → nat_lt key GONE ≡ true → Keeps by_node slab u new → meets new (tree_by by_node d.home) d.bytes key ≡ true
+      → AreLed by_node later new
+  led_entered {later} {key} {d} {e} {new} stood fills none home bytes below keeps met = record {
+    at = λ t b k stands. elim (same_or_apart k key) [
+      | inl same ↦ (grind arith, grind (arith, here t b, stands), λ l also. grind (arith, differ_by, was t b l, here t b, none l, also, stands))
+      | inr apart ↦
+          let there = (led_kept {new = new} keeps).at t b k (was t b k apart stands) in
+          (there.0, there.1, λ l also. grind (arith, differ_by, here t b, none k, was t b, there.2 l, stands, also))
+    ];
+  }
     where
-      less : (t : ℕ) (b : List ℕ) (k : ℕ) → stands_under by_node later t b k ≡ true → stands_under by_node slab t b k ≡ true
-      less t b k stands = grind (arith, stay k)
+      here : (t : ℕ) (b : List ℕ) → stands_as by_node t b (get later key) ≡ true → (t ≡ tree_by by_node d.home) × (b ≡ d.bytes)
+      here t b stands = grind (arith, nat_tests, bytes_eq-Decides e.bytes b)
 
-  module _ {key : ℕ} {o : Option Entry} (fills : Fills slab later key o) where
-    led_filled : StaysIn (get slab key) o → AreLed by_node later u
-    led_filled here = led_still (λ k. elim (same_or_apart k key) [
-      | inl same ↦ rw (same, fills.changed) here
-      | inr apart ↦ rw (fills.others k apart) (λ f is in_tree. (f, is, λ led. (led, refl, refl)))
-    ])
+      was : (t : ℕ) (b : List ℕ) (l : ℕ) → l ≢ key → stands_as by_node t b (get later l) ≡ true → stands_as by_node t b (get slab l) ≡ true
+      was t b l apart stands = grind (arith, fills.others l apart)
 
-    -- so it does where one entry is written anew that is in it only as before
-    pub led_written : {d e : Entry} → o ≡ Some e → get slab key ≡ Some d → StaysLed d e → AreLed by_node later u
-    led_written {d} here stood stays =
-        led_filled (λ f is in_tree. (d, stood, rw (same_Some _ _ (sym here ∙ is)) at stays))
-
-    -- and where one comes that is not in it, or one goes
-    pub led_out : ((e : Entry) → o ≡ Some e → is_in e.in_tree ≡ false) → AreLed by_node later u
-    led_out out = led_filled (λ f is in_tree. absurd (true≢false (sym in_tree ∙ out f is)))
-
-module _ (slab later : Slab Entry) (g : Entry → Entry) (slots : later.slots ≡ map (option_map g) slab.slots) where
+module _ (slab later : Slab Entry) (g : Entry → Entry) (all : (k : ℕ) → get later k ≡ option_map g (get slab k)) where
   -- the same where each is changed, and is in the tree only as before
-  pub led_mapped : ((e : Entry) → StaysLed e (g e)) → (by_node : Bool) (u : UnstableTree) → AreLed by_node slab u → AreLed by_node later u
-  led_mapped stays by_node u led = led_still by_node slab later u led (λ k f is in_tree.
-      let at = mapped_some _ _ (sym (each_mapped slab later g slots k) ∙ is) in (at.0, at.1, rw at.2 at (stays at.0)))
+  pub led_mapped : ((e : Entry) → StaysLed e (g e)) → {by_node : Bool} {u : UnstableTree} → AreLed by_node slab u → AreLed by_node later u
+  led_mapped stays led = led_less led (λ t b k stands. grind (arith, all k, stays))
 
   -- once no entry is in the tree, it leads to all that are
   pub none_led : ((e : Entry) → is_in (g e).in_tree ≡ false) → (by_node : Bool) (u : UnstableTree) → AreLed by_node later u
-  none_led out by_node u k f is in_tree =
-      let at = mapped_some _ _ (sym (each_mapped slab later g slots k) ∙ is) in
-      absurd (grind (arith, out at.0, at.2))
+  none_led out by_node u = record { at = λ t b k stands. absurd (grind (arith, all k, out)) }
 
-module _ (by_node : Bool) (slab later : Slab Entry) (key : ℕ) (d e : Entry) (stood : get slab key ≡ Some d)
-    (fills : Fills slab later key (Some e)) (old new : UnstableTree) (led : AreLed by_node slab old) where
-  -- where an entry came to be in the tree, and that leads to it, and to all others as before, it leads to all that are in it
-  pub led_entered : holder by_node slab old (tree_by by_node d.home) d.bytes ≡ None → e.home ≡ d.home → e.bytes ≡ d.bytes
-      → is_in e.in_tree ≡ true → nat_lt key GONE ≡ true
-      → Keeps by_node slab old new → LeadsTo slab old new (tree_by by_node d.home) d.bytes key
-      → AreLed by_node later new
-  led_entered none home bytes in_tree below keeps leads k f is in_f = elim (same_or_apart k key) [
-    | inl same ↦
-        let at = same_Some f e (sym is ∙ ap (get later) same ∙ fills.changed) in
-        let there = leads by_node later none fills.others
-        (grind (arith, fills.changed, home, bytes, in_tree, below, bytes_eq-Decides e.bytes d.bytes)) in
-        (λ i. holder by_node later new (tree_by by_node ((ap (λ (x : Entry). x.home) at ∙ home) i)) ((ap (λ (x : Entry). x.bytes) at ∙ bytes) i))
-        ∙ there ∙ ap Some (sym same)
-    | inr apart ↦
-        let was = led k f (sym (fills.others k apart) ∙ is) in_f in
-        let kept = keeps (tree_by by_node f.home) f.bytes k was in
-        holder_less by_node slab new (tree_by by_node f.home) f.bytes kept later (less (tree_by by_node f.home) f.bytes k was)
-        (grind (arith, holder_stands by_node slab new (tree_by by_node f.home) f.bytes kept, fills.others k apart))
-  ]
+-- where a key of a list passes a test, the test finds one
+found_any : (p : ℕ → Bool) {key : ℕ} → p key ≡ true → (keys : List ℕ) → list_any (λ k. k == key) keys ≡ true → find p keys ≡ None → ⊥
+found_any p passes [] has none = grind arith
+found_any p {key} passes (k ∷ keys) has none = grind (arith, nat_tests, found_any p {key = key} passes keys)
+
+module _ (by_node : Bool) (slab : Slab Entry) (u : UnstableTree) (t : ℕ) (b : List ℕ) where
+  -- the key that a search finds is that of an entry in the tree with the tree and bytes
+  pub holder_stands : {key : ℕ} → holder by_node slab u t b ≡ Some key → stands_under by_node slab t b key ≡ true
+  holder_stands is = grind (arith, find_passes)
+
+  -- where it finds none, there is no such entry
+  pub holder_none : AreLed by_node slab u → holder by_node slab u t b ≡ None → (k : ℕ) → stands_as by_node t b (get slab k) ≡ false
+  holder_none led none k = go _ refl
     where
-      less : (t : ℕ) (b : List ℕ) (l : ℕ) → holder by_node slab old t b ≡ Some l → (m : ℕ) → stands_under by_node later t b m ≡ true
-          → stands_under by_node slab t b m ≡ true
-      less t b l was m stands =
-          grind (arith, nat_tests, fills.changed, fills.others m, home, bytes, bytes_eq-Decides e.bytes b, none, was, stands)
-
--- where the tree leads to each entry to which it led, it leads to all that are in it
-pub led_kept : (by_node : Bool) (slab : Slab Entry) (old new : UnstableTree) → AreLed by_node slab old → Keeps by_node slab old new
-    → AreLed by_node slab new
-led_kept by_node slab old new led keeps k e is in_tree = keeps (tree_by by_node e.home) e.bytes k (led k e is in_tree)
-
--- ---------------------------------------------------------------- what the rows show
+      go : (o : Bool) → stands_as by_node t b (get slab k) ≡ o → o ≡ false
+      go false is = refl
+      go true is =
+          let at = led.at t b k is in
+          absurd (grind (arith, nat_tests, at.0, at.1, is, none, found_any (stands_under by_node slab t b) {key = k}))
 
 module _ (s : Inside) (are : AreRows s) where
   -- a row that waits is in the tree
@@ -123,54 +99,37 @@ module _ (s : Inside) (are : AreRows s) where
   holds_at P all key e stands =
       find_all (holds e.page) P (all_held s) (held_of s.pass e) (row_found s are key e stands) all
 
-  module _ (led : AreLed s.by_node s.entries s.unstable) where
-    abbrev key_by : ℕ → List ℕ → Option ℕ
-    key_by t b = holder s.by_node s.entries s.unstable t b
+  abbrev has : ℕ → List ℕ → Held → Bool
+  has t b h = has_content s.by_node t b h
 
-    abbrev has : ℕ → List ℕ → Held → Bool
-    has t b h = has_content s.by_node t b h
+  -- the row found with a tree and bytes is of the page of each entry in the tree that has these
+  pub page_found : AreLed s.by_node s.entries s.unstable → (t : ℕ) (b : List ℕ) (key : ℕ) (e : Entry) → get s.entries key ≡ Some e
+      → has t b (held_of s.pass e) ≡ true → page_in_tree (view_of s) t b ≡ Some e.page
+  page_found led t b key e stands is =
+      let held = all_held s in
+      let Same : Held → Type 0 = λ h. has t b h ≡ true → h.row.page ≡ e.page in
+      let same : All Same held = rows_all s are Same (λ k f there also. grind (arith, (led.at t b key (grind arith)).2 k, there, stands, also)) in
+      let some : (h : Held) → find (has t b) held ≡ Some h → h.row.page ≡ e.page =
+      λ h at. find_all (has t b) Same held h at same (find_passes (has t b) held h at) in
+      let none : find (has t b) held ≡ None → has t b (held_of s.pass e) ≡ false =
+      λ at. holds_at (λ h. has t b h ≡ false) (find_none (has t b) held at) key e stands in
+      grind (arith, some, none, is)
 
-    -- the tree leads to each entry with a tree and bytes from these
-    held_by_content : (t : ℕ) (b : List ℕ) (k : ℕ) (f : Entry) → get s.entries k ≡ Some f → has t b (held_of s.pass f) ≡ true
-        → key_by t b ≡ Some k
-    held_by_content t b k f stands is =
-        let content : (t ≡ tree_by s.by_node f.home) × (b ≡ f.bytes) = grind (arith, bytes_eq-Decides f.bytes b, nat_tests) in
-        (λ i. key_by (content.0 i) (content.1 i)) ∙ led k f stands (grind arith)
+  -- each row in the tree is found by its tree and bytes
+  pub rows_found : AreLed s.by_node s.entries s.unstable → AreInTree (view_of s)
+  rows_found led =
+      rows_all s are (λ h. is_in h.in_tree ≡ true → page_in_tree (view_of s) (tree_by s.by_node h.row.home) h.row.bytes ≡ Some h.row.page)
+      (λ k e stands in_tree. page_found led _ _ k e stands (grind (arith, bytes_eq-Decides e.bytes e.bytes)))
 
-    -- the row found with a tree and bytes is of the page of each entry in the tree that has these
-    pub page_found : (t : ℕ) (b : List ℕ) (key : ℕ) (e : Entry) → get s.entries key ≡ Some e → has t b (held_of s.pass e) ≡ true
-        → page_in_tree (view_of s) t b ≡ Some e.page
-    page_found t b key e stands is =
-        let held = all_held s in
-        let Same : Held → Type 0 = λ h. has t b h ≡ true → h.row.page ≡ e.page in
-        let same : All Same held = rows_all s are Same (λ k f there also.
-        grind (arith, held_by_content t b k f there also, held_by_content t b key e stands is, there, stands)) in
-        let some : (h : Held) → find (has t b) held ≡ Some h → h.row.page ≡ e.page =
-        λ h at. find_all (has t b) Same held h at same (find_passes (has t b) held h at) in
-        let none : find (has t b) held ≡ None → has t b (held_of s.pass e) ≡ false =
-        λ at. holds_at (λ h. has t b h ≡ false) (find_none (has t b) held at) key e stands in
-        grind (arith, some, none, is)
+  -- where no entry in the tree has a tree and bytes, no row is found with these
+  pub none_found : (t : ℕ) (b : List ℕ) → ((k : ℕ) → stands_as s.by_node t b (get s.entries k) ≡ false) → find (has t b) (all_held s) ≡ None
+  none_found t b none =
+      find_nothing _ _ (rows_all s are (λ h. has t b h ≡ false) (λ k e stands. grind (arith, none k)))
 
-    -- each row in the tree is found by its tree and bytes
-    pub rows_found : AreInTree (view_of s)
-    rows_found =
-        rows_all s are (λ h. is_in h.in_tree ≡ true → page_in_tree (view_of s) (tree_by s.by_node h.row.home) h.row.bytes ≡ Some h.row.page)
-        (λ k e stands in_tree. page_found _ _ k e stands (grind (arith, bytes_eq-Decides e.bytes e.bytes)))
-
-    -- where the tree leads to no entry from a tree and bytes, no row is found with these
-    pub none_found : (t : ℕ) (b : List ℕ) → key_by t b ≡ None → find (has t b) (all_held s) ≡ None
-    none_found t b none =
-        find_nothing _ _ (rows_all s are (λ h. has t b h ≡ false) (λ k e stands. grind (arith, none, held_by_content t b k e stands)))
-
-    -- the tree leads to no entry from the tree and bytes of one that is not in it, where no other row has these
-    pub free_none : (key : ℕ) (e : Entry) → get s.entries key ≡ Some e → is_in e.in_tree ≡ false → IsFree (view_of s) e.page (held_of s.pass e)
-        → key_by (tree_by s.by_node e.home) e.bytes ≡ None
-    free_none key e stands out free = go _ refl
-      where
-        go : (o : Option ℕ) → key_by (tree_by s.by_node e.home) e.bytes ≡ o → o ≡ None
-        go None is = refl
-        go (Some k) is =
-            let there = holder_stands s.by_node s.entries s.unstable (tree_by s.by_node e.home) e.bytes is in
-            let other = holds_at (λ g. holds e.page g ≡ false → has (tree_by s.by_node e.home) e.bytes g ≡ false) free k in
-            let one = λ (f : Entry) (stood : get s.entries k ≡ Some f). one_key s.entries s.order are.filed stood stands in
-            absurd (grind (arith, there, other, one, stands, out, same_page_eq))
+  -- no entry in the tree has the tree and bytes of one that is not in it, where no other row has these
+  pub free_none : (key : ℕ) (e : Entry) → get s.entries key ≡ Some e → is_in e.in_tree ≡ false → IsFree (view_of s) e.page (held_of s.pass e)
+      → (k : ℕ) → stands_as s.by_node (tree_by s.by_node e.home) e.bytes (get s.entries k) ≡ false
+  free_none key e stands out free k =
+      let other = holds_at (λ g. holds e.page g ≡ false → has (tree_by s.by_node e.home) e.bytes g ≡ false) free k in
+      let one = λ (f : Entry) (stood : get s.entries k ≡ Some f). one_key s.entries s.order are.filed stood stands in
+      grind (arith, other, one, stands, out, same_page_eq)

@@ -1,6 +1,6 @@
 -- Where the pages lie, once the row of one was changed, came or went, and the dups kept their frames.
-use Rattle.ksm_pages.proofs.Names.{[], All, arith, change_held, change_row, false, find_all, find_passes, frame_of, frame_seen, GuestPage, Held, held_at, if◌then◌else◌, InPageOrder, lies_on, List}
-use Rattle.ksm_pages.proofs.Names.{lodgings_of, map_alike, None, one_of_each_page, Option, refl, Row, row_at, rules, same_page, same_page_eq, same_page_sym, Some, true, without_held, ℕ, ◌∷◌, ◌≡◌}
+use Rattle.ksm_pages.proofs.Names.{[], arith, change_held, false, frame_of, frame_seen, GuestPage, Held, held_at, if◌then◌else◌, lies_on, List}
+use Rattle.ksm_pages.proofs.Names.{lodgings_of, None, Option, refl, rules, same_page, same_page_eq, same_page_sym, Some, without_held, ℕ, ◌∷◌, ◌≡◌}
 use Rattle.ksm_pages.proofs.Found.{find_changed, find_changed_other, find_gone, find_gone_other}
 
 -- where what is held of a page lies: on a frame, or on none where nothing is held
@@ -22,7 +22,7 @@ lodged_one of_dup page held later {o} here others = λ i p. at p i
     at : (p : GuestPage) → frame_of (lodgings_of of_dup later) p ≡ (if same_page p page then seat of_dup o else frame_of (lodgings_of of_dup held) p)
     at p = search (rules, same_page_eq, frame_by, same_page_sym)
 
-abbrev page_of : Held → GuestPage
+abbrev pub page_of : Held → GuestPage
 page_of h = h.row.page
 
 -- the page comes to lie where its changed row says, and no other page moves
@@ -34,10 +34,3 @@ lodged_changed page f same of_dup held found =
 -- a page whose row is gone lies on no frame
 pub lodged_gone : (page : GuestPage) (of_dup : ℕ → Option ℕ) (held : List Held) → frame_of (lodgings_of of_dup (without_held page held)) ≡ lies_on page None (frame_of (lodgings_of of_dup held))
 lodged_gone page of_dup held = lodged_one _ _ _ _ (find_gone page_of page _) (λ p apart. find_gone_other page_of _ p held apart)
-
--- a change of the row of a page writes there what the change makes of the old row
-pub changed_to : (page : GuestPage) (g : Row → Row) (rows : List Row) {old : Row} → InPageOrder rows → row_at page rows ≡ Some old → change_row page g rows ≡ change_row page (λ _. g old) rows
-changed_to page g rows {old} rise found =
-    let one = find_all _ (λ r. All (λ s. same_page s.page r.page ≡ true → s ≡ r) rows) rows old found
-    (one_of_each_page rows rise) in
-    grind (arith, map_alike, same_page_eq, find_passes)

@@ -1,8 +1,8 @@
 -- Rows that are said to be alone: no dup has their content, once rows or dups changed.
 use Rattle.ksm_pages.proofs.Names.{All, All-append, All-cons, All-filter, All-map, AllPairs, ap₂, AreAlone, arith, beside, change_held, comes_before, cond_both, DupRow, false, filter, find_all}
-use Rattle.ksm_pages.proofs.Names.{get_or, get_or-map, GuestPage, Held, held_at, holds, in_group, InPageOrder, InTree, is_alone, Knobs, length-map, List, PageState, Row, rows_of, same_page_eq, shares}
-use Rattle.ksm_pages.proofs.Names.{Some, subst, sym, tree_of, true, true≢false, with_held, ◌∙◌, ◌≡◌}
-use Rattle.ksm_pages.proofs.Found.{each_found}
+use Rattle.ksm_pages.proofs.Names.{get_or-map, GuestPage, Held, held_at, holds, in_group, InPageOrder, InTree, is_alone, Knobs, length-map, List, PageState, Row, rows_of, shares}
+use Rattle.ksm_pages.proofs.Names.{Some, sym, tree_of, true, true≢false, with_held, ◌∙◌, ◌≡◌}
+use Rattle.ksm_pages.proofs.Found.{change_one, each_found}
 
 -- no dup has the tree and bytes of a row, if it is said to be alone
 abbrev pub IsLone : Knobs → List DupRow → Held → Type 0
@@ -32,15 +32,10 @@ module _ (knobs : Knobs) (dups : List DupRow) where
   pub lone_changed : (page : GuestPage) (f : Held → Held) (held : List Held) {h : Held} → InPageOrder (rows_of held)
       → held_at page held ≡ Some h → (IsLone knobs dups h → IsLone knobs dups (f h)) → AreAlone knobs held dups
       → AreAlone knobs (change_held page f held) dups
-  lone_changed page f held {h} rise found keeps are = All-map (IsLone knobs dups) _ held (λ k d lt.
-      let g = get_or held k d in
-      cond_both _ _ _ (IsLone knobs dups)
-      (λ at. subst (λ x. IsLone knobs dups (f x)) (it at (each_held held rise k d lt))
-      (keeps (find_all (holds page) (IsLone knobs dups) held h found are)))
-      (λ _. are k d lt))
-    where
-      it : {g : Held} → holds page g ≡ true → held_at g.row.page held ≡ Some g → h ≡ g
-      it {g} at there = grind (arith, same_page_eq g.row.page page at)
+  lone_changed page f held {h} rise found keeps are =
+      rw (change_one (λ (h : Held). h.row.page) page f held (held_rise held rise) found)
+      (All-map (IsLone knobs dups) _ held (λ k d lt.
+      cond_both _ _ _ (IsLone knobs dups) (λ _. keeps (find_all (holds page) (IsLone knobs dups) held h found are)) (λ _. are k d lt)))
 
   -- the same with one more
   pub lone_with : (h : Held) (held : List Held) → IsLone knobs dups h → AreAlone knobs held dups → AreAlone knobs (with_held h held) dups

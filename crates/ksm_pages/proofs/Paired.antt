@@ -10,16 +10,14 @@ use Rattle.ksm_tree.proofs.Rows.{eq_bytes}
 use Rattle.ksm_base.proofs.Orders.{above, all_with_dup, below, dups_parted, elsewhere}
 use Rattle.ksm_pages.proofs.Changing.{row_told, rows_changed}
 use Rattle.ksm_pages.proofs.Dropping.{frame_away, lodged_alike, none_live, not_vacant}
-use Rattle.ksm_pages.proofs.Found.{find_changed_other, find_kept}
+use Rattle.ksm_pages.proofs.Found.{change_one, find_changed_other, find_kept}
 use Rattle.ksm_pages.proofs.Joined.{own_not_merged, own_seat}
 use Rattle.ksm_pages.proofs.Leaving.{AreLawful, lies, lies_same, of_dup, of_page, row_seen, view_of}
 use Rattle.ksm_pages.proofs.Leading.{get_set}
-use Rattle.ksm_pages.proofs.Lodgings.{changed_to, frame_by, lodged_changed, seat}
+use Rattle.ksm_pages.proofs.Lodgings.{frame_by, lodged_changed, seat}
 use Rattle.ksm_pages.proofs.Lone.{IsLone, lone_changed, shared_lone}
 use Rattle.ksm_pages.proofs.Partners.{each_led, held_led, tree_is, waits_parts}
 use Rattle.ksm_pages.proofs.Visiting.{lawful_numbered}
-
--- ---------------------------------------------------------------- what is kept at one place
 
 module _ (dups : List DupRow) (dup : DupRow) (frames : List ℕ) (frame : ℕ) where
   abbrev of_now : ℕ → Option ℕ
@@ -47,8 +45,6 @@ module _ (dups : List DupRow) (dup : DupRow) (frames : List ℕ) (frame : ℕ) w
       grind (arith, below, find_over, dups_parted) in
       let found = find_kept (λ d. d.number == n) (elsewhere dup.place) dups _ refl (λ e is. ap not (away e is)) in
       ap (option_and_then lies_at) (passed ∙ found) ∙ frame_away frames dup.place frame _ away
-
--- ---------------------------------------------------------------- two rows
 
 -- two changes of rows of two pages are one of both
 pub both_changed : (q p : GuestPage) (f : Row → Row) → ((r : Row) → (f r).page ≡ r.page) → same_page q p ≡ false → (rows : List Row)
@@ -168,15 +164,11 @@ module _ {s : Inside} {p : PagesValue} {place : ℕ} {first second : GuestPage} 
     abbrev half : List Held
     half = change_held a.row.page into s.rows.held
 
-    -- ---------------------------------------------------------------- the dups
-
     now_dups : later.dups ≡ with_new (record { row = dup; items = with_item b.row.page (a.row.page ∷ []) }) s.dups.dups
     now_dups = grind (arith, at_first, at_second)
 
     now_rows : dup_rows later.dups ≡ with_dup dup (dup_rows s.dups.dups)
     now_rows = grind (arith, now_dups, rows_new)
-
-    -- ---------------------------------------------------------------- the rows
 
     now_held : rows.held ≡ change_held b.row.page into half
     now_held = grind (arith, at_first, at_second)
@@ -201,10 +193,8 @@ module _ {s : Inside} {p : PagesValue} {place : ℕ} {first second : GuestPage} 
     whole : rows_of rows.held ≡ change_row b.row.page (λ _. item b.row) (change_row a.row.page (λ _. item a.row) before)
     whole =
         both_rows
-        ∙ changed_to _ _ _ half_order (row_told _ half found_second)
-        ∙ ap (change_row b.row.page (λ _. item b.row)) (half_rows ∙ changed_to _ _ _ are.order may.first_is)
-
-    -- ---------------------------------------------------------------- rows that are said to be alone
+        ∙ change_one (λ (r : Row). r.page) _ _ _ half_order (row_told _ half found_second)
+        ∙ ap (change_row b.row.page (λ _. item b.row)) (half_rows ∙ change_one (λ (r : Row). r.page) _ _ _ are.order may.first_is)
 
     abbrev dups_now : List DupRow
     dups_now = with_dup dup (dup_rows s.dups.dups)
@@ -255,8 +245,6 @@ module _ {s : Inside} {p : PagesValue} {place : ℕ} {first second : GuestPage} 
       alone = now_alone;
       room = length-set s.frames.items place frame ∙ are.room;
     }
-
-    -- ---------------------------------------------------------------- the frames
 
     abbrev of_new : ℕ → Option ℕ
     of_new = lodging (dup_rows later.dups) (set s.frames.items place frame)

@@ -12,8 +12,6 @@ use Rattle.ksm_pages.specs.Ordered.{AreAscending as AreInOrder}
 use Rattle.ksm_pages.proofs.Found.{length_with}
 use Rattle.ksm_order.specs.Listed.{AreAscending, is_at, is_from, key_at, marked as kept_marked, up_to, with_item, with_mark, without}
 
--- ---------------------------------------------------------------- one page and one item
-
 module _ (page : GuestPage) (few : page.page < 2 ^ 32) where
   pub is_its : (x : Item) → is_of page (named_by x) ≡ is_at (key_of page) x
   is_its x = same_as_key page few x.key
@@ -23,8 +21,6 @@ module _ (page : GuestPage) (few : page.page < 2 ^ 32) where
       → with_named (record { page = page; key = value; mergeable = true }) (map named_by items)
       ≡ map named_by (with_item (record { key = key_of page; value = value; marked = true }) items)
   put_its value items = grind (arith, filter_mapped, before_as_key, behind_as_key, map-append)
-
--- ---------------------------------------------------------------- all pages and all items
 
 abbrev Less : Item → Item → Type 0
 Less x y = x.key < y.key
@@ -43,8 +39,6 @@ pub marked_by : (page : GuestPage) → page.page < 2 ^ 32 → (mark : Bool) → 
     → marked page mark (map named_by items) ≡ map named_by (with_mark (key_of page) mark items)
 marked_by page few mark [] = refl
 marked_by page few mark (x ∷ items) = grind (arith, is_its page few x, marked_by page few mark items)
-
--- ---------------------------------------------------------------- those that a scan visits
 
 -- the page of an item
 abbrev pub page_by : Item → GuestPage

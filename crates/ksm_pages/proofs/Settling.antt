@@ -8,13 +8,19 @@ use Rattle.ksm_pages.specs.declared.row.Kind.TheVariants as kinds
 use Rattle.ksm_pages.proofs.Filing.{all_stand, each_mapped}
 
 -- where each call of a retain keeps its value and changes it by g, all full slots are changed by g
-pub retained_all : {T F : Type 0} (step : F → ℕ → MutBor T → Bool → MutBor T → F → Type 0) (g : T → T) → ((f : F) (k : ℕ) (old : T) (keep : Bool) (new : T) (next : F) → CalledAt step f k old keep new next → (keep ≡ true) × (new ≡ g old))
+retained_all : {T F : Type 0} (step : F → ℕ → MutBor T → Bool → MutBor T → F → Type 0) (g : T → T) → ((f : F) (k : ℕ) (old : T) (keep : Bool) (new : T) (next : F) → CalledAt step f k old keep new next → (keep ≡ true) × (new ≡ g old))
     → (f : F) (key : ℕ) (slots kept : List (Option T)) → RetainsFrom step f key slots kept → kept ≡ map (option_map g) slots
 retained_all step g says f key [] kept r = r
 retained_all step g says f key (None ∷ rest) kept (later, is, r) =
     grind (arith, is, retained_all step g says f (key + 1) rest later r)
 retained_all step g says f key (Some old ∷ rest) kept (keep, new, next, called, later, is, r) =
     grind (arith, is, says f key old keep new next called, retained_all step g says next (key + 1) rest later r)
+
+-- where each call of a retain keeps its entry and changes it by g, each entry is changed by g
+pub retained_each : {F : Type 0} (step : F → ℕ → MutBor Entry → Bool → MutBor Entry → F → Type 0) (g : Entry → Entry)
+    → ((f : F) (k : ℕ) (old : Entry) (keep : Bool) (new : Entry) (next : F) → CalledAt step f k old keep new next → (keep ≡ true) × (new ≡ g old))
+    → (f : F) (slab later : Slab Entry) → RetainsFrom step f 0 slab.slots later.slots → (k : ℕ) → get later k ≡ option_map g (get slab k)
+retained_each step g says f slab later r = each_mapped slab later g (retained_all step g says f 0 slab.slots later.slots r)
 
 -- rows whose states are read alike before and after a change are counted alike
 counts_alike : (f : Held → Held) (p q : PageState → Bool) → ((h : Held) → p (f h).row.state ≡ q h.row.state) → (held : List Held)
@@ -51,11 +57,8 @@ module _ {slab : Slab Entry} {order : List Named} {restless : Listing} {tally : 
   abbrev held : List Held
   held = held_in pass slab order
 
-  module _ (later : Slab Entry) (after : ℕ) (g : Entry → Entry) (slots : later.slots ≡ map (option_map g) slab.slots)
+  module _ (later : Slab Entry) (after : ℕ) (g : Entry → Entry) (all : (k : ℕ) → get later k ≡ option_map g (get slab k))
       (same : (e : Entry) → ((g e).page ≡ e.page) × ((g e).mergeable ≡ e.mergeable) × ((g e).kind ≡ e.kind)) where
-    all : (k : ℕ) → get later k ≡ option_map g (get slab k)
-    all = each_mapped slab later g slots
-
     all_filed : AreFiled later order
     all_filed n = search (rules, all, same)
 
@@ -86,31 +89,19 @@ module _ {slab : Slab Entry} {order : List Named} {restless : Listing} {tally : 
   -- in the next pass no row waits
   pub next : AreSeen slab order restless (record tally { waiting = 0 }) (pass + 1) (map (on_row settled) held)
   next =
-      let settled_next : (k : ℕ) (e : Entry) → get slab k ≡ Some e → held_of (pass + 1) e ≡ on_row settled (held_of pass e) =
-      λ k e stands. grind arith in
-      let seen : held_in (pass + 1) slab order ≡ map (on_row settled) held = search (rules, map_mapped, all_stand, settled_next) in
-      record {
-        rows = record {
-          ascending = are.ascending;
-          filed = are.filed;
-          listed = are.listed;
-          counted = rw seen (tally_settled (on_row settled) (λ h. refl) _ are.counted);
-          begun = grind arith;
-          counting = omega arith;
-        };
-        seen = seen;
-      }
+      all_seen slab (pass + 1) (λ e. e) (λ k. grind arith) (λ e. (refl, refl, refl)) (on_row settled) (λ k e stands. grind arith)
+      (λ k e stands own. grind arith) (omega arith) (tally_settled (on_row settled) (λ h. refl) _ are.counted)
 
   module _ (later : Slab Entry) where
     -- nor in pass 1, once each entry forgot its pass
-    pub anew : later.slots ≡ map (option_map forgotten) slab.slots
+    pub anew : ((k : ℕ) → get later k ≡ option_map forgotten (get slab k))
         → AreSeen later order restless (record tally { waiting = 0 }) 1 (map (on_row settled) held)
     anew slots =
         all_seen later 1 forgotten slots (λ e. (refl, refl, refl)) (on_row settled) (λ k e stands. grind arith)
         (λ k e stands own. grind arith) (omega arith) (tally_settled (on_row settled) (λ h. refl) _ are.counted)
 
     -- once no entry is unchanged any more, each row is seen as not unchanged, and else as it was
-    pub plain_seen : later.slots ≡ map (option_map plain) slab.slots
+    pub plain_seen : ((k : ℕ) → get later k ≡ option_map plain (get slab k))
         → AreSeen later order restless tally pass (map (on_row (λ r. record r { unchanged = false })) held)
     plain_seen slots =
         all_seen later pass plain slots (λ e. (refl, refl, refl)) (on_row (λ r. record r { unchanged = false })) (λ k e stands. refl)
@@ -121,7 +112,7 @@ module _ {slab : Slab Entry} {order : List Named} {restless : Listing} {tally : 
         })
 
     -- once the unstable tree leads to no entry, each row is seen so, and waits no more
-    pub out_seen : later.slots ≡ map (option_map out) slab.slots
+    pub out_seen : ((k : ℕ) → get later k ≡ option_map out (get slab k))
         → AreSeen later order restless (record tally { waiting = 0 }) pass (map out_of_tree held)
     out_seen slots =
         all_seen later pass out slots (λ e. (refl, refl, refl)) out_of_tree (λ k e stands. grind arith)

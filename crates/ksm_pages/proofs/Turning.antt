@@ -1,19 +1,17 @@
 -- The pages once a call changed the row of one page, or gave it one: they are lawful, and what is seen of them changed so.
-use Rattle.ksm_pages.proofs.Names.{[], All, All-filter, All-map, ap, AreAlone, AreTied, arith, Bool, change_held, changed, cond_both, dup_rows, DupsState, Err, false, frame_of, get_or, get_or-map}
-use Rattle.ksm_pages.proofs.Names.{GuestPage, HasRow, Held, held_at, if◌then◌else◌, inl, InPageOrder, inr, Inside, InTree, is_alone, IsAlone, IsKnown, IsLeft, Knobs, length-map, let_out, lies_on}
+use Rattle.ksm_pages.proofs.Names.{altered, [], All, All-filter, All-map, ap, AreAlone, AreTied, arith, Bool, change_held, changed, cond_both, dup_rows, DupsState, Err, false, frame_of, get_or, get_or-map}
+use Rattle.ksm_pages.proofs.Names.{GuestPage, Held, held_at, if◌then◌else◌, inl, InPageOrder, inr, Inside, is_alone, IsAlone, IsKnown, IsLeft, Knobs, length-map, let_out, lies_on}
 use Rattle.ksm_pages.proofs.Names.{List, lodgings_of, map, map_mapped, MatchOption, merged_state, None, not, Ok, on_row, OnErr, OnOk, Option, ordered_map, ordered_with, ordered_without, out_of_tree}
-use Rattle.ksm_pages.proofs.Names.{PagesValue, PagesView, Private, private_state, refl, relaid, Result, Row, row_at, rows_of, rows_out, RowsView, rules, same_page, seen, settled, settled_state}
-use Rattle.ksm_pages.proofs.Names.{shared_state, Some, sym, tied_dropped, tied_inserted, tied_left, tied_mapped, true, true≢false, waiting_state, with_held, with_row, without_held}
+use Rattle.ksm_pages.proofs.Names.{PagesValue, PagesView, Private, refl, relaid, Result, Row, row_at, rows_of, rows_out, RowsView, rules, same_page, seen, settled, settled_state}
+use Rattle.ksm_pages.proofs.Names.{shared_state, Some, subst, sym, tied_dropped, tied_inserted, tied_left, tied_mapped, true≢false, waiting_state, with_held, with_row, without_held}
 use Rattle.ksm_pages.proofs.Names.{without_page, ℕ, ⊤, ◌==◌, ◌∙◌, ◌∷◌, ◌≡◌, ◌⊎◌}
 use Rattle.ksm_pages.proofs.Changing.{idle_settled, nothing_held, rows_with, rows_without, settled_again}
-use Rattle.ksm_pages.proofs.Joined.{let_out_alone}
+use Rattle.ksm_pages.proofs.Joined.{let_out_alone, own_not_merged}
 use Rattle.ksm_pages.proofs.Lodgings.{frame_by, lodged_gone, lodged_one, seat}
-use Rattle.ksm_pages.proofs.Leaving.{alone_found, AreLawful, Become, Comes, comes, held_as, IsLoneIn, known_there, lies, of_dup, of_page, row_seen, row_there, stays_there, turned_so, view_of}
+use Rattle.ksm_pages.proofs.Leaving.{alone_found, AreLawful, Become, Comes, comes, held_as, IsLoneIn, known_there, lies, lies_same, of_dup, of_page, row_there, turned_so, view_of}
 use Rattle.ksm_pages.proofs.Lone.{held_rise, IsLone, lone_with}
 use Rattle.ksm_pages.proofs.Found.{find_put, find_put_other}
 use Rattle.ksm_pages.proofs.Partners.{tree_is}
-
--- ---------------------------------------------------------------- a page that leaves what it is in
 
 -- a page has a row, and is let out of its dup
 pub record HasLeft (s : Inside) (p : PagesValue) (page : GuestPage) (later : DupsState) (frames : List ℕ) (lone : Option ℕ) : Type 0 where
@@ -43,36 +41,38 @@ module _ {s : Inside} {p : PagesValue} {page : GuestPage} {later : DupsState} {f
     out : later ≡ record s.dups { dups = let_out it.held.row.state page s.dups.dups }
     out = grind (arith, at, it.left.dups)
 
-    -- what is held with another row, and a frame and a place in the tree that come of those that it had
-    abbrev into : (Option ℕ → Option ℕ) → (InTree → InTree) → (Row → Row) → Held → Held
-    into own in_tree g h = record { row = g h.row; frame = own h.frame; in_tree = in_tree h.in_tree }
+    -- a page that has left comes to another row, and lies where that row and its frame say
+    pub moved : {rows : RowsView} (f : Held → Held) → rows ≡ altered page f s.rows → ((x : Held) → (f x).row.page ≡ x.row.page)
+        → (to : Row → Row) → ((r : Row) → (to r).page ≡ r.page) → (f it.held).row ≡ to it.held.row
+        → merged_state (to it.held.row).state ≡ false → (IsLoneIn s it.held → IsLoneIn s (f it.held)) → {frame : Option ℕ}
+        → seat (of_dup s) (Some (f it.held)) ≡ frame → Comes s rows later (relaid page to frame (seen p))
+    moved f turned pages to same agree apart =
+        turned_so s it.lawful page it.found it.seen_as f turned pages out (rows_out _ _ _) to same agree
+        (tied_left _ _ _ it.lawful.order there _ _ apart it.lawful.tied)
+
+    -- it gets a frame of its own, with a Private row
+    pub relaid_on : {rows : RowsView} (f : Held → Held) → rows ≡ altered page f s.rows → (to : Row → Row) {frame : ℕ}
+        → ((x : Held) → ((f x).row ≡ to x.row) × ((f x).frame ≡ Some frame)) → ((r : Row) → ((to r).page ≡ r.page) × ((to r).state ≡ Private))
+        → (IsLoneIn s it.held → IsLoneIn s (f it.held)) → Comes s rows later (relaid page to (Some frame) (seen p))
+    relaid_on f turned to alike private keeps =
+        let h = it.held in
+        moved f turned (λ x. (λ i. ((alike x).0 i).page) ∙ (private x.row).0) to (λ r. (private r).0) (alike h).0
+        (grind (arith, private h.row)) keeps (grind (arith, alike h, private h.row))
+
+    -- with a frame of its own it keeps that, where its row changes to one that is not shared
+    pub rested : IsAlone page p.rows → {rows : RowsView} (f : Held → Held) → rows ≡ altered page f s.rows → (to : Row → Row)
+        → ((x : Held) → ((f x).row.page ≡ x.row.page) × ((f x).frame ≡ x.frame))
+        → ((r : Row) → ((to r).page ≡ r.page) × (shared_state (to r).state ≡ false))
+        → ((x : Held) → shared_state x.row.state ≡ false → (f x).row ≡ to x.row)
+        → (IsLoneIn s it.held → IsLoneIn s (f it.held)) → Comes s rows later (changed page to (seen p))
+    rested alone_seen {rows} f turned to alike own agree keeps =
+        let h = it.held in
+        let alone = alone_found s it.seen_as page it.found alone_seen in
+        subst (λ lay. Comes s rows later (record (changed page to (seen p)) { frame = lay })) (lies_same page)
+        (moved f turned (λ x. (alike x).0) to (λ r. (own r).0) (agree h alone) (own_not_merged _ (own h.row).1) keeps
+        (grind (arith, alike h, own h.row, agree h alone, alone, lies s it.lawful page it.found it.seen_as)))
 
     module _ (rows : RowsView) where
-      -- a page that has left comes to another row, and lies where that row and its frame say
-      pub moved : (own : Option ℕ → Option ℕ) (in_tree : InTree → InTree) (g : Row → Row) → ((r : Row) → (g r).page ≡ r.page)
-          → Become s.rows rows (change_held page (into own in_tree g) s.rows.held)
-          → (to : Row → Row) → g it.held.row ≡ to it.held.row
-          → merged_state (to it.held.row).state ≡ false
-          → (IsLoneIn s it.held → IsLoneIn s (into own in_tree g it.held)) → {frame : Option ℕ}
-          → seat (of_dup s) (Some (into own in_tree g it.held)) ≡ frame
-          → Comes s rows later (relaid page to frame (seen p))
-      moved own in_tree g same turned to agree apart keeps =
-          turned_so s it.lawful page it.found it.seen_as rows (into own in_tree g) g (λ x. refl) same turned out (rows_out _ _ _) to agree
-          (tied_left _ _ _ it.lawful.order there _ _ apart it.lawful.tied) keeps
-
-      -- a page with a frame of its own comes to be Private there
-      pub rested : (in_tree : InTree → InTree) (g to : Row → Row) → ((r : Row) → (g r).page ≡ r.page)
-          → (to it.held.row).state ≡ Private → IsAlone page p.rows
-          → (shared_state it.held.row.state ≡ false → g it.held.row ≡ to it.held.row)
-          → (IsLoneIn s it.held → IsLoneIn s (into (λ o. o) in_tree g it.held))
-          → Become s.rows rows (change_held page (into (λ o. o) in_tree g) s.rows.held)
-          → Comes s rows later (changed page to (seen p))
-      rested in_tree g to same private alone_seen agree keeps turned =
-          let alone = alone_found s it.seen_as _ it.found alone_seen in
-          let own = lies s it.lawful page it.found it.seen_as in
-          stays_there p page (moved (λ o. o) in_tree g same turned to
-          (agree alone) (grind (arith, private)) keeps (grind (arith, agree alone, private, alone, own)))
-
       -- a page that has left and whose row is gone is seen no more, and lies on no frame
       pub parted : Become s.rows rows (without_held page s.rows.held)
           → Comes s rows later (record (seen p) {
@@ -104,13 +104,6 @@ own_left {s} {p} {page} are seen_as alone = go _ refl
         frame = sym (lies s are page found seen_as);
       };
     }
-
--- what is held of a page with a Private row has that row
-pub private_left : {s : Inside} {p : PagesValue} {page : GuestPage} {later : DupsState} {frames : List ℕ} {lone : Option ℕ}
-    → (it : HasLeft s p page later frames lone) → HasRow page p.rows (λ r. private_state r.state ≡ true) → it.held.row.state ≡ Private
-private_left {s} {p} {page} it is = grind (arith, row_seen s it.seen_as page it.found)
-
--- ---------------------------------------------------------------- rows that change where they lie
 
 rows_by : (F : Held → Held) (f : Row → Row) → ((x : Held) → (F x).row ≡ f x.row) → (held : List Held)
     → rows_of (map F held) ≡ map f (rows_of held)
@@ -157,8 +150,6 @@ module _ (s : Inside) (are : AreLawful s) {p : PagesValue} (seen_as : view_of s 
         held = (λ i. (out i).held) ∙ (λ i. map out_of_tree (turned i).held) ∙ map_mapped _ _ _ s.rows.held (λ k d lt. refl);
         by_node = (λ i. (out i).by_node) ∙ (λ i. (turned i).by_node);
       })
-
--- ---------------------------------------------------------------- other knobs
 
 module _ (s : Inside) (are : AreLawful s) (knobs : Knobs) {by_node : Bool} (is : by_node ≡ not (knobs.merge_across_nodes == 1)) (rows : RowsView) where
   abbrev Tuned : Type 0

@@ -1,9 +1,9 @@
 -- What a visit finds of a row that it may change, and the pages once the row waits.
-use Rattle.ksm_pages.proofs.Names.{All, All-map, all_rows, all_zero, altered, ap, AreInTree, AreTied, AreWaitersLed, arith, Best, best_dup, best_found, best_of, Bool, change_held, change_row, changed}
+use Rattle.ksm_pages.proofs.Names.{All, All-map, all_rows, all_zero, altered, ap, AreInTree, AreWaitersLed, arith, Best, best_dup, best_found, best_of, Bool, changed}
 use Rattle.ksm_pages.proofs.Names.{Dup, dup_rows, DupRow, DupsState, Entry, false, Find, find, find_all, find_nothing, find_passes, Finds, FindsAt, found_at, get_or, GuestPage, has_content, HasRow}
 use Rattle.ksm_pages.proofs.Names.{Held, held_at, held_of, holds, IfNone, if◌then◌else◌, in_group, in_tree_by, inl, inr, Inside, is_for_zero, IsAlone, IsFree, List, map_mapped, MatchOption, None, not}
 use Rattle.ksm_pages.proofs.Names.{Option, option_and_then, option_map, out_of_tree, page_in_tree, PagesValue, PagesView, partner, Private, refl, Row, row_at, rows_of, RowsView, rules, same_page}
-use Rattle.ksm_pages.proofs.Names.{same_page_eq, same_page_refl, seen, shared_state, Some, subst, sym, tied_counted, tied_left, tree_by, tree_of, true, true≢false, Waiting, waiting_in, waiting_state}
+use Rattle.ksm_pages.proofs.Names.{same_page_eq, same_page_refl, same_Some, seen, shared_state, Some, subst, sym, tied_counted, tree_by, tree_of, true, true≢false, Waiting, waiting_in, waiting_state}
 use Rattle.ksm_pages.proofs.Names.{ℕ, ◌&&◌, ◌==◌, ◌∙◌, ◌≡◌, ◌⊎◌}
 use Rattle.ksm_pages.proofs.Options.{mapped_some, none_mapped}
 use Rattle.ksm_pages.proofs.Partners.{free_but, free_by, partner_is, tree_is}
@@ -12,8 +12,8 @@ use Rattle.ksm_pages.specs.Held.{is_alone as is_alone_in, is_restless as is_rest
 use Rattle.ksm_pages.specs.Paged.{is_restless, NoneHas}
 use Rattle.ksm_pages.proofs.Found.{find_changed_other}
 use Rattle.ksm_pages.proofs.Gathering.{restless_as}
-use Rattle.ksm_pages.proofs.Joined.{let_out_alone}
-use Rattle.ksm_pages.proofs.Leaving.{AreLawful, Become, Comes, comes, held_as, IsLoneIn, lies, of_page, row_seen, row_there, stays_there, turned_so, view_of}
+use Rattle.ksm_pages.proofs.Turning.{own_left, rested}
+use Rattle.ksm_pages.proofs.Leaving.{AreLawful, Comes, comes, held_as, IsLoneIn, of_page, row_seen, row_there, view_of}
 use Rattle.ksm_pages.proofs.Changing.{idle_settled}
 use Rattle.ksm_pages.proofs.Lone.{each_held, lone_changed}
 
@@ -21,8 +21,6 @@ use Rattle.ksm_pages.proofs.Lone.{each_held, lone_changed}
 pub lawful_numbered : (s : Inside) {later : DupsState} → later ≡ record s.dups { numbers = later.numbers; most = later.most }
     → AreLawful s → AreLawful (record s { dups = later })
 lawful_numbered s kept are = search rules
-
--- ---------------------------------------------------------------- a row that is asked
 
 -- a visit may change the row of a page
 pub record IsAsked (s : Inside) (p : PagesValue) (page : GuestPage) (e : Entry) : Type 0 where
@@ -60,8 +58,8 @@ module _ {s : Inside} {p : PagesValue} {page : GuestPage} {e : Entry} (it : IsAs
   alone = grind (arith, may)
 
   -- and so it is seen among the rows
-  pub alone_there : IsAlone page before
-  alone_there = rw there alone
+  pub alone_seen : IsAlone page p.rows
+  alone_seen = rw (row_seen s it.seen_as _ it.found) alone
 
   finds_at : (new : PagesView) (what : Find) → FindsAt (seen p) new row what → Finds (seen p) new page what
   finds_at new what is = rw (row_seen s it.seen_as _ it.found) is
@@ -90,7 +88,7 @@ module _ {s : Inside} {p : PagesValue} {page : GuestPage} {e : Entry} (it : IsAs
 
     -- without a best dup, a row that was not unchanged is found changed, and is unchanged from then on
     pub finds_changed : e.unchanged ≡ false → {new : PagesView}
-        → new ≡ changed page (λ r. record r { unchanged = true; state = Private }) (seen (view_of s))
+        → new ≡ changed page (λ r. record r { unchanged = true; state = Private }) (seen p)
         → Finds (seen p) new page finds.Changed
     finds_changed other is = search (rules, at_row, finds_at, may, no_best)
 
@@ -120,17 +118,14 @@ module _ {s : Inside} {p : PagesValue} {page : GuestPage} {e : Entry} (it : IsAs
               grind (arith, finds_at, may, no_best, zero_as, waits.told_as, at_row)
 
   -- the pages are lawful once the row waits, and are seen so
-  pub waits_then : (f : Held → Held) → ((x : Held) → (f x).row ≡ record x.row { state = Waiting }) → ((x : Held) → (f x).frame ≡ x.frame)
-      → (IsLoneIn s held → IsLoneIn s (f held))
-      → {rows : RowsView} → Become s.rows rows (change_held page f s.rows.held)
+  pub waits_then : (f : Held → Held) → ((x : Held) → ((f x).row ≡ record x.row { state = Waiting }) × ((f x).frame ≡ x.frame))
+      → (IsLoneIn s held → IsLoneIn s (f held)) → {rows : RowsView} → rows ≡ altered page f s.rows
       → Comes s rows s.dups (changed page (λ r. record r { state = Waiting }) (seen p))
-  waits_then f is framed keeps {rows} turned =
-      let lay = lies s it.lawful page it.found it.seen_as in
-      stays_there p page (turned_so s it.lawful page it.found it.seen_as rows f (λ r. record r { state = Waiting }) is
-      (λ r. refl) turned {ds = s.dups.dups} {later = s.dups} refl refl (λ r. record r { state = Waiting }) refl
-      (subst (AreTied (change_row page (λ _. record row { state = Waiting }) before)) (let_out_alone row.state page alone)
-      (tied_left _ _ _ it.lawful.order there _ _ refl it.lawful.tied)) keeps
-      (grind (arith, is held, framed held, lay, alone)))
+  waits_then f is keeps turned =
+      let left = own_left it.lawful it.seen_as alone_seen in
+      let same : held ≡ left.held = same_Some _ _ (sym it.found ∙ left.found) in
+      rested left alone_seen f turned (λ r. record r { state = Waiting }) (λ x. (λ i. ((is x).0 i).page, (is x).1)) (λ r. (refl, refl))
+      (λ x _. (is x).0) (subst (λ h. IsLoneIn s h → IsLoneIn s (f h)) same keeps)
 
   -- a row that enters the tree is said to be alone only where no dup has its content
   pub entered_lone : (group : Option ℕ) → IfNone group (NoneHas (tree_of s.knobs row) row.bytes s.dups.dups)
@@ -147,8 +142,6 @@ module _ {s : Inside} {p : PagesValue} {page : GuestPage} {e : Entry} (it : IsAs
     -- without a dup that is told, the row may join none
     pub none_told : told ≡ None → best ≡ None
     none_told none = none_mapped found_at _ (sym told_best ∙ none)
-
--- ---------------------------------------------------------------- a row that leaves the tree
 
 module _ (s : Inside) (are : AreLawful s) (other : GuestPage) {w : Held} (found : held_at other s.rows.held ≡ Some w)
     (idle : waiting_state w.row.state ≡ false) where
@@ -184,8 +177,6 @@ module _ (s : Inside) (are : AreLawful s) (other : GuestPage) {w : Held} (found 
   pub held_still : (page : GuestPage) → same_page other page ≡ false → held_at page without.held ≡ held_at page s.rows.held
   held_still page apart = find_changed_other (λ (h : Held). h.row.page) other out_of_tree (λ h. refl) page s.rows.held apart
 
--- ---------------------------------------------------------------- a row that may enter the tree
-
 -- a row that a visit may change
 pub asked : (s : Inside) → AreLawful s → {p : PagesValue} → view_of s ≡ p → {page : GuestPage} (e : Entry)
     → held_at page s.rows.held ≡ Some (held_of s.rows.pass e) → is_restless_entry e ≡ true → IsAsked s p page e
@@ -213,7 +204,7 @@ module _ {s : Inside} {p : PagesValue} {page : GuestPage} {e : Entry} {group : O
   pub entered_then : {rows : RowsView} → rows ≡ altered page (waiting_in (in_tree_by group)) s.rows
       → Comes s rows s.dups (changed page (λ r. record r { state = Waiting }) (seen p))
   entered_then turned =
-      waits_then it.asked (waiting_in (in_tree_by group)) (λ x. refl) (λ x. refl) (λ _. entered_lone it.asked group it.lone) (held_as turned)
+      waits_then it.asked (waiting_in (in_tree_by group)) (λ x. (refl, refl)) (λ _. entered_lone it.asked group it.lone) turned
 
   -- and the row is found to wait
   pub entered_waits : e.unchanged ≡ true → {rows : RowsView} → rows ≡ altered page (waiting_in (in_tree_by group)) s.rows

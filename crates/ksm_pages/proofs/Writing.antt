@@ -58,9 +58,7 @@ module _ (s : Inside) (are : AreRows s) where
     -- the unstable tree leads as it did where the entry is written anew, in it only as before
     pub led_so : AreLed s.by_node s.entries s.unstable → (e' : Entry) → StaysLed e e' → AreLed s.by_node (with_value s.entries key e') s.unstable
     led_so led e' stays =
-        led_written s.by_node s.entries (with_value s.entries key e') s.unstable led (Updates-with_value _ _ _ (ap is_some stood)) refl stood stays
-
-    -- ---------------------------------------------------------------- the entry changed
+        led_written led (Updates-with_value _ _ _ (ap is_some stood)) stood stays
 
     -- where the flag of an entry stays, the order says so already
     pub kept_mark : (flag : Bool) → flag ≡ e.mergeable → s.order ≡ marked page flag s.order
@@ -108,8 +106,6 @@ module _ (s : Inside) (are : AreRows s) where
       pub viewed : (f : Held → Held) → (1 ≤ v.pass → held_of v.pass e' ≡ f (held_of v.pass e))
           → view s.by_node s.pass later order ≡ altered page f v
       viewed f is = grind (arith, held_later f)
-
-    -- ---------------------------------------------------------------- the entry went
 
     module _ {later : Slab Entry} (fills : Fills s.entries later key None) where
       -- what stands later stood before, under another key

@@ -1,5 +1,5 @@
 -- The unstable tree: to which row it leads from a tree and bytes (mm/ksm; how it is kept is own).
-use Rattle.std.specs.Prelude.{◌≡◌, ◌≢◌, ℕ, ◌+◌, ◌*◌, ◌/◌, ◌%◌, ◌^◌, Bool, true, false, length, nat_lt, slice_get, ◌&&◌, ◌==◌, bytes_eq, List, [], ◌∷◌, find, Option, None, Some, if◌then◌else◌}
+use Rattle.std.specs.Prelude.{◌≡◌, ℕ, ◌+◌, ◌*◌, ◌/◌, ◌%◌, ◌^◌, Bool, true, false, length, nat_lt, slice_get, ◌&&◌, ◌||◌, ◌==◌, bytes_eq, is_some, not, List, [], ◌∷◌, find, Option, None, Some, if◌then◌else◌}
 use Rattle.std.specs.List.{list_any}
 use Rattle.slab.specs.Slab.{Slab, Updates, get}
 use Rattle.ksm_tree.specs.Numbered.{number_of}
@@ -67,31 +67,35 @@ abbrev pub holder : Bool → Slab Entry → UnstableTree → ℕ → List ℕ �
 holder by_node slab u tree bytes =
     in_place (stands_under by_node slab tree bytes) (keys_at u tree bytes) (other_holder by_node slab u tree bytes)
 
--- each entry to which the tree is said to lead is found there
-abbrev pub AreLed : Bool → Slab Entry → UnstableTree → Type 0
-AreLed by_node slab u = (key : ℕ) (e : Entry) → get slab key ≡ Some e → is_in e.in_tree ≡ true
-    → holder by_node slab u (tree_by by_node e.home) e.bytes ≡ Some key
+-- whether a search from a tree and bytes comes to a key: it stands in the place, or beside it where each key there was taken
+abbrev pub comes_to : ℕ → Option (List ℕ) → Option ℕ → Bool
+comes_to key None other = is_some (if_passes (λ k. k == key) other)
+comes_to key (Some keys) other =
+    list_any (λ k. k == key) keys || (not (list_any (λ k. k == NO_KEY) keys) && is_some (if_passes (λ k. k == key) other))
 
--- the tree leads to each entry to which it led
+abbrev pub meets : UnstableTree → ℕ → List ℕ → ℕ → Bool
+meets u tree bytes key = comes_to key (keys_at u tree bytes) (number_of tree bytes u.others.entries)
+
+-- a search comes to each entry to which the tree is said to lead, and no other has its tree and bytes
+pub record AreLed (by_node : Bool) (slab : Slab Entry) (u : UnstableTree) : Type 0 where
+  pub at : (tree : ℕ) (bytes : List ℕ) (key : ℕ) → stands_as by_node tree bytes (get slab key) ≡ true
+      → (nat_lt key GONE ≡ true) × (meets u tree bytes key ≡ true)
+      × ((k : ℕ) → stands_as by_node tree bytes (get slab k) ≡ true → k ≡ key)
+
+-- a search comes to each entry to which it came
 abbrev pub Keeps : Bool → Slab Entry → UnstableTree → UnstableTree → Type 0
-Keeps by_node slab old new =
-    (t : ℕ) (b : List ℕ) (key : ℕ) → holder by_node slab old t b ≡ Some key → holder by_node slab new t b ≡ Some key
+Keeps by_node slab old new = (tree : ℕ) (bytes : List ℕ) (key : ℕ) → stands_under by_node slab tree bytes key ≡ true
+    → meets old tree bytes key ≡ true → meets new tree bytes key ≡ true
 
 -- each content but one has the number that it had
 abbrev pub KeepsOthers : ℕ → List ℕ → UnstableTree → UnstableTree → Type 0
 KeepsOthers tree bytes old new = (t : ℕ) (b : List ℕ) → (t == tree && bytes_eq b bytes) ≡ false
     → number_of t b new.others.entries ≡ number_of t b old.others.entries
 
--- once the entry under a key has a tree and bytes, from which the tree led to none, the tree leads to it
-abbrev pub LeadsTo : Slab Entry → UnstableTree → UnstableTree → ℕ → List ℕ → ℕ → Type 0
-LeadsTo slab old new tree bytes key = (by_node : Bool) (later : Slab Entry) → holder by_node slab old tree bytes ≡ None
-    → ((k : ℕ) → k ≢ key → get later k ≡ get slab k) → stands_under by_node later tree bytes key ≡ true
-    → holder by_node later new tree bytes ≡ Some key
-
--- the tree leads to no entry from the tree and bytes of the one under a key, if that is not in the tree
-abbrev pub IsFreeAt : Bool → Slab Entry → UnstableTree → ℕ → Type 0
-IsFreeAt by_node slab u key = (d : Entry) → get slab key ≡ Some d → is_in d.in_tree ≡ false
-    → holder by_node slab u (tree_by by_node d.home) d.bytes ≡ None
+-- no entry in the tree has the tree and bytes of the one under a key, if that is not in the tree
+abbrev pub IsFreeAt : Bool → Slab Entry → ℕ → Type 0
+IsFreeAt by_node slab key = (d : Entry) → get slab key ≡ Some d → is_in d.in_tree ≡ false
+    → (k : ℕ) → stands_as by_node (tree_by by_node d.home) d.bytes (get slab k) ≡ false
 
 -- once the entry under a key is in the tree, with its home and its bytes, the tree leads to all that are in it
 abbrev pub LeadsAt : Bool → Slab Entry → UnstableTree → ℕ → Type 0

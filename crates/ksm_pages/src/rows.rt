@@ -136,7 +136,7 @@ fn lead_to(
 ) -> Result<(), Fault>
     requires stands { is_some (get entries.now key) ≡ true }
     requires led { AreLed by_node entries.now unstable.old }
-    requires free { IsFreeAt by_node entries.now unstable.old key }
+    requires free { IsFreeAt by_node entries.now key }
     ensures leads { OnOk result (LeadsAt by_node entries.now unstable.new key) }
     ensures kept { AreLed by_node entries.now unstable.new }
     ensures memory { IfErr result (λ fault. fault ≡ Fault.Memory) }

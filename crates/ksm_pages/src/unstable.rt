@@ -5,10 +5,10 @@
 //! contents that are dear to find, and a page that waits takes some twenty bytes here.
 
 ghost use Rattle.std.specs.List.{list_any};
-ghost use Rattle.std.specs.Prelude.{◌≡◌, ◌⊎◌, ◌<◌, ℕ, Bool, List, [], None, Some, IfErr, IfSome, OnErr, OnOk, false};
+ghost use Rattle.std.specs.Prelude.{◌≡◌, ◌⊎◌, ◌<◌, ℕ, Bool, List, [], None, Some, IfErr, IfSome, OnErr, OnOk, true, false};
 ghost use Rattle.std.specs.Prelude.{find, not, slice_index_or};
 ghost use Rattle.ksm_pages.specs.Held.{tree_by as tree_of_home};
-ghost use Rattle.ksm_pages.specs.Unstable.{Keeps, KeepsOthers, LeadsTo, holder, is_led, other_holder, place};
+ghost use Rattle.ksm_pages.specs.Unstable.{Keeps, KeepsOthers, holder, is_led, meets, other_holder, place};
 ghost use Rattle.ksm_pages.specs.Unstable.{stands_under, turned as halves_turned};
 ghost use Rattle.ksm_tree.specs.Numbered.{number_of};
 
@@ -200,8 +200,8 @@ impl UnstableTree {
         stands(entries, by_node, key, tree, bytes).then_some(key)
     }
 
-    /// The tree leads from a tree and bytes, from which it leads to no row, to one with a key, to which it did not
-    /// lead. The one fault is `Memory`, and then it leads where it did.
+    /// A search from a tree and bytes, with which no row is in the tree, comes to a key, to which the tree did not lead.
+    /// The one fault is `Memory`, and then the tree leads where it did.
     #[inline(always)]
     pub fn lead(
         &mut self,
@@ -212,8 +212,9 @@ impl UnstableTree {
     ) -> Result<(), Fault>
         requires below { key < GONE }
         requires fresh { is_led entries.now key ≡ false }
-        ensures leads { OnOk result (LeadsTo entries.now self.old self.new tree bytes.now key) }
-        ensures kept { (by_node : Bool) → holder by_node entries.now self.old tree bytes.now ≡ None
+        ensures leads { OnOk result (meets self.new tree bytes.now key ≡ true) }
+        ensures kept { (by_node : Bool)
+            → ((k : ℕ) → stands_under by_node entries.now tree bytes.now k ≡ false)
             → Keeps by_node entries.now self.old self.new }
         ensures memory { IfErr result (λ fault. fault ≡ Fault.Memory) }
     {

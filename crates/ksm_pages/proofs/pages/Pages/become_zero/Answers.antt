@@ -1,5 +1,5 @@
-use Rattle.ksm_pages.proofs.Names.{beside, None, refl, relaid, seen, sym, true≢false, Zero, ◌∙◌}
-use Rattle.ksm_pages.proofs.Leaving.{alone_found, Comes, held_as, lies}
+use Rattle.ksm_pages.proofs.Names.{None, refl, relaid, seen, sym, true≢false, Zero, ◌∙◌}
+use Rattle.ksm_pages.proofs.Leaving.{alone_found, Comes, lies}
 use Rattle.ksm_pages.proofs.Joined.{seen_own}
 use Rattle.ksm_pages.proofs.Lone.{not_alone}
 use Rattle.ksm_pages.proofs.Turning.{moved, own_left}
@@ -9,8 +9,8 @@ use Rattle.ksm_pages.proofs.pages.Pages.become_zero.Goals as goal
 gone : (c : goal.After-become_zero)
     → Comes c.self.inside c.become_zero.new.self c.self.inside.dups (relaid c.args.spot.page (λ r. record r { state = Zero }) None (seen c.args.self.now))
 gone c =
-    moved (own_left c.self.invariant c.self.view_is c.requires) c.become_zero.new.self (λ _. None) beside (λ r. record r { state = Zero })
-    (λ r. refl) (held_as c.become_zero.ensures) _ refl refl (λ _ is. absurd (true≢false (sym is ∙ not_alone _))) refl
+    moved (own_left c.self.invariant c.self.view_is c.requires) _ c.become_zero.ensures (λ x. refl) (λ r. record r { state = Zero }) (λ r. refl) refl refl
+    (λ _ is. absurd (true≢false (sym is ∙ not_alone _))) refl
 
 pub invariant_of-self : goal.invariant_of-self
 invariant_of-self c = (gone c).lawful

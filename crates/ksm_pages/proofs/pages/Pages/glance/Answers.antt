@@ -1,6 +1,6 @@
 use Rattle.ksm_pages.proofs.Names.{arith, changed, held_of, None, on_row, refl, same_page_refl, seen, Waiting, ◌≡◌}
 use Rattle.ksm_pages.proofs.Gathering.{restless_as}
-use Rattle.ksm_pages.proofs.Leaving.{Comes, held_as, row_seen}
+use Rattle.ksm_pages.proofs.Leaving.{Comes, row_seen}
 use Rattle.ksm_pages.proofs.Partners.{held_led, partner_is}
 use Rattle.ksm_pages.proofs.Visiting.{asked, best, finds_waits, IsAsked, lone_none, waits_then}
 use Rattle.ksm_pages.proofs.pages.Pages.glance.Goals as goal
@@ -22,7 +22,7 @@ it c = asked c.self.inside c.self.invariant c.self.view_is c.in-Some.entry.now c
 -- the page waits
 waits : (c : After-wait)
     → Comes c.self.inside c.wait.new.self c.self.inside.dups (changed c.args.spot.page (λ r. record r { state = Waiting }) (seen c.args.self.now))
-waits c = waits_then (it c) (on_row (λ r. record r { state = Waiting })) (λ x. refl) (λ x. refl) (λ lone. lone) (held_as c.wait.ensures)
+waits c = waits_then (it c) (on_row (λ r. record r { state = Waiting })) (λ x. (refl, refl)) (λ lone. lone) c.wait.ensures
 
 pub invariant_of-self : goal.invariant_of-self
 invariant_of-self c = (waits (goal.at.invariant_of-self c).After-wait).lawful

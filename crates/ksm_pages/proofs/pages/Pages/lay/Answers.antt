@@ -1,7 +1,7 @@
 use Rattle.ksm_pages.proofs.Names.{arith, frame_of, lies_on, refl, seen, Some, subst}
 use Rattle.std.proofs.lemmas.List.Folds.{map_fixed}
 use Rattle.ksm_pages.proofs.Joined.{own_not_merged, seen_own}
-use Rattle.ksm_pages.proofs.Leaving.{alone_found, Comes, held_as}
+use Rattle.ksm_pages.proofs.Leaving.{alone_found, Comes}
 use Rattle.ksm_pages.proofs.Turning.{moved, own_left}
 use Rattle.ksm_pages.proofs.pages.Pages.lay.Goals as goal
 
@@ -21,8 +21,7 @@ laid c =
       rows = rows;
       frame = lies_on c.args.spot.page (Some c.args.frame) (frame_of c.args.self.now.lodgings);
     })) (map_fixed _ _ (λ k d lt. grind arith))
-    (moved left c.lay.new.self (λ _. Some c.args.frame) (λ t. t) (λ r. r) (λ r. refl)
-    (held_as c.lay.ensures) (λ r. r) refl (own_not_merged _ alone) (λ lone. lone) (seen_own _ _ _ alone))
+    (moved left _ c.lay.ensures (λ x. refl) (λ r. r) (λ r. refl) refl (own_not_merged _ alone) (λ lone. lone) (seen_own _ _ _ alone))
 
 pub invariant_of-self : goal.invariant_of-self
 invariant_of-self c = (laid c).lawful

@@ -1,21 +1,19 @@
-use Rattle.ksm_pages.proofs.Names.{arith, let_go, refl, rules, Some}
-use Rattle.ksm_pages.proofs.Leaving.{held_as}
-use Rattle.ksm_pages.proofs.Turning.{HasLeft, known_left, lay, moved}
+use Rattle.ksm_pages.proofs.Names.{let_go, refl, relaid, rules, seen, Some}
+use Rattle.ksm_pages.proofs.Leaving.{Comes}
+use Rattle.ksm_pages.proofs.Turning.{known_left, lay, relaid_on}
 use Rattle.ksm_pages.proofs.pages.Pages.let_go_on.Goals as goal
 
-gone : (c : goal.After-change)
-    → HasLeft c.self.inside c.args.self.now c.args.spot.page c.leave-left.new.dups c.deref.result.now c.leave-left.result
-gone c = grind (arith, known_left)
+came : (c : goal.After-change)
+    → Comes c.self.inside c.change.new.self c.leave-left.new.dups (relaid c.args.spot.page let_go (Some c.args.frame) (seen c.args.self.now))
+came c =
+    relaid_on (known_left {s = c.self.inside} c.self.invariant c.self.view_is c.requires c.leave-left.ensures) _ (c.change.ensures (λ h. record h { row = let_go h.row; frame = Some c.args.frame }) (search rules)) let_go (λ x. (refl, refl)) (λ r. (refl, refl))
+    (λ lone. lone)
 
 pub invariant_of-self : goal.invariant_of-self
-invariant_of-self c =
-    (moved (gone c) c.change.new.self (λ _. Some c.args.frame) (λ t. t) let_go (λ r. refl)
-    (held_as (c.change.ensures _ (search rules))) let_go refl refl (λ lone. lone) refl).lawful
+invariant_of-self c = (came c).lawful
 
 pub returns-clause-left : goal.returns-clause-left
-returns-clause-left c = lay (gone c) c.deref.ensures.value
+returns-clause-left c = lay (known_left {s = c.self.inside} c.self.invariant c.self.view_is c.requires c.leave-left.ensures) c.deref.ensures.value
 
 pub returns-clause-gone : goal.returns-clause-gone
-returns-clause-gone c =
-    (moved (gone c) c.change.new.self (λ _. Some c.args.frame) (λ t. t) let_go (λ r. refl)
-    (held_as (c.change.ensures _ (search rules))) let_go refl refl (λ lone. lone) refl).told_as
+returns-clause-gone c = (came c).told_as

@@ -1,8 +1,8 @@
-use Rattle.ksm_pages.proofs.Names.{ap, arith, changed, held_of, inl, inr, on_err, Private, refl, Row, rules, same_page_eq, seen, settled, Some, sym, true, ◌∙◌, ◌≡◌}
+use Rattle.ksm_pages.proofs.Names.{ap, arith, changed, held_of, inl, inr, on_err, on_row, Private, refl, Row, rules, same_page_eq, seen, settled, Some, sym, true, ◌∙◌, ◌≡◌}
 use Rattle.ksm_pages.proofs.Gathering.{restless_as}
-use Rattle.ksm_pages.proofs.Leaving.{Comes, held_as, row_seen, view_of}
+use Rattle.ksm_pages.proofs.Leaving.{Comes, row_seen}
 use Rattle.ksm_pages.proofs.Turning.{own_left, rested}
-use Rattle.ksm_pages.proofs.Visiting.{alone, alone_there, asked, entered_not, entered_then, entered_waits, enters, enters_for, enters_restless, finds_changed, finds_dup, finds_partner, finds_zero}
+use Rattle.ksm_pages.proofs.Visiting.{alone, alone_seen, asked, entered_not, entered_then, entered_waits, enters, enters_for, enters_restless, finds_changed, finds_dup, finds_partner, finds_zero}
 use Rattle.ksm_pages.proofs.Visiting.{lone_none, MayEnter, met, none_told, told_best}
 use Rattle.ksm_pages.proofs.pages.Pages.visit.Goals as goal
 use Rattle.ksm_pages.proofs.pages.Pages.visit.Goals.{After-enter-arg-1, in-Some-in_tree+else-ne, in-Some-in_tree+then-ne+else-waits, in_default-in_tree}
@@ -23,19 +23,15 @@ returns-in-Some-best-clause-found c =
     rw c.group_with_best-group.ensures.kept
     (finds_dup it c.in-Some-best.best (sym c.in-Some-best.is ∙ told_best it c.tree_in-tree.ensures c.group_with_best-group.ensures.best))
 
-abbrev kept : Row → Row
-kept r = record (settled r) { unchanged = true }
-
 abbrev found : Row → Row
 found r = record r { unchanged = true; state = Private }
 
 -- the page of a row that was not unchanged rests, and is unchanged
-went : (c : goal.After-change) → Comes c.self.inside c.change.new.self c.self.inside.dups (changed c.args.spot.page found (seen (view_of c.self.inside)))
+went : (c : goal.After-change) → Comes c.self.inside c.change.new.self c.self.inside.dups (changed c.args.spot.page found (seen c.args.self.now))
 went c =
-    let s = c.self.inside in
-    let alone = alone_there (asked s c.self.invariant c.self.view_is c.in-Some.entry.now c.in-Some.ensures (grind arith)) in
-    rested (own_left {p = view_of s} c.self.invariant refl alone) c.change.new.self (λ t. t) kept found
-    (λ r. refl) refl alone (λ own. grind (arith, own)) (λ lone. lone) (held_as (c.change.ensures _ (search rules)))
+    let it = asked c.self.inside c.self.invariant c.self.view_is c.in-Some.entry.now c.in-Some.ensures (grind arith) in
+    rested (own_left c.self.invariant c.self.view_is (alone_seen it)) (alone_seen it) _ (c.change.ensures (on_row (λ r. record (settled r) { unchanged = true })) (search rules))
+    found (λ x. (refl, refl)) (λ r. (refl, refl)) (λ x own. grind (arith, own)) (λ lone. lone)
 
 pub invariant_of-self-then-not-entry : goal.invariant_of-self-then-not-entry
 invariant_of-self-then-not-entry c = rw c.group_with_best-group.ensures.kept (went c).lawful

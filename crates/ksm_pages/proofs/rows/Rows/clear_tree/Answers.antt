@@ -1,16 +1,16 @@
 use Rattle.ksm_pages.proofs.Names.{ap, map, out_of_tree, refl, RowsView, rules, ◌∙◌}
 use Rattle.ksm_pages.proofs.Led.{none_led}
-use Rattle.ksm_pages.proofs.Settling.{out, out_seen, retained_all}
+use Rattle.ksm_pages.proofs.Settling.{out, out_seen, retained_each}
 use Rattle.ksm_pages.proofs.rows.Rows.clear_tree.Goals as goal
 
 pub invariant_of-self : goal.invariant_of-self
 invariant_of-self c =
-    let slots = retained_all _ out (λ f k old keep new next t. search rules) _ _ _ _ c.retain.ensures.retained in
+    let slots = retained_each _ out (λ f k old keep new next t. search rules) _ c.self.inside.entries c.retain.new.self c.retain.ensures.retained in
     ((out_seen c.self.invariant.0 c.retain.new.self slots).rows, none_led c.self.inside.entries c.retain.new.self out slots (λ e. refl) c.args.by_node c.new.result)
 
 pub returns : goal.returns
 returns c =
-    let slots = retained_all _ out (λ f k old keep new next t. search rules) _ _ _ _ c.retain.ensures.retained in
+    let slots = retained_each _ out (λ f k old keep new next t. search rules) _ c.self.inside.entries c.retain.new.self c.retain.ensures.retained in
     ap (λ held. record { held = held; pass = c.self.inside.pass; by_node = c.args.by_node })
     (out_seen c.self.invariant.0 c.retain.new.self slots).seen
     ∙ ap (λ (v : RowsView). record v { held = map out_of_tree v.held; by_node = c.args.by_node }) c.self.view_is

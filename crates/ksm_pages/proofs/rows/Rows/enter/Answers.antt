@@ -12,7 +12,7 @@ lead_to-requires-clause-free c d stood out =
     let s = c.self.inside in
     let are = c.self.invariant.0 in
     let under = c.in-Some.ensures.there in
-    free_none s are c.self.invariant.1 c.in-Some.key d stood out
+    free_none s are c.in-Some.key d stood out
     (rw (of_page s are under stood) (rw (row_there s are under stood) at (rw (← c.self.view_is) at c.requires.free)))
 
 -- the entry, which waits
@@ -30,7 +30,7 @@ invariant_of-self-2 c =
     let stood = c.index_mut-entry.ensures.value in
     let led : is_in c.in_tree_by-entry.result ≡ true = grind (arith, c.in_tree_by-entry.ensures) in (
       still s c.self.invariant.0 there stood c.self.view_is (later c) (search (rules, kept_mark))
-          (refl, λ _ own. grind arith) c.state_alone-old.ensures (grind (arith, own_there, led)) c.change.ensures
+          (refl, λ _ own. grind arith) c.state_alone-old.ensures (grind (arith, own_there s c.self.invariant.0 there stood c.self.view_is c.requires.own, led)) c.change.ensures
           (inr (refl, λ may. may)),
       c.in_ok-lead_to.ensures.leads c.index_mut-entry.result.now (later c) (with_value s.entries c.in-Some.key (later c)) stood
           (Updates-with_value _ _ _ (ap is_some stood)) refl refl led,
@@ -44,4 +44,4 @@ returns-clause-waits c =
     let led : is_in c.in_tree_by-entry.result ≡ true = grind (arith, c.in_tree_by-entry.ensures) in
     viewed s c.self.invariant.0 there stood c.self.view_is (later c) (search (rules, kept_mark))
     (refl, λ _ own. grind arith) (waiting_in (in_tree_by c.args.group))
-    (λ _. grind (arith, own_there, led, c.in_tree_by-entry.ensures))
+    (λ _. grind (arith, own_there s c.self.invariant.0 there stood c.self.view_is c.requires.own, led, c.in_tree_by-entry.ensures))

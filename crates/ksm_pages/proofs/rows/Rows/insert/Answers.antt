@@ -1,6 +1,6 @@
 use Rattle.ksm_pages.proofs.Names.{arith, Entry, false, Fills, get, None, Not, rules, Some, true, ◌≡◌}
 use Rattle.ksm_pages.specs.declared.row.Kind.TheVariants as kinds
-use Rattle.ksm_pages.proofs.Led.{led_out}
+use Rattle.ksm_pages.proofs.Led.{led_less, led_out}
 use Rattle.ksm_pages.proofs.Writing.{filled, no_name, still_put, viewed_put}
 use Rattle.ksm_pages.proofs.rows.Rows.insert.Goals as goal
 
@@ -34,15 +34,15 @@ invariant_of-self-2 c =
       still_put c.self.inside c.self.invariant.0 c.self.view_is c.reserve_one.ensures.rest (came c).0 c.requires.absent
           (came c).1
           (grind arith) (omega arith) c.add.ensures,
-      led_out c.self.inside.by_node c.self.inside.entries c.insert_reserved.new.self c.self.inside.unstable c.self.invariant.1 (filled c.self.inside c.self.invariant.0 c.self.view_is c.reserve_one.ensures.rest (came c).0 c.requires.absent (came c).1)
+      led_out c.self.invariant.1 (filled c.self.inside c.self.invariant.0 c.self.view_is c.reserve_one.ensures.rest (came c).0 c.requires.absent (came c).1)
           (λ e is. grind arith),
     )
 
 pub invariant_of-self : goal.invariant_of-self
-invariant_of-self c = (search rules, rw c.reserve_one.ensures.rest c.self.invariant.1)
+invariant_of-self c = (search rules, rw c.reserve_one.ensures.rest (led_less c.self.invariant.1 (λ t b k stands. stands)))
 
 pub invariant_of-self-in_default : goal.invariant_of-self-in_default
-invariant_of-self-in_default c = (search rules, rw c.reserve_one.ensures.rest c.self.invariant.1)
+invariant_of-self-in_default c = (search rules, rw c.reserve_one.ensures.rest (led_less c.self.invariant.1 (λ t b k stands. stands)))
 
 pub invariant_of-self-in_err-insert : goal.invariant_of-self-in_err-insert
 invariant_of-self-in_err-insert c =
@@ -55,7 +55,7 @@ invariant_of-self-in_err-insert c =
         begun = was.begun;
         counting = was.counting;
       }),
-      rw c.reserve_one.ensures.rest c.self.invariant.1,
+      rw c.reserve_one.ensures.rest (led_less c.self.invariant.1 (λ t b k stands. stands)),
     )
 
 pub returns-clause-added : goal.returns-clause-added

@@ -11,5 +11,5 @@ invariant_of-self c =
     let s = c.self.inside in (
       rw c.lose_row.ensures (rw c.remove.ensures (still_gone s c.self.invariant.0 c.in-Some.ensures.there c.remove-gone.ensures.value
           c.remove-gone.ensures.updates c.state.ensures c.change.ensures)),
-      led_out s.by_node s.entries c.remove-gone.new.self s.unstable c.self.invariant.1 c.remove-gone.ensures.updates (λ e is. cc),
+      led_out c.self.invariant.1 c.remove-gone.ensures.updates (λ e is. cc),
     )

@@ -1,9 +1,9 @@
-use Rattle.std.proofs.Common.{ap, arith, inl, inr, List, refl, rules, sym, ℕ, ◌∙◌, ◌≡◌}
+use Rattle.std.proofs.Common.{ap, arith, inl, inr, List, refl, rules, ℕ, ◌∙◌, ◌≡◌}
 use Rattle.std.proofs.lemmas.Option.{slice_get_read}
 use Rattle.ksm_tree.proofs.Names.{BTreeMap}
 use Rattle.ksm_tree.specs.Numbered.{number_of}
 use Rattle.ksm_tree.specs.declared.content.Content.{Content}
-use Rattle.ksm_pages.proofs.Leading.{beside_forgets, IsAs, put_keeps, same_keeps, same_tree, untouched}
+use Rattle.ksm_pages.proofs.Leading.{beside_keeps, IsAs, put_keeps, same_keeps, same_tree, untouched}
 use Rattle.ksm_pages.specs.declared.unstable.TheConstants.{GONE}
 use Rattle.ksm_pages.proofs.unstable.UnstableTree.forget.Goals as goal
 use Rattle.ksm_pages.proofs.unstable.UnstableTree.forget.Goals.{in-Some+in_default-index_in, in_default}
@@ -12,7 +12,7 @@ pub returns-in-Some-index_in : goal.returns-in-Some-index_in
 returns-in-Some-index_in c by_node =
     put_keeps c.args.self.now c.place_of-at.result c.in-Some.keys.now c.in-Some-index_in.here GONE
     (search (rules, slice_get_read))
-    c.args.entries.now refl (grind arith) (grind arith) by_node
+    c.args.entries.now refl (grind arith) by_node
 
 -- where the key does not stand in the place, the tree is as it was
 same : (c : goal.After-forget_beside) → IsAs c.match-get_mut.self c.args.self.now
@@ -31,9 +31,9 @@ returns c by_node =
     λ t b. ap (λ (m : BTreeMap Content ℕ). number_of t b m.entries) (same c).1 in
     elim c.forget_beside.ensures.gone [
       | inl number ↦
-          beside_forgets c.args.self.now later places c.args.tree c.args.bytes.now
-          (λ t b apart. c.forget_beside.ensures.others t b apart ∙ before t b) c.args.entries.now c.requires.gone
-          (sym (before c.args.tree c.args.bytes.now) ∙ number) by_node
+          beside_keeps c.args.self.now later places c.args.tree c.args.bytes.now
+          (λ t b apart. c.forget_beside.ensures.others t b apart ∙ before t b) c.args.entries.now by_node
+          (λ k stands at. grind (arith, c.requires.gone, before c.args.tree c.args.bytes.now, number, stands, at))
       | inr kept ↦
           same_keeps c.args.self.now later places (kept ∙ ap (λ (m : BTreeMap Content ℕ). m.entries) (same c).1) by_node c.args.entries.now
     ]

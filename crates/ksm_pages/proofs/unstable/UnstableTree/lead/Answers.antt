@@ -1,26 +1,28 @@
-use Rattle.std.proofs.Common.{ap, arith, false, length, List, not, rules, slice_get, Some, subst, sym, ℕ, ◌∙◌, ◌≡◌}
-use Rattle.std.proofs.lemmas.Option.{same_Some, slice_get_read, slice_get_within}
+use Rattle.std.proofs.Common.{ap, arith, false, length, not, rules, sym, true≢false, ℕ, ◌∙◌, ◌≡◌}
+use Rattle.std.proofs.lemmas.Option.{slice_get_past, slice_get_read}
 use Rattle.std.proofs.lemmas.Result.{on_ok_weaker}
 use Rattle.std.specs.List.{list_any}
+use Rattle.std.specs.Option.{MatchOption}
+use Rattle.std.specs.Prelude.{⊤}
 use Rattle.ksm_tree.proofs.Names.{BTreeMap}
 use Rattle.ksm_tree.specs.Numbered.{number_of}
 use Rattle.ksm_tree.specs.declared.content.Content.{Content}
-use Rattle.ksm_pages.proofs.Leading.{beside_keeps, beside_leads, IsAs, put_keeps, put_leads, same_tree, untouched}
+use Rattle.ksm_pages.proofs.Leading.{beside_keeps, beside_meets, IsAs, put_keeps, put_meets, same_tree, untouched}
 use Rattle.ksm_pages.specs.Unstable.{is_led, KeepsOthers, keys_at, place}
 use Rattle.ksm_pages.proofs.unstable.UnstableTree.lead.Goals as goal
 use Rattle.ksm_pages.proofs.unstable.UnstableTree.lead.Goals.{in-Some+in_default-free_in, in_default}
 
 pub returns-in-Some-free_in-clause-leads : goal.returns-in-Some-free_in-clause-leads
 returns-in-Some-free_in-clause-leads c =
-    put_leads c.args.self.now c.place_of-at.result c.in-Some.keys.now c.in-Some-free_in.free c.args.key
+    put_meets c.args.self.now c.place_of-at.result c.in-Some.keys.now c.in-Some-free_in.free c.args.key
     (search (rules, slice_get_read))
-    c.args.entries.now c.args.tree c.args.bytes.now (search rules) (search rules)
+    c.args.tree c.args.bytes.now (search rules) (search rules)
 
 pub returns-in-Some-free_in-clause-kept : goal.returns-in-Some-free_in-clause-kept
-returns-in-Some-free_in-clause-kept c =
-    (λ by_node _. put_keeps c.args.self.now c.place_of-at.result c.in-Some.keys.now c.in-Some-free_in.free c.args.key
+returns-in-Some-free_in-clause-kept c by_node _ =
+    put_keeps c.args.self.now c.place_of-at.result c.in-Some.keys.now c.in-Some-free_in.free c.args.key
     (search (rules, slice_get_read))
-    c.args.entries.now (grind arith) (search rules) (search rules) by_node)
+    c.args.entries.now (grind arith) (search rules) by_node
 
 -- where no key of the place is another, the tree is as it was
 same : (c : goal.After-lead_beside) → IsAs c.match-get_mut.self c.args.self.now
@@ -37,30 +39,24 @@ others c t b apart =
     ∙ ap (λ (m : BTreeMap Content ℕ). number_of t b m.entries) (same c).1
 
 -- the tree leads to each key of the place
-full : (c : goal.After-lead_beside) (keys : List ℕ) → keys_at c.args.self.now c.args.tree c.args.bytes.now ≡ Some keys
-    → list_any (λ k. not (is_led c.args.entries.now k)) keys ≡ false
-full c keys read =
-    let items = c.args.self.now.places.items in
-    let here : c.place_of-at.result ≡ place (length items) c.args.tree c.args.bytes.now = search rules in
-    let at : slice_get items c.place_of-at.result ≡ Some keys = ap (slice_get items) here ∙ read in
+full : (c : goal.After-lead_beside) → MatchOption (keys_at c.args.self.now c.args.tree c.args.bytes.now) ⊤
+    (λ keys. list_any (λ k. not (is_led c.args.entries.now k)) keys ≡ false)
+full c =
+    let at : c.place_of-at.result ≡ place (length c.args.self.now.places.items) c.args.tree c.args.bytes.now = search rules in
     elim c.match-get_mut.branch [
       | in-Some+in_default-free_in w ↦
           let there = slice_get_read _ _ _ _ c.args.self.now.places.ok.0 (search rules) w.in-Some.ensures.value in
-          let one : w.in-Some.keys.now ≡ keys = same_Some _ _ (sym there ∙ at) in
-          let led = w.free_in.ensures.none w.in_default-free_in.is in
-          subst (λ keys. list_any (λ k. not (is_led c.args.entries.now k)) keys ≡ false) one led
-      | in_default w ↦ absurd (search (rules, slice_get_within items c.place_of-at.result keys at))
+          rw (← at, there) (w.free_in.ensures.none w.in_default-free_in.is)
+      | in_default w ↦ rw (← at, slice_get_past c.args.self.now.places.items c.place_of-at.result (grind arith)) tt
     ]
 
 pub returns-clause-leads : goal.returns-clause-leads
 returns-clause-leads c =
-    let places = c.lead_beside.ensures.places ∙ (same c).0 in
     on_ok_weaker c.lead_beside.result
-    (beside_leads c.args.self.now c.lead_beside.new.self places c.args.tree c.args.bytes.now (others c)
-    c.args.entries.now c.args.key c.requires.fresh (full c)) c.lead_beside.ensures.here
+    (beside_meets c.args.self.now c.lead_beside.new.self (c.lead_beside.ensures.places ∙ (same c).0) c.args.tree c.args.bytes.now
+    (others c) c.args.entries.now c.args.key (full c)) c.lead_beside.ensures.here
 
 pub returns-clause-kept : goal.returns-clause-kept
-returns-clause-kept c =
-    let places = c.lead_beside.ensures.places ∙ (same c).0 in
-    beside_keeps c.args.self.now c.lead_beside.new.self places c.args.tree c.args.bytes.now (others c)
-    c.args.entries.now
+returns-clause-kept c by_node none =
+    beside_keeps c.args.self.now c.lead_beside.new.self (c.lead_beside.ensures.places ∙ (same c).0) c.args.tree c.args.bytes.now
+    (others c) c.args.entries.now by_node (λ k stands _. true≢false (sym stands ∙ none k))
