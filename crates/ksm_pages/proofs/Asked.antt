@@ -1,12 +1,7 @@
 -- What is asked of the pages: the first page after a cursor.
-use Rattle.ksm_pages.proofs.Names.{after_cursor, ap, arith, Bool, comes_before, each_at_page, false, filter_passes, find, find-append, find_all, find_none, find_nothing, find_passes}
-use Rattle.ksm_pages.proofs.Names.{get_or, GuestPage, InPageOrder, Inside, is_next, IsHeld, List, None, none-some, of_guest, Option, option_map, pages_ordered, PagesValue}
-use Rattle.ksm_pages.proofs.Names.{Row, row_at, rows_of, same_page_eq, seen, Some, sym, true, ℕ, ◌∙◌, ◌≡◌, ◌≤◌}
+use Rattle.ksm_pages.proofs.Names.{after_cursor, ap, arith, Bool, comes_before, each_at_page, false, false_from_ne_true, filter_passes, find, find-append, find_all, find_none, find_nothing, find_passes, found_parts, get_or, GuestPage, IfSome, InPageOrder, Inside, is_next, IsHeld, List, MatchOption, None, none-some, of_guest, Option, option_map, pages_ordered, PagesValue, Row, row_at, rows_of, same_page_eq, seen, Some, sym, true, ℕ, ◌∙◌, ◌≡◌, ◌≤◌}
 use Rattle.ksm_pages.proofs.Options.{mapped_some, none_mapped}
 use Rattle.ksm_pages.proofs.Found.{find_narrower, first_found}
-use Rattle.std.proofs.lemmas.Bool.{false_from_ne_true}
-use Rattle.ksm_order.proofs.Ordered.{found_parts}
-use Rattle.std.specs.Prelude.{IfSome, MatchOption}
 use Rattle.ksm_pages.specs.declared.pages.Held.{Held as Told}
 use Rattle.ksm_pages.proofs.Leaving.{AreLawful, view_of}
 

@@ -1,25 +1,7 @@
 -- The unstable tree: what a key that came to a place or went from it leaves of what is found.
-use Rattle.std.proofs.Common.{[], ap, arith, Bool, drop, false, get_or, inl, inr, length, length-set, List, Option, refl, set, Some, suc, sym, true, zero, ℕ, ◌+◌, ◌<◌, ◌∙◌, ◌∷◌, ◌≡◌}
-use Rattle.std.proofs.lemmas.Bool.{cases_Bool}
-use Rattle.std.proofs.lemmas.Bool.Decides.{nat_tests}
-use Rattle.std.proofs.lemmas.List.{drop_more, set-get_or}
-use Rattle.std.proofs.lemmas.List.Folds.{list_any_at}
-use Rattle.std.proofs.lemmas.Grind.{get_or-set_at}
-use Rattle.std.proofs.lemmas.Option.{get_or_from_slice_get, slice_get_within}
-use Rattle.std.specs.List.{list_any, slice_get}
-use Rattle.std.specs.Option.{MatchOption}
-use Rattle.std.specs.Prelude.{⊤, bytes_eq, if◌then◌else◌, nat_lt, not, ◌%◌, ◌&&◌, ◌*◌, ◌==◌, ◌^◌}
+use Rattle.ksm_pages.proofs.Names.{[], ap, arith, Bool, BTreeMap, bytes_eq, cases_Bool, comes_to, Content, content_of, content_order, digest, drop, drop_more, Entry, eq_bytes, false, get_or, get_or-set_at, get_or_from_slice_get, if◌then◌else◌, inl, inr, is_led, Keeps, KeepsOthers, keys_at, length, length-set, List, list_any, list_any_at, MatchOption, meets, nat_lt, nat_tests, NO_KEY, not, number_of, Option, place, refl, set, set-get_or, Slab, slice_get, slice_get_within, Some, SPREAD, stands_under, suc, sym, told_equal, true, turned, UnstableTree, Updates, zero, ℕ, ⊤, ◌%◌, ◌&&◌, ◌*◌, ◌+◌, ◌<◌, ◌==◌, ◌^◌, ◌∙◌, ◌∷◌, ◌≡◌}
 use Rattle.std.specs.Vec.{with_item}
-use Rattle.slab.specs.Slab.{Slab}
-use Rattle.ksm_tree.proofs.Names.{BTreeMap, bytes_eq-Decides, Updates}
-use Rattle.ksm_tree.proofs.Numbering.{told_equal}
-use Rattle.ksm_tree.proofs.Rows.{eq_bytes}
-use Rattle.ksm_tree.specs.Numbered.{content_of, content_order, number_of}
-use Rattle.ksm_tree.specs.declared.content.Content.{Content}
-use Rattle.ksm_pages.specs.Unstable.{comes_to, digest, is_led, Keeps, KeepsOthers, keys_at, meets, place, stands_under, turned}
-use Rattle.ksm_pages.specs.declared.row.Entry.{Entry}
-use Rattle.ksm_pages.specs.declared.unstable.TheConstants.{NO_KEY, SPREAD}
-use Rattle.ksm_pages.specs.declared.unstable.UnstableTree.{UnstableTree}
+use Rattle.ksm_tree.proofs.Names.{bytes_eq-Decides}
 
 -- a number becomes, by the words from one on, what it becomes by that word and then by those behind it
 pub digest_more : (number : ℕ) (bytes : List ℕ) (i : ℕ) {half : ℕ} → half ≡ turned number → i < length bytes

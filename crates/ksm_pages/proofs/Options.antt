@@ -1,6 +1,5 @@
 -- Options that are mapped.
-use Rattle.ksm_pages.proofs.Names.{arith, None, Option, option_map, Some, ◌≡◌}
-use Rattle.std.specs.Option.{is_some}
+use Rattle.ksm_pages.proofs.Names.{arith, is_some, None, Option, option_map, Some, ◌≡◌}
 
 -- an option is full once it is mapped exactly where it was full
 pub some_mapped : {X Y : Type 0} (f : X → Y) (o : Option X) → is_some (option_map f o) ≡ is_some o

@@ -1,16 +1,8 @@
 -- The pages in order as the items that are kept for them: what stands before a key, what comes behind it, and in between.
-use Rattle.ksm_pages.proofs.Names.{[], after_cursor, All, All-filter, All-head, All-tail, AllPairs-filter, ap, arith, Bool, comes_before, count_by, count_none, drop, false, filter, filter_all}
-use Rattle.ksm_pages.proofs.Names.{filter_mapped, find, find_all, find_mapped, get_or, GuestPage, IfSome, if◌then◌else◌, is_of, is_some, Item, key_of, last_of, length, length-drop, length-filter}
-use Rattle.ksm_pages.proofs.Names.{length-map, length-take-le, List, map, map-append, marked, Named, named_by, nat_lt, nat_tests, None, not, Option, option_map, page_of, pages_behind, pages_between}
-use Rattle.ksm_pages.proofs.Names.{pairs_head, pairs_mapped, pairs_tail, refl, rules, slice_get, slice_get-get_or, slice_get-map, slice_get_past, Some, suc, sym, take, true, up_to_few, visited}
-use Rattle.ksm_pages.proofs.Names.{with_named, zero, ℕ, ◌&&◌, ◌+◌, ◌-◌, ◌<◌, ◌^◌, ◌∙◌, ◌∷◌, ◌≡◌, ◌≤◌}
-use Rattle.std.specs.Prelude.{AllPairs}
-use Rattle.std.proofs.lemmas.List.{drop-map, nil_from_length, take-map}
-use Rattle.ksm_base.proofs.Edits.{count_more}
-use Rattle.ksm_rmap.proofs.Keys.{before_as_key, behind_as_key, same_as_key}
+use Rattle.ksm_pages.proofs.Names.{[], after_cursor, All, All-filter, All-head, All-tail, AllPairs, AllPairs-filter, ap, arith, before_as_key, behind_as_key, Bool, comes_before, count_by, count_more, count_none, drop, drop-map, false, filter, filter_all, filter_mapped, find, find_all, find_mapped, get_or, GuestPage, IfSome, if◌then◌else◌, is_at, is_from, is_of, is_some, Item, key_at, key_of, last_of, length, length-drop, length-filter, length-map, length-take-le, List, map, map-append, marked, Named, named_by, nat_lt, nat_tests, nil_from_length, None, not, Option, option_map, page_of, pages_behind, pages_between, pairs_head, pairs_mapped, pairs_tail, refl, rules, same_as_key, slice_get, slice_get-get_or, slice_get-map, slice_get_past, Some, suc, sym, take, take-map, true, up_to, up_to_few, visited, with_mark, with_named, without, zero, ℕ, ◌&&◌, ◌+◌, ◌-◌, ◌<◌, ◌^◌, ◌∙◌, ◌∷◌, ◌≡◌, ◌≤◌}
 use Rattle.ksm_pages.specs.Ordered.{AreAscending as AreInOrder}
 use Rattle.ksm_pages.proofs.Found.{length_with}
-use Rattle.ksm_order.specs.Listed.{AreAscending, is_at, is_from, key_at, marked as kept_marked, up_to, with_item, with_mark, without}
+use Rattle.ksm_order.specs.Listed.{AreAscending, marked as kept_marked, with_item}
 
 module _ (page : GuestPage) (few : page.page < 2 ^ 32) where
   pub is_its : (x : Item) → is_of page (named_by x) ≡ is_at (key_of page) x

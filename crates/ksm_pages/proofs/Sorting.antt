@@ -1,16 +1,5 @@
 -- Listed pages that are put among others in order.
-use Rattle.ksm_pages.proofs.Names.{[], All, All-append, ap, AreInOrder, arith, get_or, get_or_default, GuestPage, has_item, insert, length, length-drop, List, Listed, pages_of, same_page, suc, sym, ℕ}
-use Rattle.ksm_pages.proofs.Names.{◌++◌, ◌+◌, ◌<◌, ◌||◌, ◌∙◌, ◌∷◌, ◌≡◌, ◌≤◌}
-use Rattle.std.specs.Prelude.{drop, take, ◌^◌}
-use Rattle.std.specs.List.{AllWithin}
-use Rattle.std.specs.List.Sorted.{IsNonDecreasingBy, IsPermutation}
-use Rattle.std.proofs.Math.Seq.{take-suc}
-use Rattle.std.proofs.lemmas.List.{get_or-drop, get_or-take, length-take, take-append-drop}
-use Rattle.std.proofs.lemmas.List.Elements.{All-drop, All-take}
-use Rattle.std.proofs.lemmas.List.Sorted.{IsPermutation-map, list_any-IsPermutation}
-use Rattle.ksm_base.proofs.Orders.{pairs_append}
-use Rattle.ksm_order.specs.Places.{IsPlace}
-use Rattle.ksm_pages.specs.Held.{AreSmall, HasGap, IsPutAmong}
+use Rattle.ksm_pages.proofs.Names.{[], All, All-append, All-drop, All-take, AllWithin, ap, AreInOrder, AreSmall, arith, drop, get_or, get_or-drop, get_or-take, get_or_default, GuestPage, has_item, HasGap, insert, IsNonDecreasingBy, IsPermutation, IsPermutation-map, IsPlace, IsPutAmong, length, length-drop, length-take, List, list_any-IsPermutation, Listed, pages_of, pairs_append, same_page, suc, sym, take, take-append-drop, take-suc, ℕ, ◌++◌, ◌+◌, ◌<◌, ◌^◌, ◌||◌, ◌∙◌, ◌∷◌, ◌≡◌, ◌≤◌}
 use Rattle.ksm_pages.proofs.Spots.{appended_has, page_by, Up}
 
 -- a page is among those that are listed in whatever order they stand

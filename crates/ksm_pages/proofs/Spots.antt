@@ -1,11 +1,5 @@
 -- Listed pages in order: the pages of them, those that are swept out, and those that come behind a cursor.
-use Rattle.ksm_pages.proofs.Names.{[], after_cursor, All, All-map, ap, append-nil, AreInOrder, arith, Bool, cases_Bool, comes_before, Entry, false, filter, get, get_or, get_or_default, GuestPage}
-use Rattle.ksm_pages.proofs.Names.{has_item, inl, inr, is_useless, IsInVain, length, List, list_any-append, Listed, map-append, Named, nat_lt, nat_tests, None, not, not-true, Option, page_of}
-use Rattle.ksm_pages.proofs.Names.{pages_of, refl, rules, same_page, same_page_eq, Slab, Some, Spot, subst, suc, true, ℕ, ◌++◌, ◌<◌, ◌||◌, ◌∙◌, ◌∷◌, ◌≡◌, ◌≤◌, ◌⊎◌}
-use Rattle.std.specs.Prelude.{◌%◌, ◌^◌}
-use Rattle.std.specs.Option.{is_none}
-use Rattle.ksm_order.specs.Places.{IsPlace}
-use Rattle.ksm_pages.specs.Held.{AreSmall, low_spot}
+use Rattle.ksm_pages.proofs.Names.{[], after_cursor, All, All-map, ap, append-nil, AreInOrder, AreSmall, arith, Bool, cases_Bool, comes_before, Entry, false, filter, get, get_or, get_or_default, GuestPage, has_item, inl, inr, is_none, is_useless, IsInVain, IsPlace, length, List, list_any-append, Listed, low_spot, map-append, Named, nat_lt, nat_tests, None, not, not-true, Option, page_of, pages_of, refl, rules, same_page, same_page_eq, Slab, Some, Spot, subst, suc, true, ℕ, ◌%◌, ◌++◌, ◌<◌, ◌^◌, ◌||◌, ◌∙◌, ◌∷◌, ◌≡◌, ◌≤◌, ◌⊎◌}
 
 -- the page that is listed
 abbrev pub page_by : Listed → GuestPage

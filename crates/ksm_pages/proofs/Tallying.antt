@@ -1,7 +1,5 @@
 -- The tally of rows once one came, went or changed.
-use Rattle.ksm_pages.proofs.Names.{arith, Bool, CanMove, change_row, count_by, count_by-le-length, GuestPage, InPageOrder, IsMoved, IsTally, length, length-map, List, None, one_if, Private, Row}
-use Rattle.ksm_pages.proofs.Names.{row_at, rules, Some, Tally, with_row, without_page, ℕ, ◌+◌, ◌<◌, ◌^◌, ◌≡◌, ◌≤◌}
-use Rattle.ksm_base.proofs.RowCounts.{count_change_row, count_with_row, count_without_page}
+use Rattle.ksm_pages.proofs.Names.{arith, Bool, CanMove, change_row, count_by, count_by-le-length, count_change_row, count_with_row, count_without_page, GuestPage, InPageOrder, IsMoved, IsTally, length, length-map, List, None, one_if, Private, Row, row_at, rules, Some, Tally, with_row, without_page, ℕ, ◌+◌, ◌<◌, ◌^◌, ◌≡◌, ◌≤◌}
 
 module _ {rows : List Row} (rise : InPageOrder rows) (page : GuestPage) {old : Row} (found : row_at page rows ≡ Some old) {tally : Tally} (later : Tally) (are : IsTally rows tally) where
   -- the row of a page went to another state

@@ -1,15 +1,10 @@
 -- What a visit finds of a row that it may change, and the pages once the row waits.
-use Rattle.ksm_pages.proofs.Names.{All, All-map, all_rows, all_zero, altered, ap, AreInTree, AreWaitersLed, arith, Best, best_dup, best_found, best_of, Bool, changed}
-use Rattle.ksm_pages.proofs.Names.{Dup, dup_rows, DupRow, DupsState, Entry, false, Find, find, find_all, find_nothing, find_passes, Finds, FindsAt, found_at, get_or, GuestPage, has_content, HasRow}
-use Rattle.ksm_pages.proofs.Names.{Held, held_at, held_of, holds, IfNone, if◌then◌else◌, in_group, in_tree_by, inl, inr, Inside, is_for_zero, IsAlone, IsFree, List, map_mapped, MatchOption, None, not}
-use Rattle.ksm_pages.proofs.Names.{Option, option_and_then, option_map, out_of_tree, page_in_tree, PagesValue, PagesView, partner, Private, refl, Row, row_at, rows_of, RowsView, rules, same_page}
-use Rattle.ksm_pages.proofs.Names.{same_page_eq, same_page_refl, same_Some, seen, shared_state, Some, subst, sym, tied_counted, tree_by, tree_of, true, true≢false, Waiting, waiting_in, waiting_state}
-use Rattle.ksm_pages.proofs.Names.{ℕ, ◌&&◌, ◌==◌, ◌∙◌, ◌≡◌, ◌⊎◌}
+use Rattle.ksm_pages.proofs.Names.{All, All-map, all_rows, all_zero, altered, ap, AreInTree, AreWaitersLed, arith, Best, best_dup, best_found, best_of, Bool, changed, Dup, dup_rows, DupRow, DupsState, Entry, false, find, Find, find_all, find_nothing, find_passes, Finds, FindsAt, found_at, get_or, GuestPage, has_content, HasRow, Held, held_at, held_of, holds, IfNone, if◌then◌else◌, in_group, in_tree_by, inl, inr, Inside, is_for_zero, IsAlone, IsFree, List, map_mapped, MatchOption, None, NoneHas, not, Option, option_and_then, option_map, out_of_tree, page_in_tree, PagesValue, PagesView, partner, Private, refl, Row, row_at, rows_of, RowsView, rules, same_page, same_page_eq, same_page_refl, same_Some, seen, shared_state, Some, subst, sym, tied_counted, tree_by, tree_of, true, true≢false, Waiting, waiting_in, waiting_state, ℕ, ◌&&◌, ◌==◌, ◌∙◌, ◌≡◌, ◌⊎◌}
 use Rattle.ksm_pages.proofs.Options.{mapped_some, none_mapped}
 use Rattle.ksm_pages.proofs.Partners.{free_but, free_by, partner_is, tree_is}
 use Rattle.ksm_pages.specs.declared.pages.Find.TheVariants as finds
 use Rattle.ksm_pages.specs.Held.{is_alone as is_alone_in, is_restless as is_restless_entry}
-use Rattle.ksm_pages.specs.Paged.{is_restless, NoneHas}
+use Rattle.ksm_pages.specs.Paged.{is_restless}
 use Rattle.ksm_pages.proofs.Found.{find_changed_other}
 use Rattle.ksm_pages.proofs.Gathering.{restless_as}
 use Rattle.ksm_pages.proofs.Turning.{own_left, rested}

@@ -1,9 +1,5 @@
 -- What each change of one row, found under its key, leaves: rows still, and what is seen of them.
-use Rattle.ksm_pages.proofs.Names.{altered, ap, AreLed, AreListed, arith, Bool, CanMove, change_held, change_none, Entry, false, Fills, find, find_none, get, GuestPage, has_item, Held, held_at}
-use Rattle.ksm_pages.proofs.Names.{held_in, held_of, held_under, holds, IfSome, inl, inr, is_in, is_of, is_restless, is_some, IsAddedTo, IsInVain, IsMoved, IsRows, IsUnder, key_in, length, length-map}
-use Rattle.ksm_pages.proofs.Names.{List, Listing, marked, Named, named_of, None, option_map, pages_ordered, PageState, Private, refl, row_at, rows_of, RowsView, rules, same_page_refl}
-use Rattle.ksm_pages.proofs.Names.{same_Some, shared_state, Slab, Some, state_of, StaysBegun, StaysLed, sym, Tally, true, true≢false, Updates-with_value, with_held, with_named, with_value}
-use Rattle.ksm_pages.proofs.Names.{without_held, without_named, ℕ, ◌<◌, ◌^◌, ◌∙◌, ◌≡◌, ◌≢◌, ◌≤◌, ◌⊎◌}
+use Rattle.ksm_pages.proofs.Names.{absent_kept, altered, ap, AreLed, AreListed, arith, Bool, CanMove, change_held, change_none, Entry, false, Fills, find, find_none, get, GuestPage, has_item, Held, held_at, held_in, held_of, held_under, holds, IfSome, inl, inr, is_in, is_of, is_restless, is_some, IsAddedTo, IsInVain, IsMoved, IsRows, IsUnder, key_in, length, length-map, List, Listing, marked, Named, named_of, None, option_map, pages_ordered, PageState, Private, refl, row_at, rows_of, RowsView, rules, same_page_refl, same_Some, shared_state, Slab, Some, state_of, StaysBegun, StaysLed, sym, Tally, true, true≢false, Updates-with_value, with_held, with_named, with_value, without_held, without_named, without_rises, ℕ, ◌<◌, ◌^◌, ◌∙◌, ◌≡◌, ◌≢◌, ◌≤◌, ◌⊎◌}
 use Rattle.ksm_pages.proofs.Options.{none_mapped}
 use Rattle.ksm_pages.specs.declared.row.Kind.TheVariants as kinds
 use Rattle.ksm_pages.specs.declared.rows.Rows.TheInside.{Inside}
@@ -12,7 +8,7 @@ use Rattle.ksm_pages.proofs.Filing.{all_filled, all_held, AreRows, filed_marked,
 use Rattle.ksm_pages.proofs.Filing.{written}
 use Rattle.ksm_pages.proofs.Led.{led_written}
 use Rattle.ksm_pages.proofs.Found.{write_rises}
-use Rattle.ksm_order.proofs.Ordered.{absent_kept, with_rises, without_rises}
+use Rattle.ksm_order.proofs.Ordered.{with_rises}
 use Rattle.ksm_pages.proofs.Tallying.{can_move, tally_changed, tally_gone, tally_put}
 
 -- a change of a page without a row leaves what is seen of the rows as it is

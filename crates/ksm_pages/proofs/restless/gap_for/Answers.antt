@@ -1,6 +1,4 @@
-use Rattle.ksm_pages.proofs.Names.{arith, length, Listed, nat_le, nat_tests, rules, slice_get_past, slice_get_read, ◌-◌, ◌≡◌}
-use Rattle.std.proofs.lemmas.Fn.{always_returns_same}
-use Rattle.std.proofs.lemmas.List.Sorted.{IsNonDecreasingBy-from_all_adjacent}
+use Rattle.ksm_pages.proofs.Names.{always_returns_same, arith, IsNonDecreasingBy-from_all_adjacent, length, Listed, nat_le, nat_tests, rules, slice_get_past, slice_get_read, ◌-◌, ◌≡◌}
 use Rattle.ksm_pages.proofs.Sorting.{gap_here, sorted_rise}
 use Rattle.ksm_pages.proofs.restless.gap_for.Goals as goal
 

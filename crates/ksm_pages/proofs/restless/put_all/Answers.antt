@@ -1,5 +1,4 @@
-use Rattle.ksm_pages.proofs.Names.{All-append, ap, has_item, Listed, pages_of, rules, ◌<◌, ◌^◌, ◌∙◌}
-use Rattle.std.proofs.lemmas.List.Sorted.{All-permutation, IsNonDecreasingBy-from_sort_by_key}
+use Rattle.ksm_pages.proofs.Names.{All-append, All-permutation, ap, has_item, IsNonDecreasingBy-from_sort_by_key, Listed, pages_of, rules, ◌<◌, ◌^◌, ◌∙◌}
 use Rattle.ksm_pages.proofs.Sorting.{shuffled_has, sorted_rise}
 use Rattle.ksm_pages.proofs.Spots.{appended_has}
 use Rattle.ksm_pages.proofs.restless.put_all.Goals as goal

@@ -1,6 +1,4 @@
-use Rattle.ksm_pages.proofs.Names.{append_assoc, arith, subst, sym, ◌++◌, ◌≡◌}
-use Rattle.std.specs.Prelude.{drop, take}
-use Rattle.ksm_pages.specs.Held.{IsPutAmong}
+use Rattle.ksm_pages.proofs.Names.{append_assoc, arith, drop, IsPutAmong, subst, sym, take, ◌++◌, ◌≡◌}
 use Rattle.ksm_pages.proofs.Sorting.{put_between}
 use Rattle.ksm_pages.proofs.restless.put_between.Goals as goal
 

@@ -1,5 +1,4 @@
-use Rattle.std.proofs.Common.{take}
-use Rattle.ksm_pages.specs.Held.{IsPutAmong}
+use Rattle.ksm_pages.proofs.Names.{IsPutAmong, take}
 use Rattle.ksm_pages.proofs.restless.put_each.Given as goal
 
 abbrev pub invariant-loop-one : goal.invariant-loop-one

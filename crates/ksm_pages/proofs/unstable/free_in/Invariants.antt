@@ -1,6 +1,4 @@
-use Rattle.std.proofs.Common.{Bool, drop, not, ℕ, ◌≡◌}
-use Rattle.std.specs.List.{list_any}
-use Rattle.ksm_pages.specs.Unstable.{is_led}
+use Rattle.ksm_pages.proofs.Names.{Bool, drop, is_led, list_any, not, ℕ, ◌≡◌}
 use Rattle.ksm_pages.proofs.unstable.free_in.Given as goal
 
 -- one of the keys that are left is free exactly where one of all is

@@ -1,5 +1,4 @@
-use Rattle.std.proofs.Common.{rules, sym, ◌∙◌}
-use Rattle.std.proofs.lemmas.List.{drop_all}
+use Rattle.ksm_pages.proofs.Names.{drop_all, rules, sym, ◌∙◌}
 use Rattle.ksm_pages.proofs.Leading.{digest_more}
 use Rattle.ksm_pages.proofs.unstable.place_of.Goals as goal
 

@@ -1,5 +1,4 @@
-use Rattle.std.proofs.Common.{drop, ◌≡◌}
-use Rattle.ksm_pages.specs.Unstable.{digest}
+use Rattle.ksm_pages.proofs.Names.{digest, drop, ◌≡◌}
 use Rattle.ksm_pages.proofs.unstable.place_of.Given as goal
 
 -- the number so far becomes, by the words that are left, that of all words

@@ -1,6 +1,4 @@
-use Rattle.std.proofs.Common.{drop, ◌≡◌}
-use Rattle.std.specs.Prelude.{find}
-use Rattle.ksm_pages.specs.Unstable.{stands_under}
+use Rattle.ksm_pages.proofs.Names.{drop, find, stands_under, ◌≡◌}
 use Rattle.ksm_pages.proofs.unstable.standing_in.Given as goal
 
 -- the first of the keys that are left is the first of all

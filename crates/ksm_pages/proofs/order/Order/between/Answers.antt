@@ -1,5 +1,5 @@
-use Rattle.ksm_pages.proofs.Names.{ap, arith, Item, key_of, last_of, length, length-filter, pages_between, rules, Some, sym, up_to_few, visited, ◌-◌, ◌∙◌, ◌≡◌}
-use Rattle.ksm_order.specs.Listed.{marked, up_to}
+use Rattle.ksm_pages.proofs.Names.{ap, arith, Item, key_of, last_of, length, length-filter, pages_between, rules, Some, sym, up_to, up_to_few, visited, ◌-◌, ◌∙◌, ◌≡◌}
+use Rattle.ksm_order.specs.Listed.{marked}
 use Rattle.ksm_pages.proofs.Ranked.{passed_last, passed_many, passed_none, small_at, some_at}
 use Rattle.ksm_pages.proofs.order.Order.between.Goals as goal
 use Rattle.ksm_pages.proofs.order.Order.between.Goals.{After-up_to-before}

@@ -1,7 +1,4 @@
-use Rattle.ksm_pages.proofs.Names.{ap, arith, drop, same_page_eq, slice_get, slice_get_past, Some, sym, visited, ◌∙◌, ◌≡◌}
-use Rattle.std.specs.Prelude.{◌==◌, IsTrue}
-use Rattle.std.proofs.Common.{add-one}
-use Rattle.ksm_rmap.proofs.Keys.{same_as_key}
+use Rattle.ksm_pages.proofs.Names.{add-one, ap, arith, drop, IsTrue, same_as_key, same_page_eq, slice_get, slice_get_past, Some, sym, visited, ◌==◌, ◌∙◌, ◌≡◌}
 use Rattle.ksm_pages.proofs.Ranked.{behind_at, visited_at}
 use Rattle.ksm_pages.proofs.order.Order.is_at.Goals as goal
 use Rattle.ksm_pages.proofs.order.Order.is_at.Goals.{After-key_of}

@@ -1,5 +1,4 @@
-use Rattle.ksm_pages.proofs.Names.{All-map, ap, arith, Item, length, length-map, rules, ◌<◌, ◌^◌}
-use Rattle.ksm_order.proofs.Changes.{mark_of, mark_rises, same_key}
+use Rattle.ksm_pages.proofs.Names.{All-map, ap, arith, Item, length, length-map, mark_of, mark_rises, rules, same_key, ◌<◌, ◌^◌}
 use Rattle.ksm_pages.proofs.Ranked.{marked_by}
 use Rattle.ksm_pages.proofs.order.Order.mark.Goals as goal
 

@@ -1,5 +1,4 @@
-use Rattle.ksm_pages.proofs.Names.{All-filter, AllPairs-filter, ap, arith, filter_mapped, find, is_some, Item, length, true, ◌<◌, ◌^◌, ◌≡◌}
-use Rattle.ksm_order.specs.Listed.{is_at}
+use Rattle.ksm_pages.proofs.Names.{All-filter, AllPairs-filter, ap, arith, filter_mapped, find, is_at, is_some, Item, length, true, ◌<◌, ◌^◌, ◌≡◌}
 use Rattle.ksm_pages.proofs.Options.{some_mapped}
 use Rattle.ksm_pages.proofs.Ranked.{found_by, gone_one, is_its}
 use Rattle.ksm_pages.proofs.order.Order.remove.Goals as goal

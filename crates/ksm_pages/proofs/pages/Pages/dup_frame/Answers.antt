@@ -1,5 +1,4 @@
-use Rattle.ksm_pages.proofs.Names.{arith, sym, ◌∙◌}
-use Rattle.std.proofs.Common.{unwrap_or}
+use Rattle.ksm_pages.proofs.Names.{arith, sym, unwrap_or, ◌∙◌}
 use Rattle.ksm_pages.proofs.Paging.{items_lodge}
 use Rattle.ksm_pages.proofs.pages.Pages.dup_frame.Goals as goal
 

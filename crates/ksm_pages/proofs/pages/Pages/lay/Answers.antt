@@ -1,5 +1,4 @@
-use Rattle.ksm_pages.proofs.Names.{arith, frame_of, lies_on, refl, seen, Some, subst}
-use Rattle.std.proofs.lemmas.List.Folds.{map_fixed}
+use Rattle.ksm_pages.proofs.Names.{arith, frame_of, lies_on, map_fixed, refl, seen, Some, subst}
 use Rattle.ksm_pages.proofs.Joined.{own_not_merged, seen_own}
 use Rattle.ksm_pages.proofs.Leaving.{alone_found, Comes}
 use Rattle.ksm_pages.proofs.Turning.{moved, own_left}

@@ -1,5 +1,4 @@
-use Rattle.ksm_pages.proofs.Names.{refl, relaid, seen, Some}
-use Rattle.ksm_pages.specs.Paged.{at_home_on}
+use Rattle.ksm_pages.proofs.Names.{at_home_on, refl, relaid, seen, Some}
 use Rattle.ksm_pages.proofs.Leaving.{Comes}
 use Rattle.ksm_pages.proofs.Turning.{known_left, lay, relaid_on}
 use Rattle.ksm_pages.proofs.pages.Pages.move_on.Goals as goal

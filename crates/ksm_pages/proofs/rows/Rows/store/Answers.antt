@@ -1,5 +1,4 @@
-use Rattle.ksm_pages.proofs.Names.{arith, false, inr, refl, rules, sym, true≢false, ◌∙◌, ◌≡◌}
-use Rattle.ksm_pages.specs.Held.{is_in, written}
+use Rattle.ksm_pages.proofs.Names.{arith, false, inr, is_in, refl, rules, sym, true≢false, written, ◌∙◌, ◌≡◌}
 use Rattle.ksm_pages.proofs.Writing.{kept_mark, led_so, nothing, still, viewed}
 use Rattle.ksm_pages.proofs.rows.Rows.store.Goals as goal
 use Rattle.ksm_pages.proofs.rows.Rows.store.Goals.{After-take_bytes}

@@ -1,10 +1,5 @@
-use Rattle.std.proofs.Common.{ap, arith, inl, inr, List, refl, rules, ℕ, ◌∙◌, ◌≡◌}
-use Rattle.std.proofs.lemmas.Option.{slice_get_read}
-use Rattle.ksm_tree.proofs.Names.{BTreeMap}
-use Rattle.ksm_tree.specs.Numbered.{number_of}
-use Rattle.ksm_tree.specs.declared.content.Content.{Content}
+use Rattle.ksm_pages.proofs.Names.{ap, arith, BTreeMap, Content, GONE, inl, inr, List, number_of, refl, rules, slice_get_read, ℕ, ◌∙◌, ◌≡◌}
 use Rattle.ksm_pages.proofs.Leading.{beside_keeps, IsAs, put_keeps, same_keeps, same_tree, untouched}
-use Rattle.ksm_pages.specs.declared.unstable.TheConstants.{GONE}
 use Rattle.ksm_pages.proofs.unstable.UnstableTree.forget.Goals as goal
 use Rattle.ksm_pages.proofs.unstable.UnstableTree.forget.Goals.{in-Some+in_default-index_in, in_default}
 

@@ -1,14 +1,5 @@
-use Rattle.std.proofs.Common.{ap, arith, false, length, not, rules, sym, true≢false, ℕ, ◌∙◌, ◌≡◌}
-use Rattle.std.proofs.lemmas.Option.{slice_get_past, slice_get_read}
-use Rattle.std.proofs.lemmas.Result.{on_ok_weaker}
-use Rattle.std.specs.List.{list_any}
-use Rattle.std.specs.Option.{MatchOption}
-use Rattle.std.specs.Prelude.{⊤}
-use Rattle.ksm_tree.proofs.Names.{BTreeMap}
-use Rattle.ksm_tree.specs.Numbered.{number_of}
-use Rattle.ksm_tree.specs.declared.content.Content.{Content}
+use Rattle.ksm_pages.proofs.Names.{ap, arith, BTreeMap, Content, false, is_led, KeepsOthers, keys_at, length, list_any, MatchOption, not, number_of, on_ok_weaker, place, rules, slice_get_past, slice_get_read, sym, true≢false, ℕ, ⊤, ◌∙◌, ◌≡◌}
 use Rattle.ksm_pages.proofs.Leading.{beside_keeps, beside_meets, IsAs, put_keeps, put_meets, same_tree, untouched}
-use Rattle.ksm_pages.specs.Unstable.{is_led, KeepsOthers, keys_at, place}
 use Rattle.ksm_pages.proofs.unstable.UnstableTree.lead.Goals as goal
 use Rattle.ksm_pages.proofs.unstable.UnstableTree.lead.Goals.{in-Some+in_default-free_in, in_default}
 
