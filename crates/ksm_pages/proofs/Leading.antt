@@ -1,5 +1,5 @@
 -- The unstable tree: what a key that came to a place or went from it leaves of what is found.
-use Rattle.ksm_pages.proofs.Names.{[], ap, arith, Bool, BTreeMap, bytes_eq, cases_Bool, comes_to, Content, content_of, content_order, digest, drop, drop_more, Entry, eq_bytes, false, get_or, get_or-set_at, get_or_from_slice_get, if◌then◌else◌, inl, inr, is_led, Keeps, KeepsOthers, keys_at, length, length-set, List, list_any, list_any_at, MatchOption, meets, nat_lt, nat_tests, NO_KEY, not, number_of, Option, place, refl, set, set-get_or, Slab, slice_get, slice_get_within, Some, SPREAD, stands_under, suc, sym, told_equal, true, turned, UnstableTree, Updates, zero, ℕ, ⊤, ◌%◌, ◌&&◌, ◌*◌, ◌+◌, ◌<◌, ◌==◌, ◌^◌, ◌∙◌, ◌∷◌, ◌≡◌}
+use Rattle.ksm_pages.proofs.Names.{[], ap, arith, Bool, BTreeMap, bytes_eq, cases_Bool, Content, content_of, content_order, digest, drop, drop_more, Entry, eq_bytes, false, get_or, get_or-set_at, get_or_from_slice_get, if◌then◌else◌, inl, inr, is_led, Keeps, KeepsOthers, keys_at, length, length-set, List, list_any, list_any_at, MatchOption, meets, nat_lt, nat_tests, NO_KEY, not, number_of, Option, place, refl, set, set-get_or, Slab, slice_get, slice_get_within, Some, SPREAD, stands_under, suc, sym, told_equal, true, turned, UnstableTree, Updates, zero, ℕ, ⊤, ◌%◌, ◌&&◌, ◌*◌, ◌+◌, ◌<◌, ◌==◌, ◌^◌, ◌∙◌, ◌∷◌, ◌≡◌}
 use Rattle.std.specs.Vec.{with_item}
 use Rattle.ksm_tree.proofs.Names.{bytes_eq-Decides}
 
@@ -64,12 +64,6 @@ get_set (y ∷ ys) zero (suc j) x = grind arith
 get_set (y ∷ ys) (suc i) zero x = grind arith
 get_set (y ∷ ys) (suc i) (suc j) x = grind (arith, get_set ys i j x)
 
--- a tree that has the places and the numbers of another leads as that
-pub same_keeps : (old new : UnstableTree) → new.places.items ≡ old.places.items → new.others.entries ≡ old.others.entries
-    → (by_node : Bool) (slab : Slab Entry) → Keeps by_node slab old new
-same_keeps old new places numbers by_node slab t b k stands met =
-    (λ i. comes_to k (slice_get (places i) (place (length (places i)) t b)) (number_of t b (numbers i))) ∙ met
-
 -- one key of a place is another from now on
 module _ (old : UnstableTree) (at : ℕ) (keys : List ℕ) (i key : ℕ)
     (there : slice_get old.places.items at ≡ Some keys) where
@@ -114,15 +108,16 @@ module _ (old new : UnstableTree) (same : new.places.items ≡ old.places.items)
   keys_same : (t : ℕ) (b : List ℕ) → keys_at new t b ≡ keys_at old t b
   keys_same t b = λ i. slice_get (same i) (place (length (same i)) t b)
 
-  -- where no row in the tree has the content, or its number was that of none, a search comes to each key as before
+  -- where the number of that one stays, if it leads to a row with the content, a search comes to each key as before
   pub beside_keeps : (slab : Slab Entry) (by_node : Bool)
-      → ((k : ℕ) → stands_under by_node slab tree bytes k ≡ true → number_of tree bytes old.others.entries ≡ Some k → ⊥)
+      → ((k : ℕ) → stands_under by_node slab tree bytes k ≡ true → number_of tree bytes old.others.entries ≡ Some k
+      → number_of tree bytes new.others.entries ≡ Some k)
       → Keeps by_node slab old new
-  beside_keeps slab by_node none t b k stands met = elim (cases_Bool (t == tree && bytes_eq b bytes)) [
+  beside_keeps slab by_node stays t b k stands met = elim (cases_Bool (t == tree && bytes_eq b bytes)) [
     | inl is ↦
         let one : t ≡ tree = grind arith in
         let bytes_one : b ≡ bytes = grind (arith, (bytes_eq-Decides b bytes).0) in
-        grind (arith, nat_tests, keys_same t b, one, bytes_one, none k)
+        grind (arith, nat_tests, keys_same t b, one, bytes_one, stays k)
     | inr apart ↦ grind (arith, keys_same t b, others t b apart)
   ]
 

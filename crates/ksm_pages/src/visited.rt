@@ -101,7 +101,7 @@ impl Pages {
     }
 
     /// What a visit of a page finds, and what it changes by that alone. Refused for memory alone, it changes nothing.
-    #[tactic(auto, using(crate::proofs::Leaving::row_seen))]
+    #[tactic(auto, using(crate::proofs::Leaving::row_seen, crate::proofs::Gathering::restless_as))]
     pub fn visit(&mut self, spot: Spot) -> Result<Find, Fault>
         ensures found { IfOk result (Finds (seen self.old) (seen self.new) spot.page) }
         ensures refused { OnErr result (self.new ≡ self.old) }

@@ -1,16 +1,10 @@
 use Rattle.ksm_pages.proofs.Names.{ap, arith, changed, held_of, inl, inr, on_err, on_row, Private, refl, Row, rules, same_page_eq, seen, settled, Some, sym, true, ◌∙◌, ◌≡◌}
-use Rattle.ksm_pages.proofs.Gathering.{restless_as}
-use Rattle.ksm_pages.proofs.Leaving.{Comes, row_seen}
+use Rattle.ksm_pages.proofs.Leaving.{Comes}
 use Rattle.ksm_pages.proofs.Turning.{own_left, rested}
 use Rattle.ksm_pages.proofs.Visiting.{alone, alone_seen, asked, entered_not, entered_then, entered_waits, enters, enters_for, enters_restless, finds_changed, finds_dup, finds_partner, finds_zero}
 use Rattle.ksm_pages.proofs.Visiting.{lone_none, MayEnter, met, none_told, told_best}
 use Rattle.ksm_pages.proofs.pages.Pages.visit.Goals as goal
 use Rattle.ksm_pages.proofs.pages.Pages.visit.Goals.{After-enter-arg-1, in-Some-in_tree+else-ne, in-Some-in_tree+then-ne+else-waits, in_default-in_tree}
-
-pub returns-then-not-is_restless-clause-found : goal.returns-then-not-is_restless-clause-found
-returns-then-not-is_restless-clause-found c =
-    let found = row_seen c.self.inside c.self.view_is c.args.spot.page c.in-Some.ensures in
-    grind (arith, found, restless_as c.self.inside.rows.pass c.in-Some.entry.now)
 
 pub group_with_best-group-requires : goal.group_with_best-group-requires
 group_with_best-group-requires c =

@@ -1,4 +1,4 @@
-use Rattle.ksm_pages.proofs.Names.{ap, map, out_of_tree, refl, RowsView, rules, ◌∙◌}
+use Rattle.ksm_pages.proofs.Names.{arith, refl, rules}
 use Rattle.ksm_pages.proofs.Led.{none_led}
 use Rattle.ksm_pages.proofs.Settling.{out, out_seen, retained_each}
 use Rattle.ksm_pages.proofs.rows.Rows.clear_tree.Goals as goal
@@ -10,7 +10,5 @@ invariant_of-self c =
 
 pub returns : goal.returns
 returns c =
-    let slots = retained_each _ out (λ f k old keep new next t. search rules) _ c.self.inside.entries c.retain.new.self c.retain.ensures.retained in
-    ap (λ held. record { held = held; pass = c.self.inside.pass; by_node = c.args.by_node })
-    (out_seen c.self.invariant.0 c.retain.new.self slots).seen
-    ∙ ap (λ (v : RowsView). record v { held = map out_of_tree v.held; by_node = c.args.by_node }) c.self.view_is
+    let each = retained_each _ out (λ f k old keep new next t. search rules) _ c.self.inside.entries c.retain.new.self c.retain.ensures.retained in
+    grind (arith, (out_seen c.self.invariant.0 c.retain.new.self each).seen)

@@ -1,5 +1,6 @@
-use Rattle.ksm_pages.proofs.Names.{ap, false, map, map_mapped, on_row, refl, RowsView, rules, settled, ◌∙◌}
+use Rattle.ksm_pages.proofs.Names.{arith, false, map_mapped, on_row, refl, rules, settled}
 use Rattle.ksm_pages.proofs.Led.{led_mapped}
+use Rattle.ksm_pages.proofs.Filing.{all_held}
 use Rattle.ksm_pages.proofs.Settling.{plain, plain_seen, retained_each}
 use Rattle.ksm_pages.proofs.rows.Rows.unshare_all.Goals as goal
 
@@ -13,10 +14,7 @@ invariant_of-self c =
 
 pub returns : goal.returns
 returns c =
-    let s = c.self.inside in
-    let slots = retained_each _ plain (λ f k old keep new next t. search rules) _ c.self.inside.entries c.retain.new.self c.retain.ensures.retained in
-    c.settle_all.ensures
-    ∙ ap (λ hs. record { held = hs; pass = c.settle_all.new.self.pass; by_node = s.by_node })
-    (ap (map (on_row settled)) (plain_seen c.self.invariant.0 c.retain.new.self slots).seen
-    ∙ map_mapped _ _ _ _ (λ k d lt. refl))
-    ∙ ap (λ (v : RowsView). record v { held = map (on_row (λ r. record (settled r) { unchanged = false })) v.held; pass = c.settle_all.new.self.pass }) c.self.view_is
+    let each = retained_each _ plain (λ f k old keep new next t. search rules) _ c.self.inside.entries c.retain.new.self c.retain.ensures.retained in
+    let twice = map_mapped (on_row settled) (on_row (λ r. record r { unchanged = false }))
+    (on_row (λ r. record (settled r) { unchanged = false })) (all_held c.self.inside) (λ k d lt. refl) in
+    grind (arith, (plain_seen c.self.invariant.0 c.retain.new.self each).seen, twice, c.settle_all.ensures)

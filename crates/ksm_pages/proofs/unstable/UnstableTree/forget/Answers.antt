@@ -1,5 +1,5 @@
-use Rattle.ksm_pages.proofs.Names.{ap, arith, BTreeMap, Content, GONE, inl, inr, List, number_of, refl, rules, slice_get_read, ℕ, ◌∙◌, ◌≡◌}
-use Rattle.ksm_pages.proofs.Leading.{beside_keeps, IsAs, put_keeps, same_keeps, same_tree, untouched}
+use Rattle.ksm_pages.proofs.Names.{ap, arith, BTreeMap, Content, GONE, List, number_of, refl, rules, slice_get_read, ℕ, ◌∙◌, ◌≡◌}
+use Rattle.ksm_pages.proofs.Leading.{beside_keeps, IsAs, put_keeps, same_tree, untouched}
 use Rattle.ksm_pages.proofs.unstable.UnstableTree.forget.Goals as goal
 use Rattle.ksm_pages.proofs.unstable.UnstableTree.forget.Goals.{in-Some+in_default-index_in, in_default}
 
@@ -20,15 +20,8 @@ same c = elim c.match-get_mut.branch [
 
 pub returns : goal.returns
 returns c by_node =
-    let later = c.forget_beside.new.self in
-    let places = c.forget_beside.ensures.places ∙ (same c).0 in
     let before : (t : ℕ) (b : List ℕ) → number_of t b c.match-get_mut.self.others.entries ≡ number_of t b c.args.self.now.others.entries =
     λ t b. ap (λ (m : BTreeMap Content ℕ). number_of t b m.entries) (same c).1 in
-    elim c.forget_beside.ensures.gone [
-      | inl number ↦
-          beside_keeps c.args.self.now later places c.args.tree c.args.bytes.now
-          (λ t b apart. c.forget_beside.ensures.others t b apart ∙ before t b) c.args.entries.now by_node
-          (λ k stands at. grind (arith, c.requires.gone, before c.args.tree c.args.bytes.now, number, stands, at))
-      | inr kept ↦
-          same_keeps c.args.self.now later places (kept ∙ ap (λ (m : BTreeMap Content ℕ). m.entries) (same c).1) by_node c.args.entries.now
-    ]
+    beside_keeps c.args.self.now c.forget_beside.new.self (c.forget_beside.ensures.places ∙ (same c).0) c.args.tree c.args.bytes.now
+    (λ t b apart. c.forget_beside.ensures.others t b apart ∙ before t b) c.args.entries.now by_node
+    (λ k stands at. c.forget_beside.ensures.kept k (λ is. grind (arith, c.requires.gone, stands, is)) (before _ _ ∙ at))

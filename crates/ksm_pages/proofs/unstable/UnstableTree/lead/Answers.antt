@@ -50,4 +50,4 @@ returns-clause-leads c =
 pub returns-clause-kept : goal.returns-clause-kept
 returns-clause-kept c by_node none =
     beside_keeps c.args.self.now c.lead_beside.new.self (c.lead_beside.ensures.places ∙ (same c).0) c.args.tree c.args.bytes.now
-    (others c) c.args.entries.now by_node (λ k stands _. true≢false (sym stands ∙ none k))
+    (others c) c.args.entries.now by_node (λ k stands _. absurd (true≢false (sym stands ∙ none k)))
