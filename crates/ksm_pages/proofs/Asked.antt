@@ -11,8 +11,7 @@ pub first_at : (next : Row → Bool) (page : GuestPage) → ((r : Row) → r.pag
     → row_at page rows ≡ Some r → find next rows ≡ Some r
 first_at next page here ahead rows up r found =
     let none = find_nothing next _ (λ k d lt. ahead _ (filter_passes (λ r. comes_before r.page page) rows k d lt)) in
-    let parts = found_parts pages_ordered (λ (r : Row). r.page) page rows r up found in
-    grind (arith, parts, none, find-append, here r, find_passes, same_page_eq)
+    grind (arith, found_parts pages_ordered (λ (r : Row). r.page) page rows r up found, none, find-append, here r, find_passes, same_page_eq)
 
 module _ (p : PagesValue) (guest : Option ℕ) (cursor : Option GuestPage) where
   abbrev next : Row → Bool
@@ -57,9 +56,7 @@ module _ (p : PagesValue) (guest : Option ℕ) (cursor : Option GuestPage) where
       pub next_past : {g : ℕ} → guest ≡ Some g → (page.guest ≡ g → ⊥)
           → (after_cursor start page ≡ true → IfSome guest (λ h. h ≤ page.guest)) → find next p.rows ≡ None
       next_past {g} is differs begun = find_nothing next p.rows (λ k d lt. false_from_ne_true _ (λ passes.
-          let x = get_or p.rows k d in
-          let not_before = first_found (λ (s : Row). s.page) behind p.rows r rise there.1 k d lt (less x passes) in
-          grind (arith, not_before, later)))
+          grind (arith, first_found (λ (s : Row). s.page) behind p.rows r rise there.1 k d lt (less (get_or p.rows k d) passes), later)))
         where
           later : g ≤ page.guest
           later = grind (arith, find_passes)

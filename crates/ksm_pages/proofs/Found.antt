@@ -37,8 +37,7 @@ module _ {X : Type 0} (key : X → GuestPage) where
   first_found p [] x rise found k d lt = absurd (omega arith)
   first_found p (y ∷ ys) x rise found zero d lt = grind (arith, before_irrefl)
   first_found p (y ∷ ys) x rise found (suc k) d lt =
-      let rest = first_found p ys x (pairs_tail Before y ys rise) in
-      grind (arith, rest, pairs_head Before y ys rise k d, pages_ordered.asym)
+      grind (arith, first_found p ys x (pairs_tail Before y ys rise), pairs_head Before y ys rise k d, pages_ordered.asym)
 
   module _ (page : GuestPage) where
     abbrev low : X → Bool

@@ -101,5 +101,4 @@ pub found_next : (cursor : Option GuestPage) (rows : List Row) → InPageOrder r
     → FindsNext cursor rows (option_map (λ r. r.page) o)
 found_next cursor rows rise None is = λ k d lt may. find_none _ rows is k d lt
 found_next cursor rows rise (Some r) is =
-    let first = first_found (λ (r : Row). r.page) (λ r. after_cursor cursor r.page) rows r rise is in
-    (find_passes _ rows r is, λ k d lt may. first k d lt)
+    (find_passes _ rows r is, λ k d lt may. (first_found (λ (r : Row). r.page) (λ r. after_cursor cursor r.page) rows r rise is) k d lt)

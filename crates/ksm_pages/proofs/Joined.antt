@@ -26,9 +26,8 @@ room_found s are seen_as {number} required = go _ refl
     go : (o : Option Dup) → dup_of number s.dups.dups ≡ o
         → (is_some (dup_of number s.dups.dups) ≡ true) × (length (items_numbered number s.dups.dups) < MOST_REFERENCES)
     go None is =
-        let none = row_found (has_number number) (λ (r : DupRow). r.number == number) (λ d. refl) s.dups.dups in
         let at = find_none (λ (r : DupRow). r.number == number) (dup_rows s.dups.dups)
-        (sym none ∙ ap (option_map (λ d. d.row)) is) room.1.0 room.0 room.1.1 in
+        (sym (row_found (has_number number) (λ (r : DupRow). r.number == number) (λ d. refl) s.dups.dups) ∙ ap (option_map (λ d. d.row)) is) room.1.0 room.0 room.1.1 in
         absurd (grind (arith, nat_tests, at, room.1.2, room.2))
     go (Some d) is =
         let counted = tied_count (rows_of s.rows.held) s.dups.dups number d are.tied is in (

@@ -52,8 +52,7 @@ pub untouched : (u old : UnstableTree) (at : ℕ) (keys : List ℕ)
     → u ≡ record old { places = with_item old.places at keys } → slice_get old.places.items at ≡ Some keys → IsAs u old
 untouched u old at keys is there =
     let same = same_tree u (record old { places = with_item old.places at keys }) is in
-    let own = get_or_from_slice_get old.places.items at keys keys there in
-    (same.0 ∙ ap (set old.places.items at) (sym own) ∙ set-get_or old.places.items at keys, same.1)
+    (same.0 ∙ ap (set old.places.items at) (sym (get_or_from_slice_get old.places.items at keys keys there)) ∙ set-get_or old.places.items at keys, same.1)
 
 -- what stands at a place of a list once another thing is written at one of its places
 pub get_set : {X : Type 0} (xs : List X) (i j : ℕ) (x : X)
@@ -74,9 +73,7 @@ module _ (old : UnstableTree) (at : ℕ) (keys : List ℕ) (i key : ℕ)
   keys_set : (t : ℕ) (b : List ℕ)
       → keys_at new t b ≡ (if at == place (length old.places.items) t b then Some (set keys i key) else keys_at old t b)
   keys_set t b =
-      let j = place (length old.places.items) t b in
-      let within = slice_get_within old.places.items at keys there in
-      grind (arith, get_set old.places.items at j (set keys i key), length-set, within)
+      grind (arith, get_set old.places.items at (place (length old.places.items) t b) (set keys i key), length-set, slice_get_within old.places.items at keys there)
 
   -- where the one was none to which the tree leads, nor is the other, a search comes to each key as before
   pub put_keeps : (slab : Slab Entry) → (key == NO_KEY) ≡ false → is_led slab (get_or keys i 0) ≡ false

@@ -124,6 +124,5 @@ module _ (s : Inside) (are : AreRows s) where
   pub free_none : (key : ℕ) (e : Entry) → get s.entries key ≡ Some e → is_in e.in_tree ≡ false → IsFree (view_of s) e.page (held_of s.pass e)
       → (k : ℕ) → stands_as s.by_node (tree_by s.by_node e.home) e.bytes (get s.entries k) ≡ false
   free_none key e stands out free k =
-      let other = holds_at (λ g. holds e.page g ≡ false → has (tree_by s.by_node e.home) e.bytes g ≡ false) free k in
       let one = λ (f : Entry) (stood : get s.entries k ≡ Some f). one_key s.entries s.order are.filed stood stands in
-      grind (arith, other, one, stands, out, same_page_eq)
+      grind (arith, holds_at (λ g. holds e.page g ≡ false → has (tree_by s.by_node e.home) e.bytes g ≡ false) free k, one, stands, out, same_page_eq)

@@ -49,8 +49,6 @@ module _ (rows : List Row) (dups : List Dup) (place : ℕ) (tied : AreTied rows 
   pub items_there : {row : DupRow} → InPlaceOrder (dup_rows dups) → Some row ≡ option_map (λ (d : Dup). d.row) (find (λ d. stands_at place d && is_live d) dups)
       → option_map (items_of rows) (live_at place rows (dup_rows dups)) ≡ Some (items_in (dup_at place dups))
   items_there {row} rise is =
-      let live = live_placed rows place _ (tied_counted rows _ tied) in
-      let one = found_passing place is_live dups rise in
       let items = λ (d : Dup) (there : dup_at place dups ≡ Some d). find_all (stands_at place)
       (λ e. e.items ≡ items_of rows e.row) dups d there tied in
-      grind (arith, live, one, items)
+      grind (arith, live_placed rows place _ (tied_counted rows _ tied), found_passing place is_live dups rise, items)

@@ -35,8 +35,7 @@ module _ (v : RowsView) (found : AreInTree v) where
       ⊎ (page_in_tree v (tree_by v.by_node h.row.home) h.row.bytes ≡ Some page)
       → IsFree v page h
   free_by page h is k d lt other =
-      let led = each_led (tree_by v.by_node h.row.home) h.row.bytes k d lt in
-      grind (arith, led, is, same_page_refl)
+      grind (arith, each_led (tree_by v.by_node h.row.home) h.row.bytes k d lt, is, same_page_refl)
 
   -- where it leads to a row that it leads to no more, it leads to none
   pub free_but : (page other : GuestPage) (h : Held) → page_in_tree v (tree_by v.by_node h.row.home) h.row.bytes ≡ Some other
@@ -44,8 +43,7 @@ module _ (v : RowsView) (found : AreInTree v) where
   free_but page other h is =
       let tree = tree_by v.by_node h.row.home in
       All-map (λ g. holds page g ≡ false → has_content v.by_node tree h.row.bytes g ≡ false) _ v.held (λ k d lt apart.
-      let g = get_or v.held k d in
-      grind (arith, each_led tree h.row.bytes k d lt, is, same_page_refl g.row.page))
+      grind (arith, each_led tree h.row.bytes k d lt, is, same_page_refl (get_or v.held k d).row.page))
 
 module _ (knobs : Knobs) (v : RowsView) (rise : InPageOrder (rows_of v.held))
     (by : v.by_node ≡ not (knobs.merge_across_nodes == 1))

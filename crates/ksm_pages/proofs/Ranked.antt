@@ -1,7 +1,8 @@
 -- The pages in order as the items that are kept for them: what stands before a key, what comes behind it, and in between.
-use Rattle.ksm_pages.proofs.Names.{[], after_cursor, All, All-filter, All-head, All-tail, AllPairs, AllPairs-filter, ap, arith, before_as_key, behind_as_key, Bool, comes_before, count_by, count_more, count_none, drop, drop-map, false, filter, filter_all, filter_mapped, find, find_all, find_mapped, get_or, GuestPage, IfSome, if◌then◌else◌, is_at, is_from, is_of, is_some, Item, key_at, key_of, last_of, length, length-drop, length-filter, length-map, length-take-le, List, map, map-append, marked, Named, named_by, nat_lt, nat_tests, nil_from_length, None, not, Option, option_map, page_of, pages_behind, pages_between, pairs_head, pairs_mapped, pairs_tail, refl, rules, same_as_key, slice_get, slice_get-get_or, slice_get-map, slice_get_past, Some, suc, sym, take, take-map, true, up_to, up_to_few, visited, with_mark, with_named, without, zero, ℕ, ◌&&◌, ◌+◌, ◌-◌, ◌<◌, ◌^◌, ◌∙◌, ◌∷◌, ◌≡◌, ◌≤◌}
+use Rattle.ksm_pages.proofs.Names.{slice_get_within, get_or_from_slice_get, [], after_cursor, All, All-filter, AllPairs, AllPairs-filter, ap, arith, before_as_key, behind_as_key, Bool, comes_before, count_by, count_more, count_none, drop, drop-map, false, filter, filter_all, filter_mapped, find, find_all, find_mapped, get_or, GuestPage, IfSome, if◌then◌else◌, is_at, is_from, is_of, is_some, Item, key_at, key_of, last_of, length, length-drop, length-filter, length-map, length-take-le, List, map, map-append, marked, Named, named_by, nat_lt, nat_tests, nil_from_length, None, not, Option, option_map, page_of, pages_behind, pages_between, pairs_head, pairs_mapped, pairs_tail, refl, rules, same_as_key, slice_get, slice_get-get_or, slice_get-map, slice_get_past, Some, suc, sym, take, take-map, true, up_to, up_to_few, visited, with_mark, with_named, without, zero, ℕ, ◌&&◌, ◌+◌, ◌-◌, ◌<◌, ◌^◌, ◌∙◌, ◌∷◌, ◌≡◌, ◌≤◌}
 use Rattle.ksm_pages.specs.Ordered.{AreAscending as AreInOrder}
 use Rattle.ksm_pages.proofs.Found.{length_with}
+use Rattle.ksm_pages.proofs.Options.{mapped_some}
 use Rattle.ksm_order.specs.Listed.{AreAscending, marked as kept_marked, with_item}
 
 module _ (page : GuestPage) (few : page.page < 2 ^ 32) where
@@ -86,8 +87,7 @@ rises_by items rise =
 pub longer_by : (n : Named) (x : Item) (items : List Item) → AreAscending items → find (is_of n.page) (map named_by items) ≡ None
     → with_named n (map named_by items) ≡ map named_by (with_item x items) → length (with_item x items) ≡ length items + 1
 longer_by n x items rise absent same =
-    let longer = length_with (λ m. m.page) n.page n _ (rises_by items rise) absent in
-    omega (arith, longer, ap length same, length-map items named_by, length-map (with_item x items) named_by)
+    omega (arith, length_with (λ m. m.page) n.page n _ (rises_by items rise) absent, ap length same, length-map items named_by, length-map (with_item x items) named_by)
 
 -- there is a key at each place of a list
 pub some_at : (xs : List Item) (place : ℕ) → place < length xs → key_at xs place ≡ None → ⊥
@@ -101,12 +101,14 @@ get_dropped (suc n) k (x ∷ xs) = grind (arith, get_dropped n k xs)
 
 -- a key at a place of the marked ones is as small as each of the items
 pub small_at : (items : List Item) (place : ℕ) {key : ℕ} → All (λ x. x.key < 2 ^ 48) items → key_at (kept_marked items) place ≡ Some key → key < 2 ^ 48
-small_at items place all is = go _ place (All-filter _ (λ x. x.key < 2 ^ 48) items all) is
-  where
-    go : (xs : List Item) (place : ℕ) {key : ℕ} → All (λ x. x.key < 2 ^ 48) xs → key_at xs place ≡ Some key → key < 2 ^ 48
-    go [] place all is = absurd (grind arith)
-    go (x ∷ xs) zero all is = grind (arith, All-head (λ y. y.key < 2 ^ 48) x xs all)
-    go (x ∷ xs) (suc n) all is = go xs n (All-tail (λ y. y.key < 2 ^ 48) x _ all) is
+small_at items place all is =
+    let x = mapped_some (λ (x : Item). x.key) _ is in
+    grind (
+      arith,
+      All-filter (λ y. y.marked) (λ y. y.key < 2 ^ 48) items all place x.0 (slice_get_within (kept_marked items) place x.0 x.1),
+      get_or_from_slice_get (kept_marked items) place x.0 x.0 x.1,
+      x.2,
+    )
 
 -- without an item that is there, the list has one fewer
 pub gone_one : (key : ℕ) (xs : List Item) → AreAscending xs → is_some (find (is_at key) xs) ≡ true → length (without key xs) + 1 ≡ length xs

@@ -25,10 +25,9 @@ module _ (s : Inside) (are : AreRows s) where
   pub page_found : (test : GuestPage → Bool)
       → option_map (λ r. r.page) (find (λ r. test r.page) (rows_of (all_held s))) ≡ option_map page_of (find (λ n. test n.page) s.order)
   page_found test =
-      let found = find_mapped row_by (λ r. test r.page) (λ n. test n.page) s.order (λ k d lt. ap test (all_pages k d lt)) in
       let same : (n : Named) → find (λ m. test m.page) s.order ≡ Some n → (row_by n).page ≡ n.page =
       λ n is. find_all _ (λ m. (row_by m).page ≡ m.page) _ n is all_pages in
-      grind (arith, rows_by, found, same)
+      grind (arith, rows_by, find_mapped row_by (λ r. test r.page) (λ n. test n.page) s.order (λ k d lt. ap test (all_pages k d lt)), same)
 
   -- as many rows are mergeable as pages are named so in the order
   pub flags_counted : count_by (λ r. r.mergeable) (rows_of (all_held s)) ≡ count_by (λ n. n.mergeable) s.order

@@ -220,11 +220,10 @@ module _ (s : Inside) (are : AreLawful s) {p : PagesValue} (seen_as : view_of s 
         frame = lies_on h.row.page (seat (of_dup s) (Some h)) (frame_of p.lodgings);
       })
   entered apart out rows put =
-      let lain = lodged_put (of_dup s) _ _ are.order (nothing_held h.row.page s.rows.held away) in
       rw (← seen_as)
       (comes s are rows put (rows_with h _) {ds = s.dups.dups} {later = s.dups} refl refl (ordered_with _ _ are.order)
       (tied_inserted _ _ _ are.order away apart are.tied)
-      (lone_with s.knobs _ h _ (λ is. absurd (true≢false (sym is ∙ out))) are.alone) lain)
+      (lone_with s.knobs _ h _ (λ is. absurd (true≢false (sym is ∙ out))) are.alone) (lodged_put (of_dup s) _ _ are.order (nothing_held h.row.page s.rows.held away)))
 
 -- where a page comes to lie on a frame, that frame may be named as the one on which the page lies now
 pub but_there : {new : PagesView} (old : PagesView) (rows : List Row) (page : GuestPage) (o : Option ℕ)

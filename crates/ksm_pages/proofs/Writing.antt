@@ -6,7 +6,7 @@ use Rattle.ksm_pages.specs.declared.rows.Rows.TheInside.{Inside}
 use Rattle.ksm_pages.proofs.Changing.{marked_same, row_told, rows_changed, rows_with, rows_without}
 use Rattle.ksm_pages.proofs.Filing.{all_filled, all_held, AreRows, filed_marked, filed_put, filed_taken, held_found, held_nowhere, named_under, one_key, put, rows_rise, taken, unmarked, view, view_of}
 use Rattle.ksm_pages.proofs.Filing.{written}
-use Rattle.ksm_pages.proofs.Led.{led_written}
+use Rattle.ksm_pages.proofs.Led.{led_less, led_written}
 use Rattle.ksm_pages.proofs.Found.{write_rises}
 use Rattle.ksm_order.proofs.Ordered.{with_rises}
 use Rattle.ksm_pages.proofs.Tallying.{can_move, tally_changed, tally_gone, tally_put}
@@ -14,8 +14,7 @@ use Rattle.ksm_pages.proofs.Tallying.{can_move, tally_changed, tally_gone, tally
 -- a change of a page without a row leaves what is seen of the rows as it is
 pub nothing : (s : Inside) → AreRows s → (page : GuestPage) → None ≡ key_in s.order page → (f : Held → Held) {v : RowsView} → view_of s ≡ v → v ≡ altered page f v
 nothing s are page told f is =
-    let same = change_none (holds page) f (all_held s) (find_none (holds page) (all_held s) (held_nowhere s are page told)) in
-    grind (arith, same)
+    grind (arith, change_none (holds page) f (all_held s) (find_none (holds page) (all_held s) (held_nowhere s are page told)))
 
 module _ (s : Inside) (are : AreRows s) where
   abbrev held : List Held
@@ -137,6 +136,21 @@ nothing_gone s are page told is =
 pub no_name : (s : Inside) → AreRows s → (page : GuestPage) {v : RowsView} → view_of s ≡ v → held_at page v.held ≡ None → find (is_of page) s.order ≡ None
 no_name s are page seen_as absent = grind (arith, none_mapped, held_found)
 
+-- entries that got room are as they were
+pub roomy : (s : Inside) → AreRows s → AreLed s.by_node s.entries s.unstable → {room : Slab Entry} → room ≡ record s.entries { capacity = room.capacity }
+    → IsRows room s.order s.restless s.tally s.pass × AreLed s.by_node room s.unstable
+roomy s are led rest = rw rest (
+  record {
+    ascending = are.ascending;
+    filed = are.filed;
+    listed = are.listed;
+    counted = are.counted;
+    begun = are.begun;
+    counting = are.counting;
+  },
+  led_less led (λ t b k stands. stands),
+)
+
 -- the row of a page came, with a frame of its own, under a key where nothing stood, once there was room for it
 module _ (s : Inside) (are : AreRows s) {v : RowsView} (seen_as : view_of s ≡ v) {room : Slab Entry}
     (rest : room ≡ record s.entries { capacity = room.capacity })
@@ -187,7 +201,6 @@ swept_rows s are {now} known kept = search (rules, listed)
       | inl there ↦ there
       | inr (inl none) ↦ absurd (true≢false (ap is_some (sym ((are.filed (named_of k e)).1 (ap (option_map (named_of k)) stands)) ∙ none)))
       | inr (inr calm) ↦
-          let at = one_key s.entries _ are.filed calm.stands stands calm.of_page in
-          let same = same_Some _ e (sym calm.stands ∙ ap (get s.entries) at ∙ stands) in
+          let same = same_Some _ e (sym calm.stands ∙ ap (get s.entries) (one_key s.entries _ are.filed calm.stands stands calm.of_page) ∙ stands) in
           absurd (grind arith)
     ]

@@ -91,6 +91,7 @@ impl<P: Part> Order<P> {
     }
 
     /// What stands in the order for a page.
+    #[tactic(auto, using(crate::proofs::Ranked::found_small, crate::proofs::Ranked::found_by))]
     pub fn find(&self, page: GuestPage) -> Option<Named>
         ensures { result ≡ find (is_of page) self.now }
     {
@@ -98,6 +99,7 @@ impl<P: Part> Order<P> {
     }
 
     /// The first page behind a cursor.
+    #[tactic(auto, using(crate::proofs::Ranked::found_small, crate::proofs::Names::find_mapped))]
     pub fn after(&self, cursor: Option<GuestPage>) -> Option<Named>
         ensures { result ≡ find (λ n. after_cursor cursor n.page) self.now }
     {

@@ -75,6 +75,7 @@ impl Pages {
     /// A first look at a page that is visited. It tells whether a visit may change the row, where that lies where it
     /// was guessed; and of an unchanged page whether it waits, where the unstable tree leads to it and there is no dup
     /// that it may join. Then it waits from now on. Where a look tells nothing, nothing changes, and `visit` tells.
+    #[tactic(auto, using(crate::proofs::Leaving::row_seen, crate::proofs::Gathering::restless_as))]
     #[inline(always)]
     pub fn glance(&mut self, spot: Spot) -> Glance
         ensures gone { result ≡ Glance.Gone → Finds (seen self.old) (seen self.new) spot.page finds.Gone }

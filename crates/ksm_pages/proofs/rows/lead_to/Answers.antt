@@ -8,7 +8,6 @@ returns-then-is_in-clause-leads c d e later stood fills home bytes in_tree =
     let was : is_in d.in_tree ≡ true = grind (arith, stood, c.index-entry.ensures, c.is_in.ensures, c.if-is_in.true) in
     led_written c.requires.led fills stood (λ _. (was, home, bytes))
 
--- the entry is not in the tree
 out : (c : After-lead) → is_in c.index-entry.result.now.in_tree ≡ false
 out c = grind (arith, c.is_in.ensures, c.if-is_in.false)
 

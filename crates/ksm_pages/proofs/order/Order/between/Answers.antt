@@ -29,10 +29,9 @@ returns-in-Some-clause-count g c =
 
 pub returns-in-Some-clause-last : goal.returns-in-Some-clause-last
 returns-in-Some-clause-last g c =
-    let a = (goal.at.returns-in-Some-clause-last g c).After-up_to-before in
     ap Some c.page_of.ensures
     ∙ sym (passed_last _ c.self.view_is _ _ c.key_of.ensures.few c.self.invariant.ascending
-    _ c.passed-passed.ensures.ahead (before g a) (omega arith) (sym c.nth.ensures ∙ c.in-Some.is))
+    _ c.passed-passed.ensures.ahead (before g ((goal.at.returns-in-Some-clause-last g c).After-up_to-before)) (omega arith) (sym c.nth.ensures ∙ c.in-Some.is))
 
 pub returns-in-None : goal.returns-in-None
 returns-in-None g c =

@@ -12,12 +12,9 @@ there g c is =
 
 pub returns-in-Some-clause-within : goal.returns-in-Some-clause-within
 returns-in-Some-clause-within g c = λ is.
-    let a = (goal.at.returns-in-Some-clause-within g c).After-key_of in
-    let at = there g a is in
-    grind (arith, at, slice_get_past (visited c.args.self.now) c.args.place)
+    grind (arith, there g ((goal.at.returns-in-Some-clause-within g c).After-key_of) is, slice_get_past (visited c.args.self.now) c.args.place)
 
 pub returns-in-Some-clause-behind : goal.returns-in-Some-clause-behind
 returns-in-Some-clause-behind g c = λ is.
-    let a = (goal.at.returns-in-Some-clause-behind g c).After-key_of in
-    behind_at c.self.inside.pages c.self.view_is c.self.invariant.ascending c.args.place (there g a is)
+    behind_at c.self.inside.pages c.self.view_is c.self.invariant.ascending c.args.place (there g ((goal.at.returns-in-Some-clause-behind g c).After-key_of) is)
     ∙ ap (λ n. drop n (visited c.args.self.now)) (sym (add-one c.args.place))

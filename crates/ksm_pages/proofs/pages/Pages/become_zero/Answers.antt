@@ -5,7 +5,6 @@ use Rattle.ksm_pages.proofs.Lone.{not_alone}
 use Rattle.ksm_pages.proofs.Turning.{moved, own_left}
 use Rattle.ksm_pages.proofs.pages.Pages.become_zero.Goals as goal
 
--- the page has no frame
 gone : (c : goal.After-become_zero)
     → Comes c.self.inside c.become_zero.new.self c.self.inside.dups (relaid c.args.spot.page (λ r. record r { state = Zero }) None (seen c.args.self.now))
 gone c =

@@ -1,15 +1,9 @@
 use Rattle.ksm_pages.proofs.Names.{arith, changed, held_of, None, on_row, refl, same_page_refl, seen, Waiting, ◌≡◌}
-use Rattle.ksm_pages.proofs.Gathering.{restless_as}
-use Rattle.ksm_pages.proofs.Leaving.{Comes, row_seen}
+use Rattle.ksm_pages.proofs.Leaving.{Comes}
 use Rattle.ksm_pages.proofs.Partners.{held_led, partner_is}
 use Rattle.ksm_pages.proofs.Visiting.{asked, best, finds_waits, IsAsked, lone_none, waits_then}
 use Rattle.ksm_pages.proofs.pages.Pages.glance.Goals as goal
 use Rattle.ksm_pages.proofs.pages.Pages.glance.Goals.{After-wait}
-
-pub returns-then-not-is_restless-clause-gone : goal.returns-then-not-is_restless-clause-gone
-returns-then-not-is_restless-clause-gone c =
-    let found = row_seen c.self.inside c.self.view_is c.args.spot.page c.in-Some.ensures in
-    grind (arith, found, restless_as c.self.inside.rows.pass c.in-Some.entry.now)
 
 pub joins_none-requires : goal.joins_none-requires
 joins_none-requires c =
@@ -19,7 +13,6 @@ joins_none-requires c =
 it : (c : After-wait) → IsAsked c.self.inside c.args.self.now c.args.spot.page c.in-Some.entry.now
 it c = asked c.self.inside c.self.invariant c.self.view_is c.in-Some.entry.now c.in-Some.ensures (grind arith)
 
--- the page waits
 waits : (c : After-wait)
     → Comes c.self.inside c.wait.new.self c.self.inside.dups (changed c.args.spot.page (λ r. record r { state = Waiting }) (seen c.args.self.now))
 waits c = waits_then (it c) (on_row (λ r. record r { state = Waiting })) (λ x. (refl, refl)) (λ lone. lone) c.wait.ensures
@@ -34,11 +27,10 @@ returns-clause-waits c _ =
     let row = (held_of s.rows.pass t.in-Some.entry.now).row in
     let none : best (it t) ≡ None =
     rw (← t.tree_in-tree.ensures row refl) (grind (arith, t.if-not-joins_none.ensures)) in
-    let led = held_led s.knobs s.rows t.self.invariant.by_node t.are_lawful.ensures.found t.args.spot.page t.in-Some.ensures (grind arith) in
     finds_waits (it t) none (grind arith) (grind arith)
     (grind (
       arith,
-      led,
+      (held_led s.knobs s.rows t.self.invariant.by_node t.are_lawful.ensures.found t.args.spot.page t.in-Some.ensures (grind arith)),
       same_page_refl row.page,
       partner_is s.knobs s.rows t.self.invariant.order t.self.invariant.by_node t.are_lawful.ensures.led t.are_lawful.ensures.found row,
     ))

@@ -1,7 +1,7 @@
-use Rattle.ksm_pages.proofs.Names.{fresh_row, Held, Not, on_ok_weaker, refl, rules, seen, Some}
+use Rattle.ksm_pages.proofs.Names.{◌≡◌, frame_of, lies_on, with_held, with_row, fresh_row, Held, Not, on_ok_weaker, refl, rules, seen, Some}
 use Rattle.ksm_pages.proofs.Turning.{but_there, either_way, entered, lay_nowhere}
 use Rattle.ksm_pages.proofs.Changing.{nothing_held}
-use Rattle.ksm_pages.proofs.Leaving.{held_as}
+use Rattle.ksm_pages.proofs.Leaving.{Comes, held_as}
 use Rattle.ksm_pages.proofs.pages.Pages.insert.Goals as goal
 
 pub insert-requires : goal.insert-requires
@@ -10,23 +10,24 @@ insert-requires c = search (rules, nothing_held)
 abbrev fresh : (c : goal.After-insert) → Held
 fresh c = record { row = fresh_row c.args.page c.args.node c.args.bytes.now; frame = Some 0; in_tree = Not }
 
+came : (c : goal.After-insert) → c.insert.new.self ≡ record c.self.inside.rows { held = with_held (fresh c) c.self.inside.rows.held }
+    → Comes c.self.inside c.insert.new.self c.self.inside.dups (record (seen c.args.self.now) {
+      rows = with_row (fresh c).row c.args.self.now.rows;
+      frame = lies_on c.args.page (Some 0) (frame_of c.args.self.now.lodgings);
+    })
+came c put = entered c.self.inside c.self.invariant c.self.view_is (fresh c) c.requires refl refl c.insert.new.self (held_as put)
+
 pub invariant_of-self : goal.invariant_of-self
 invariant_of-self c =
-    either_way c.insert.result c.insert.ensures.added c.insert.ensures.kept
-    (λ put. (entered c.self.inside c.self.invariant c.self.view_is (fresh c) c.requires refl refl c.insert.new.self (held_as put)).lawful)
-    (λ kept. rw kept c.self.invariant)
+    either_way c.insert.result c.insert.ensures.added c.insert.ensures.kept (λ put. (came c put).lawful) (λ kept. rw kept c.self.invariant)
 
 pub returns-clause-added : goal.returns-clause-added
 returns-clause-added c =
-    on_ok_weaker c.insert.result (λ put. (but_there (seen c.args.self.now) _ _ _
-    (entered c.self.inside c.self.invariant c.self.view_is (fresh c) c.requires refl refl c.insert.new.self (held_as put)).told_as).0)
-    c.insert.ensures.added
+    on_ok_weaker c.insert.result (λ put. (but_there (seen c.args.self.now) _ _ _ (came c put).told_as).0) c.insert.ensures.added
 
 pub returns-clause-others : goal.returns-clause-others
 returns-clause-others c =
-    on_ok_weaker c.insert.result (λ put. (but_there (seen c.args.self.now) _ _ _
-    (entered c.self.inside c.self.invariant c.self.view_is (fresh c) c.requires refl refl c.insert.new.self (held_as put)).told_as).1)
-    c.insert.ensures.added
+    on_ok_weaker c.insert.result (λ put. (but_there (seen c.args.self.now) _ _ _ (came c put).told_as).1) c.insert.ensures.added
 
 pub returns-clause-nowhere : goal.returns-clause-nowhere
 returns-clause-nowhere c = lay_nowhere c.self.inside c.self.invariant c.self.view_is (fresh c) c.requires

@@ -9,7 +9,6 @@ lay-requires c =
     let left = own_left {s = c.self.inside} c.self.invariant c.self.view_is c.requires in
     rw left.found (alone_found c.self.inside c.self.view_is _ left.found c.requires)
 
--- the page has the frame
 laid : (c : goal.After-lay) → Comes c.self.inside c.lay.new.self c.self.inside.dups (record (seen c.args.self.now) {
   frame = lies_on c.args.spot.page (Some c.args.frame) (frame_of c.args.self.now.lodgings);
 })

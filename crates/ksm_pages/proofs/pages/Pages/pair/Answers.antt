@@ -41,8 +41,7 @@ invariant_of-self c = lawful_numbered c.self.inside c.group.ensures.kept c.self.
 
 pub invariant_of-self-in_err-number : goal.invariant_of-self-in_err-number
 invariant_of-self-in_err-number c =
-    let kept = lawful_numbered c.self.inside c.group.ensures.kept c.self.invariant in
-    rw c.in_err-number.ensures.kept kept
+    rw c.in_err-number.ensures.kept (lawful_numbered c.self.inside c.group.ensures.kept c.self.invariant)
 
 pub invariant_of-self-2 : goal.invariant_of-self-2
 invariant_of-self-2 c =

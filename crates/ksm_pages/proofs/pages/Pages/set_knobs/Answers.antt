@@ -9,8 +9,7 @@ came : (c : After-set_by_node)
     let now = record s { rows = c.set_by_node.new.self; knobs = c.args.knobs } in
     AreLawful now × (seen (view_of now) ≡ record (seen (view_of s)) { knobs = c.args.knobs })
 came c =
-    let s = c.self.inside in
-    tuned s c.self.invariant c.args.knobs (grind arith) c.set_by_node.new.self c.set_by_node.ensures
+    tuned c.self.inside c.self.invariant c.args.knobs (grind arith) c.set_by_node.new.self c.set_by_node.ensures
     (subst (λ (v : PagesValue). (c.args.knobs.merge_across_nodes ≡ v.knobs.merge_across_nodes)
     ⊎ All (λ r. waiting_state r.state ≡ false) v.rows) (sym c.self.view_is) c.requires)
 

@@ -6,13 +6,11 @@ use Rattle.ksm_pages.proofs.pages.Pages.told.Goals as goal
 pub returns : goal.returns
 returns c =
     let s = c.self.inside in
-    let page = c.args.spot.page in
-    let e = c.in_ok-spot.entry.now in
     let of_dup = lodging (dup_rows s.dups.dups) s.frames.items in
     rw (← c.self.view_is)
     (record {
-      row = (held_of s.rows.pass e).row;
-      found = row_told page _ c.in_ok-spot.ensures.1;
+      row = (held_of s.rows.pass c.in_ok-spot.entry.now).row;
+      found = row_told c.args.spot.page _ c.in_ok-spot.ensures.1;
       spot = c.in_ok-spot.ensures.0;
       home = refl;
       shared = grind arith;

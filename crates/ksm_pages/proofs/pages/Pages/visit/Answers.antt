@@ -51,7 +51,6 @@ returns-then-waits-clause-found c =
     (sym c.is_for_zero.ensures ∙ c.if-is_for_zero.false) c.in-Some-in_tree.other.page
     (met it c.are_lawful.ensures.led c.are_lawful.ensures.found c.tree_in-tree.ensures (sym c.in-Some-in_tree.ensures) (grind arith) c.waits.ensures c.if-waits.true))
 
--- the row may enter the tree
 way : (c : After-enter-arg-1)
     → MayEnter c.match-in_tree.self-inside c.args.self.now c.args.spot.page c.in-Some.entry.now c.group_with_best-group.result.0
 way c =

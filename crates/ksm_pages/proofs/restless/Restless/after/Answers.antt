@@ -10,8 +10,6 @@ returns-then-at-len-clause-none c =
 
 pub returns-clause-next : goal.returns-clause-next
 returns-clause-next c =
-    let listed = c.self.inside.listed.items in
     let at = rw c.as_slice.ensures.value at c.place_by-at.ensures in
-    let ready = (c.self.invariant.3 ((λ i. (c.self.view_is i).ready) ∙ c.requires)).1 in
-    rw (← c.self.view_is, none_added listed ready, c.page_of.ensures)
+    rw (← c.self.view_is, none_added c.self.inside.listed.items ((c.self.invariant.3 ((λ i. (c.self.view_is i).ready) ∙ c.requires)).1), c.page_of.ensures)
     (next_behind c.args.cursor c.from_of.ensures at c.self.invariant.0 c.index-next.result.now (omega (arith, c.if-at-len.false, c.len.ensures)) (grind (arith, c.index-next.ensures)))

@@ -2,7 +2,6 @@ use Rattle.ksm_pages.proofs.Names.{All-filter, AllPairs-filter, filter, filter_s
 use Rattle.ksm_pages.proofs.Spots.{stays, swept_beside, Up}
 use Rattle.ksm_pages.proofs.restless.Restless.sweep.Goals as goal
 
--- what is left
 left : (c : goal.After-self-1) → c.retain.new.self.items ≡ filter (stays c.args.entries.now c.args.order.now) c.self.inside.listed.items
 left c = filter_same _ _ _ (λ s b g t. search rules) _ _ c.retain.ensures.filtered
 

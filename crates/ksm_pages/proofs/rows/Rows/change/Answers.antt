@@ -16,8 +16,7 @@ told : (g : _) (c : After-len-rows g) → c.if-is-was.self-inside ≡ record c.s
 told g c = elim c.if-is-was.branch [
   | then-is-was w ↦ grind (arith, w.self-inside-is, w.mark.ensures)
   | else-is-was w ↦
-      let here = kept_mark c.self.inside c.self.invariant.0 c.in-Some.ensures.there c.index_mut-entry.ensures.value in
-      grind (arith, w.self-inside-is, here)
+      grind (arith, w.self-inside-is, kept_mark c.self.inside c.self.invariant.0 c.in-Some.ensures.there c.index_mut-entry.ensures.value)
 ]
 
 made : (g : _) (c : After-len-rows g)
@@ -34,7 +33,6 @@ lawful g c either =
     (still c.self.inside c.self.invariant.0 c.in-Some.ensures.there c.index_mut-entry.ensures.value c.self.view_is _ refl
     (let kept = c.requires.kept _ _ (made g c) in (kept.0, kept.1)) refl refl c.follow.ensures either)
 
--- the unstable tree leads as it did
 led : (g : _) (c : After-len-rows g) → let s = c.if-is-was.self-inside in AreLed s.by_node s.entries s.unstable
 led g c =
     rw (told g c)

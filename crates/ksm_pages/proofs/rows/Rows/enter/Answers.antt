@@ -15,7 +15,6 @@ lead_to-requires-clause-free c d stood out =
     free_none s are c.in-Some.key d stood out
     (rw (of_page s are under stood) (rw (row_there s are under stood) at (rw (← c.self.view_is) at c.requires.free)))
 
--- the entry, which waits
 abbrev later : After-change → Entry
 later c = record c.index_mut-entry.result.now {
   number = c.self.inside.pass;

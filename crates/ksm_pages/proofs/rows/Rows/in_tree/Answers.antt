@@ -14,7 +14,6 @@ index-requires c =
 pub returns : goal.returns
 returns c =
     let s = c.self.inside in
-    let stands = holder_stands s.by_node s.entries s.unstable c.args.tree c.args.bytes.now (sym c.in_ok-key.ensures) in
     let found = page_found s c.self.invariant.0 c.self.invariant.1 c.args.tree c.args.bytes.now c.in_ok-key.field-0 c.index.result.now
-    c.index.ensures (grind (arith, stands, c.index.ensures)) in
+    c.index.ensures (grind (arith, holder_stands s.by_node s.entries s.unstable c.args.tree c.args.bytes.now (sym c.in_ok-key.ensures), c.index.ensures)) in
     grind (arith, found)

@@ -1,7 +1,7 @@
 use Rattle.ksm_pages.proofs.Names.{arith, Entry, false, Fills, get, None, Not, rules, Some, true, ◌≡◌}
 use Rattle.ksm_pages.specs.declared.row.Kind.TheVariants as kinds
-use Rattle.ksm_pages.proofs.Led.{led_less, led_out}
-use Rattle.ksm_pages.proofs.Writing.{filled, no_name, still_put, viewed_put}
+use Rattle.ksm_pages.proofs.Led.{led_out}
+use Rattle.ksm_pages.proofs.Writing.{roomy, filled, no_name, still_put, viewed_put}
 use Rattle.ksm_pages.proofs.rows.Rows.insert.Goals as goal
 
 pub insert-requires : goal.insert-requires
@@ -39,24 +39,14 @@ invariant_of-self-2 c =
     )
 
 pub invariant_of-self : goal.invariant_of-self
-invariant_of-self c = (search rules, rw c.reserve_one.ensures.rest (led_less c.self.invariant.1 (λ t b k stands. stands)))
+invariant_of-self c = roomy c.self.inside c.self.invariant.0 c.self.invariant.1 c.reserve_one.ensures.rest
 
 pub invariant_of-self-in_default : goal.invariant_of-self-in_default
-invariant_of-self-in_default c = (search rules, rw c.reserve_one.ensures.rest (led_less c.self.invariant.1 (λ t b k stands. stands)))
+invariant_of-self-in_default c = roomy c.self.inside c.self.invariant.0 c.self.invariant.1 c.reserve_one.ensures.rest
 
 pub invariant_of-self-in_err-insert : goal.invariant_of-self-in_err-insert
 invariant_of-self-in_err-insert c =
-    let was = c.self.invariant.0 in (
-      rw (c.in_err-insert.ensures.kept, c.reserve_one.ensures.rest) (record {
-        ascending = was.ascending;
-        filed = was.filed;
-        listed = was.listed;
-        counted = was.counted;
-        begun = was.begun;
-        counting = was.counting;
-      }),
-      rw c.reserve_one.ensures.rest (led_less c.self.invariant.1 (λ t b k stands. stands)),
-    )
+    rw c.in_err-insert.ensures.kept (roomy c.self.inside c.self.invariant.0 c.self.invariant.1 c.reserve_one.ensures.rest)
 
 pub returns-clause-added : goal.returns-clause-added
 returns-clause-added c =

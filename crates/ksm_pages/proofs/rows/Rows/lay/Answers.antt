@@ -15,9 +15,6 @@ invariant_of-self c =
 
 pub returns : goal.returns
 returns c =
-    let s = c.self.inside in
-    let there = c.in-Some.ensures.there in
-    let stood = c.index_mut.ensures.value in
     let entry = record c.index_mut.result.now { at = c.args.frame } in
-    viewed s c.self.invariant.0 there stood c.self.view_is entry (search (rules, kept_mark))
+    viewed c.self.inside c.self.invariant.0 c.in-Some.ensures.there c.index_mut.ensures.value c.self.view_is entry (search (rules, kept_mark))
     (refl, λ fits. fits) _ (λ _. grind (arith, own_there))

@@ -5,8 +5,7 @@ use Rattle.ksm_pages.proofs.rows.Rows.next_restless.Goals as goal
 
 pub returns-then-is_ready-clause-next : goal.returns-then-is_ready-clause-next
 returns-then-is_ready-clause-next c =
-    let known = c.is_ready.ensures.known c.if-is_ready.true in
-    rw (← c.self.view_is) (listed_next c.self.inside c.self.invariant.0 known _ _ c.after.ensures.none c.after.ensures.next)
+    rw (← c.self.view_is) (listed_next c.self.inside c.self.invariant.0 (c.is_ready.ensures.known c.if-is_ready.true) _ _ c.after.ensures.none c.after.ensures.next)
 
 pub returns-else-is_ready-clause-next : goal.returns-else-is_ready-clause-next
 returns-else-is_ready-clause-next c =

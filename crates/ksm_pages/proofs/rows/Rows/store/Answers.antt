@@ -6,7 +6,6 @@ use Rattle.ksm_pages.proofs.rows.Rows.store.Goals.{After-take_bytes}
 pub returns-in_default : goal.returns-in_default
 returns-in_default c = search (rules, nothing)
 
--- the unstable tree does not lead to the entry
 out : (c : After-take_bytes) → is_in c.index_mut.result.now.in_tree ≡ false
 out c = grind (arith, c.index.ensures, c.index_mut.ensures.value, c.is_in.ensures, c.if-is_in.false)
 
@@ -28,7 +27,6 @@ returns-else-is_in c =
     let s = c.self.inside in
     let there = c.in-Some.ensures.there in
     let stood = c.index_mut.ensures.value in
-    let f = (goal.at.returns-else-is_in c).After-take_bytes in
     rw c.take_bytes.ensures
     (viewed s c.self.invariant.0 there stood c.self.view_is _ (kept_mark s c.self.invariant.0 there stood _ refl)
-    (refl, λ fits. fits) (written c.args.bytes.now) (λ _. grind (arith, out f)))
+    (refl, λ fits. fits) (written c.args.bytes.now) (λ _. grind (arith, out ((goal.at.returns-else-is_in c).After-take_bytes))))

@@ -6,7 +6,6 @@ use Rattle.ksm_pages.proofs.rows.Rows.wait.Goals.{After-change}
 pub change-requires : goal.change-requires
 change-requires c = search (rules, can_be c.self.inside c.self.invariant.0 c.in-Some.ensures.there)
 
--- the entry, of the pass that goes on
 abbrev later : After-change → Entry
 later c = record c.index_mut-entry.result.now { number = c.self.inside.pass }
 
@@ -23,8 +22,5 @@ invariant_of-self c =
 
 pub returns : goal.returns
 returns c =
-    let s = c.self.inside in
-    let there = c.in-Some.ensures.there in
-    let stood = c.index_mut-entry.ensures.value in
-    viewed s c.self.invariant.0 there stood c.self.view_is (later c) (search (rules, kept_mark))
+    viewed c.self.inside c.self.invariant.0 c.in-Some.ensures.there c.index_mut-entry.ensures.value c.self.view_is (later c) (search (rules, kept_mark))
     (refl, λ _ own. grind arith) _ (λ _. grind (arith, own_there, led_there))

@@ -15,39 +15,35 @@ returns-in-Some-free_in-clause-kept c by_node _ =
     (search (rules, slice_get_read))
     c.args.entries.now (grind arith) (search rules) by_node
 
--- where no key of the place is another, the tree is as it was
+-- where no key of the place is another, the tree is as it was, and leads to each key there
 same : (c : goal.After-lead_beside) → IsAs c.match-get_mut.self c.args.self.now
-same c = elim c.match-get_mut.branch [
-  | in-Some+in_default-free_in w ↦
-      untouched c.match-get_mut.self c.args.self.now c.place_of-at.result w.in-Some.keys.now w.self-is
-      (search (rules, slice_get_read))
-  | in_default w ↦ same_tree c.match-get_mut.self c.args.self.now w.self-is
-]
+    × MatchOption (keys_at c.args.self.now c.args.tree c.args.bytes.now) ⊤ (λ keys. list_any (λ k. not (is_led c.args.entries.now k)) keys ≡ false)
+same c =
+    let at : c.place_of-at.result ≡ place (length c.args.self.now.places.items) c.args.tree c.args.bytes.now = search rules in
+    elim c.match-get_mut.branch [
+      | in-Some+in_default-free_in w ↦
+          let there = slice_get_read _ _ _ _ c.args.self.now.places.ok.0 (search rules) w.in-Some.ensures.value in (
+            untouched c.match-get_mut.self c.args.self.now c.place_of-at.result w.in-Some.keys.now w.self-is there,
+            rw (← at, there) (w.free_in.ensures.none w.in_default-free_in.is),
+          )
+      | in_default w ↦ (
+        same_tree c.match-get_mut.self c.args.self.now w.self-is,
+        rw (← at, slice_get_past c.args.self.now.places.items c.place_of-at.result (grind arith)) tt,
+      )
+    ]
 
 others : (c : goal.After-lead_beside) → KeepsOthers c.args.tree c.args.bytes.now c.args.self.now c.lead_beside.new.self
 others c t b apart =
     c.lead_beside.ensures.others t b apart
-    ∙ ap (λ (m : BTreeMap Content ℕ). number_of t b m.entries) (same c).1
-
--- the tree leads to each key of the place
-full : (c : goal.After-lead_beside) → MatchOption (keys_at c.args.self.now c.args.tree c.args.bytes.now) ⊤
-    (λ keys. list_any (λ k. not (is_led c.args.entries.now k)) keys ≡ false)
-full c =
-    let at : c.place_of-at.result ≡ place (length c.args.self.now.places.items) c.args.tree c.args.bytes.now = search rules in
-    elim c.match-get_mut.branch [
-      | in-Some+in_default-free_in w ↦
-          let there = slice_get_read _ _ _ _ c.args.self.now.places.ok.0 (search rules) w.in-Some.ensures.value in
-          rw (← at, there) (w.free_in.ensures.none w.in_default-free_in.is)
-      | in_default w ↦ rw (← at, slice_get_past c.args.self.now.places.items c.place_of-at.result (grind arith)) tt
-    ]
+    ∙ ap (λ (m : BTreeMap Content ℕ). number_of t b m.entries) (same c).0.1
 
 pub returns-clause-leads : goal.returns-clause-leads
 returns-clause-leads c =
     on_ok_weaker c.lead_beside.result
-    (beside_meets c.args.self.now c.lead_beside.new.self (c.lead_beside.ensures.places ∙ (same c).0) c.args.tree c.args.bytes.now
-    (others c) c.args.entries.now c.args.key (full c)) c.lead_beside.ensures.here
+    (beside_meets c.args.self.now c.lead_beside.new.self (c.lead_beside.ensures.places ∙ (same c).0.0) c.args.tree c.args.bytes.now
+    (others c) c.args.entries.now c.args.key (same c).1) c.lead_beside.ensures.here
 
 pub returns-clause-kept : goal.returns-clause-kept
 returns-clause-kept c by_node none =
-    beside_keeps c.args.self.now c.lead_beside.new.self (c.lead_beside.ensures.places ∙ (same c).0) c.args.tree c.args.bytes.now
+    beside_keeps c.args.self.now c.lead_beside.new.self (c.lead_beside.ensures.places ∙ (same c).0.0) c.args.tree c.args.bytes.now
     (others c) c.args.entries.now by_node (λ k stands _. absurd (true≢false (sym stands ∙ none k)))
