@@ -1,10 +1,25 @@
 -- Listed pages that are put among others in order.
-use Rattle.ksm_pages.proofs.Names.{[], All, All-append, All-drop, All-take, AllWithin, ap, AreInOrder, AreSmall, arith, drop, get_or, get_or-drop, get_or-take, get_or_default, GuestPage, has_item, HasGap, insert, IsNonDecreasingBy, IsPermutation, IsPermutation-map, IsPlace, IsPutAmong, length, length-drop, length-take, List, list_any-IsPermutation, Listed, pages_of, pairs_append, same_page, suc, sym, take, take-append-drop, take-suc, ℕ, ◌++◌, ◌+◌, ◌<◌, ◌^◌, ◌||◌, ◌∙◌, ◌∷◌, ◌≡◌, ◌≤◌}
+use Rattle.ksm_pages.proofs.Names.{[], All, All-append, All-drop, All-permutation, All-take, AllWithin, ap, AreInOrder, AreSmall, arith, drop, get_or, get_or-drop, get_or-take, get_or_default, GuestPage, has_item, HasGap, insert, IsNonDecreasingBy, IsPermutation, IsPermutation-map, IsPlace, IsPutAmong, length, length-drop, length-take, List, list_any-IsPermutation, Listed, pages_of, pairs_append, same_page, suc, sym, take, take-append-drop, take-suc, ℕ, ◌++◌, ◌+◌, ◌<◌, ◌^◌, ◌||◌, ◌∙◌, ◌∷◌, ◌≡◌, ◌≤◌}
 use Rattle.ksm_pages.proofs.Spots.{appended_has, page_by, Up}
 
 -- a page is among those that are listed in whatever order they stand
 pub shuffled_has : {listed later : List Listed} → IsPermutation listed later → (page : GuestPage) → has_item page (pages_of later) ≡ has_item page (pages_of listed)
 shuffled_has moved page = sym (list_any-IsPermutation (λ p. same_page p page) _ _ (IsPermutation-map page_by _ _ moved))
+
+-- pages that are put among others in whatever order they stand are put there
+pub put_shuffled : {old added later new : List Listed} → IsPermutation added later → IsPutAmong old later new → IsPutAmong old added new
+put_shuffled moved put = record { order = put.order; small = put.small; all = λ page. grind (arith, put.all page, shuffled_has moved page) }
+
+-- pages that are sorted together are put among each other
+pub put_sorted : {old added new : List Listed} → AreSmall old → AreSmall added → IsPermutation (old ++ added) new → AreInOrder new
+    → IsPutAmong old added new
+put_sorted {old} {added} small little moved order =
+    let Small : Listed → Type 0 = λ l. l.page < 2 ^ 48 in
+    record {
+      order = order;
+      small = All-permutation Small _ _ moved (All-append Small _ _ small little);
+      all = λ page. shuffled_has moved page ∙ appended_has page _ _;
+    }
 
 -- pages that were added, in front of an index of others
 module _ (listed added : List Listed) (rise : AreInOrder listed) (at : ℕ) (within : at ≤ length listed) where

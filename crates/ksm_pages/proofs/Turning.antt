@@ -1,12 +1,12 @@
 -- The pages once a call changed the row of one page, or gave it one: they are lawful, and what is seen of them changed so.
 use Rattle.ksm_pages.proofs.Names.{altered, [], All, All-filter, All-map, ap, AreAlone, AreTied, arith, Bool, change_held, changed, cond_both, dup_rows, DupsState, Err, false, frame_of, get_or, get_or-map}
 use Rattle.ksm_pages.proofs.Names.{GuestPage, Held, held_at, if◌then◌else◌, inl, InPageOrder, inr, Inside, is_alone, IsAlone, IsKnown, IsLeft, Knobs, length-map, let_out, lies_on}
-use Rattle.ksm_pages.proofs.Names.{List, lodgings_of, map, map_mapped, MatchOption, merged_state, None, not, Ok, on_row, OnErr, OnOk, Option, ordered_map, ordered_with, ordered_without, out_of_tree}
+use Rattle.ksm_pages.proofs.Names.{List, lodgings_of, map, map_mapped, MatchOption, merged_state, None, not, Ok, on_row, OnErr, OnOk, Option, option_and_then, ordered_map, ordered_with, ordered_without, out_of_tree}
 use Rattle.ksm_pages.proofs.Names.{PagesValue, PagesView, Private, refl, relaid, Result, Row, row_at, rows_of, rows_out, RowsView, rules, same_page, seen, settled, settled_state}
 use Rattle.ksm_pages.proofs.Names.{shared_state, Some, subst, sym, tied_dropped, tied_inserted, tied_left, tied_mapped, true≢false, waiting_state, with_held, with_row, without_held}
 use Rattle.ksm_pages.proofs.Names.{without_page, ℕ, ⊤, ◌==◌, ◌∙◌, ◌∷◌, ◌≡◌, ◌⊎◌}
 use Rattle.ksm_pages.proofs.Changing.{idle_settled, nothing_held, rows_with, rows_without, settled_again}
-use Rattle.ksm_pages.proofs.Joined.{let_out_alone, own_not_merged}
+use Rattle.ksm_pages.proofs.Joined.{let_out_alone, own_not_merged, seen_own}
 use Rattle.ksm_pages.proofs.Lodgings.{frame_by, lodged_gone, lodged_one, seat}
 use Rattle.ksm_pages.proofs.Leaving.{alone_found, AreLawful, Become, Comes, comes, held_as, IsLoneIn, known_there, lies, lies_same, of_dup, of_page, row_there, turned_so, view_of}
 use Rattle.ksm_pages.proofs.Lone.{held_rise, IsLone, lone_with}
@@ -41,6 +41,15 @@ module _ {s : Inside} {p : PagesValue} {page : GuestPage} {later : DupsState} {f
     out : later ≡ record s.dups { dups = let_out it.held.row.state page s.dups.dups }
     out = grind (arith, at, it.left.dups)
 
+    -- its row is not shared, where it has a frame of its own
+    pub is_own : IsAlone page p.rows → shared_state it.held.row.state ≡ false
+    is_own = alone_found s it.seen_as page it.found
+
+    -- then it lay on the frame that is held of it
+    pub own_frame : IsAlone page p.rows → option_and_then (λ (h : Held). h.frame) (held_at page s.rows.held) ≡ frame_of p.lodgings page
+    own_frame alone =
+        ap (option_and_then (λ (h : Held). h.frame)) it.found ∙ sym (seen_own _ _ _ (is_own alone)) ∙ lies s it.lawful page it.found it.seen_as
+
     -- a page that has left comes to another row, and lies where that row and its frame say
     pub moved : {rows : RowsView} (f : Held → Held) → rows ≡ altered page f s.rows → ((x : Held) → (f x).row.page ≡ x.row.page)
         → (to : Row → Row) → ((r : Row) → (to r).page ≡ r.page) → (f it.held).row ≡ to it.held.row
@@ -67,7 +76,7 @@ module _ {s : Inside} {p : PagesValue} {page : GuestPage} {later : DupsState} {f
         → (IsLoneIn s it.held → IsLoneIn s (f it.held)) → Comes s rows later (changed page to (seen p))
     rested alone_seen {rows} f turned to alike own agree keeps =
         let h = it.held in
-        let alone = alone_found s it.seen_as page it.found alone_seen in
+        let alone = is_own alone_seen in
         subst (λ lay. Comes s rows later (record (changed page to (seen p)) { frame = lay })) (lies_same page)
         (moved f turned (λ x. (alike x).0) to (λ r. (own r).0) (agree h alone) (own_not_merged _ (own h.row).1) keeps
         (grind (arith, alike h, own h.row, agree h alone, alone, lies s it.lawful page it.found it.seen_as)))

@@ -66,7 +66,7 @@ impl Pages {
         ensures { result ≡ is_some (row_at page self.now.rows) }
     {
         let key = self.rows.guess(page);
-        self.rows.find(Spot { page, key }).is_some()
+        self.rows.has(Spot { page, key })
     }
 
     /// Where a page lies, and where it is at home; none where it has no row.

@@ -7,6 +7,7 @@
 //! rows where memory is refused again: so no command is refused for it, and no contract speaks of the list. So it is
 //! where more than half of the list is there in vain.
 
+ghost use Rattle.std.specs.List.Sorted.{IsPermutation};
 ghost use Rattle.std.specs.Prelude.{◌≡◌, ◌⊎◌, ◌≤◌, ◌||◌, [], true, false, length, All, OnOk};
 ghost use Rattle.std.specs.Prelude.{IfNone, IfSome, IsTrue};
 ghost use Rattle.ksm_base.specs.declared.page.GuestPage.{GuestPage};
@@ -159,21 +160,49 @@ fn put_each(listed: &mut Vec<Listed>, guess: &mut usize, added: &[Listed]) -> Re
     Ok(())
 }
 
-/// Puts pages that were added in order among others. Many that fit between none are sorted together with these, by a
-/// sort that keeps runs.
-fn put_all(listed: &mut Vec<Listed>, guess: &mut usize, added: &[Listed]) -> Result<(), AllocError>
+/// Turns pages that stand in falling order.
+fn turn_falling(added: &mut [Listed])
+    ensures { IsPermutation added.old added.new }
+{
+    if added.is_sorted_by(|one, next| one.page >= next.page) {
+        added.reverse();
+    }
+}
+
+/// Sorts pages, where many of them are in order already by a sort that keeps runs.
+fn sort(listed: &mut Vec<Listed>, in_runs: bool) -> Result<(), AllocError>
+    ensures same { OnOk result (IsPermutation listed.old.items listed.new.items) }
+    ensures order { OnOk result (AreInOrder listed.new.items) }
+{
+    if in_runs {
+        listed.sort_by_key(|one: &Listed| one.page)?;
+    } else {
+        listed.sort_unstable_by_key(|one: &Listed| one.page);
+    }
+    Ok(())
+}
+
+/// Puts pages that were added in order among others. Many that fit between none are sorted together with these.
+fn put_all(
+    listed: &mut Vec<Listed>,
+    guess: &mut usize,
+    added: &mut [Listed],
+) -> Result<(), AllocError>
     requires order { AreInOrder listed.old.items }
-    requires small { AreSmall listed.old.items × AreSmall added.now }
-    ensures { OnOk result (IsPutAmong listed.old.items added.now listed.new.items) }
+    requires small { AreSmall listed.old.items × AreSmall added.old }
+    ensures { OnOk result (IsPutAmong listed.old.items added.old listed.new.items) }
 {
     if added.len() <= FEW {
         return put_each(listed, guess, added);
     }
+    turn_falling(added);
     if let Some(at) = gap_for(listed.as_slice(), added) {
-        return put_between(listed, at, added);
+        put_between(listed, at, added)?;
+        return Ok(());
     }
+    let in_runs = listed.len() / 8 > added.len();
     listed.extend_from_slice(added)?;
-    listed.sort_by_key(|one: &Listed| one.page)?;
+    sort(listed, in_runs)?;
     Ok(())
 }
 
@@ -298,7 +327,7 @@ impl Restless {
         if self.ready {
             return;
         }
-        if put_all(&mut self.listed, &mut self.told, self.added.as_slice()).is_err() {
+        if put_all(&mut self.listed, &mut self.told, self.added.as_mut_slice()).is_err() {
             self.listed.clear();
             self.known = false;
         }

@@ -7,7 +7,7 @@
 
 ghost use Rattle.std.specs.Prelude.{◌≡◌, ◌⊎◌, ◌≤◌, ◌<◌, ◌^◌, true, false, [], None, Some, All, IfErr, IfOk, IfSome};
 ghost use Rattle.std.specs.Prelude.{MatchOption, OnErr, OnOk, ◌==◌, count_by, find, is_some};
-ghost use Rattle.std.specs.Prelude.{length, map, not, option_map};
+ghost use Rattle.std.specs.Prelude.{length, map, not, option_and_then, option_map};
 ghost use Rattle.std.specs.Fn.{FnOnceReturnsAtMut};
 ghost use Rattle.ksm_base.specs.declared.limits.TheConstants.{MOST_FRAMES};
 ghost use Rattle.ksm_base.specs.declared.page.GuestPage.{GuestPage};
@@ -198,6 +198,14 @@ impl Rows {
         }
     }
 
+    /// Whether a page has a row.
+    #[inline(always)]
+    pub fn has(&self, spot: Spot) -> bool
+        ensures { result ≡ is_some (held_at spot.page self.now.held) }
+    {
+        self.at(spot).is_some() || self.order.has(spot.page)
+    }
+
     /// What is kept of the row of a page, if it has one.
     #[inline(always)]
     pub fn find(&self, spot: Spot) -> Option<&Entry>
@@ -376,16 +384,18 @@ impl Rows {
 
     // ------------------------------------------------------------ rows that change
 
-    /// The entry of a page becomes what is made of it, if it has one. Tells whether a visit might change it before.
+    /// The entry of a page becomes what is made of it, if it has one. Gives what it was before, and its key.
     #[tactic(auto, using(crate::proofs::Writing::nothing))]
     #[inline(always)]
-    pub fn change<F: FnOnce(&mut Entry)>(&mut self, spot: Spot, make: F) -> bool
+    pub fn change<F: FnOnce(&mut Entry)>(&mut self, spot: Spot, make: F) -> Option<(usize, Entry)>
         requires callable { F.IsAlwaysCallable make }
         requires kept { KeepsPage self.old.pass (λ old new. FnOnceReturnsAtMut F.FnOnce make old tt new) }
-        ensures { IsMade (λ old new. FnOnceReturnsAtMut F.FnOnce make old tt new) spot.page self.old self.new }
+        ensures made { IsMade (λ old new. FnOnceReturnsAtMut F.FnOnce make old tt new) spot.page self.old self.new }
+        ensures before { MatchOption result (held_at spot.page self.old.held ≡ None)
+            (λ found. held_at spot.page self.old.held ≡ Some (held_of self.old.pass found.1)) }
     {
         let Some(key) = key_of(&self.entries, &self.order, spot) else {
-            return false;
+            return None;
         };
         let entry = &mut self.entries[key];
         let was = *entry;
@@ -393,8 +403,7 @@ impl Rows {
         let is = *entry;
         // A row that a visit might change before is listed already.
         let alike = (is.kind == was.kind) & (is.mergeable == was.mergeable);
-        let was_restless = was.is_restless();
-        let listed = alike | was_restless | !is.is_restless();
+        let listed = alike | was.is_restless() | !is.is_restless();
         self.tally.follow(&was, &is, self.pass);
         if is.mergeable != was.mergeable {
             self.order.mark(spot.page, is.mergeable);
@@ -407,7 +416,7 @@ impl Rows {
             };
             self.restless.add(spot, rows);
         }
-        was_restless
+        Some((key, was))
     }
 
     /// A row with a frame of its own has this one from now on.
@@ -502,12 +511,7 @@ impl Rows {
         requires kept { KeepsPage self.old.pass (λ old new. FnOnceReturnsAtMut F.FnOnce make old tt new) }
         ensures { IsMade (λ old new. FnOnceReturnsAtMut F.FnOnce make old tt new) spot.page self.old self.new }
     {
-        let found = match self.look_up(spot) {
-            Some((there, entry)) => Some((there.key, *entry)),
-            None => None,
-        };
-        self.change(spot, make);
-        if let Some((key, was)) = found {
+        if let Some((key, was)) = self.change(spot, make) {
             self.forget(key, &was);
         }
     }
@@ -584,29 +588,34 @@ impl Rows {
 
     // ------------------------------------------------------------ how a page is mapped
 
-    /// The page of a row is mapped from the frame of the dup with a number, at a place that is a guess.
+    /// The page of a row is mapped from the frame of the dup with a number, at a place that is a guess. Gives the frame
+    /// that it had of its own.
     #[inline(always)]
-    pub fn merge(&mut self, spot: Spot, number: u64, place: u32)
-        ensures { self.new ≡ altered spot.page (shares (Merged number)) self.old }
+    pub fn merge(&mut self, spot: Spot, number: u64, place: u32) -> Option<u32>
+        ensures left { result ≡ option_and_then (λ h. h.frame) (held_at spot.page self.old.held) }
+        ensures merged { self.new ≡ altered spot.page (shares (Merged number)) self.old }
     {
-        self.change(spot, |entry| {
+        let (_, was) = self.change(spot, |entry| {
             entry.kind = Kind::Merged;
             entry.number = number;
             entry.at = place;
             entry.in_tree = entry.in_tree.beside();
-        });
+        })?;
         self.restless.let_be();
+        was.own_frame()
     }
 
-    /// The page of a row is mapped from the zero page.
-    pub fn become_zero(&mut self, spot: Spot)
-        ensures { self.new ≡ altered spot.page (shares Zero) self.old }
+    /// The page of a row is mapped from the zero page. Gives the frame that it had of its own.
+    pub fn become_zero(&mut self, spot: Spot) -> Option<u32>
+        ensures left { result ≡ option_and_then (λ h. h.frame) (held_at spot.page self.old.held) }
+        ensures zero { self.new ≡ altered spot.page (shares Zero) self.old }
     {
-        self.change(spot, |entry| {
+        let (_, was) = self.change(spot, |entry| {
             entry.kind = Kind::Zero;
             entry.in_tree = entry.in_tree.beside();
-        });
+        })?;
         self.restless.let_be();
+        was.own_frame()
     }
 
     /// Where the unstable tree has too little room for the rows with frames of their own, it gets more, and leads to no
@@ -649,13 +658,15 @@ impl Rows {
         ensures { self.new ≡ altered spot.page
             (on_row (λ r. record (settled r) { mergeable = false; unchanged = false })) self.old }
     {
-        let was_restless = self.change(spot, |entry| {
+        let before = self.change(spot, |entry| {
             entry.mergeable = false;
             entry.unchanged = false;
             entry.forget_pass();
         });
-        if was_restless {
-            self.restless.let_be();
+        if let Some((_, was)) = before {
+            if was.is_restless() {
+                self.restless.let_be();
+            }
         }
     }
 

@@ -165,12 +165,12 @@ impl Pages {
         ensures refused { OnErr result (self.new ≡ self.old) }
         ensures fault { OnErr result (result ≡ Err Memory) }
     {
-        let Some(entry) = self.rows.find(spot) else {
+        let place = self.dups.join_at(best.place, best.number, spot.page)?;
+        // Called for its contract alone: a row that is not shared has a frame.
+        self.rows.are_lawful();
+        let Some(lone) = self.rows.merge(spot, best.number, place) else {
             unreachable!()
         };
-        let place = self.dups.join_at(best.place, best.number, spot.page)?;
-        let lone = entry.at;
-        self.rows.merge(spot, best.number, place);
         Ok(lone)
     }
 
@@ -209,8 +209,6 @@ impl Pages {
         ensures left { result ≡ (seen self.old).frame spot.page }
         ensures zero { seen self.new ≡ relaid spot.page (λ r. record r { state = Zero }) None (seen self.old) }
     {
-        let left = self.rows.find(spot)?.own_frame();
-        self.rows.become_zero(spot);
-        left
+        self.rows.become_zero(spot)
     }
 }

@@ -1,16 +1,20 @@
-use Rattle.ksm_pages.proofs.Names.{All-append, All-permutation, ap, has_item, IsNonDecreasingBy-from_sort_by_key, Listed, pages_of, rules, ◌<◌, ◌^◌, ◌∙◌}
-use Rattle.ksm_pages.proofs.Sorting.{shuffled_has, sorted_rise}
-use Rattle.ksm_pages.proofs.Spots.{appended_has}
+use Rattle.ksm_pages.proofs.Names.{All-permutation, AreSmall, Listed, ◌<◌, ◌^◌}
+use Rattle.ksm_pages.proofs.Sorting.{put_shuffled, put_sorted}
 use Rattle.ksm_pages.proofs.restless.put_all.Goals as goal
+use Rattle.ksm_pages.proofs.restless.put_all.Goals.{After-turn_falling}
+
+-- the pages that were added are small still
+small : (c : After-turn_falling) → AreSmall c.turn_falling.new.added
+small c = All-permutation (λ (l : Listed). l.page < 2 ^ 48) _ _ c.turn_falling.ensures c.requires.small.1
+
+pub put_between-requires-clause-small : goal.put_between-requires-clause-small
+put_between-requires-clause-small c = (c.requires.small.0, small (goal.at.put_between-requires-clause-small c).After-turn_falling)
+
+pub returns-in-Some : goal.returns-in-Some
+returns-in-Some c = put_shuffled c.turn_falling.ensures c.in_ok-put_between.ensures
 
 pub returns : goal.returns
 returns c =
-    let Small : Listed → Type 0 = λ l. l.page < 2 ^ 48 in
-    record {
-      order = sorted_rise _ (IsNonDecreasingBy-from_sort_by_key (λ l. l.page) _ c.in_ok-sort_by_key.ensures.sorted (λ a r q k. search rules));
-      small = All-permutation Small _ _ c.in_ok-sort_by_key.ensures.permutation
-          (rw (c.in_ok-extend_from_slice.ensures.items) (All-append Small _ _ c.requires.small.0 c.requires.small.1));
-      all = λ page. shuffled_has c.in_ok-sort_by_key.ensures.permutation page
-          ∙ ap (λ l. has_item page (pages_of l)) c.in_ok-extend_from_slice.ensures.items
-          ∙ appended_has page _ _;
-    }
+    put_shuffled c.turn_falling.ensures
+    (put_sorted c.requires.small.0 (small (goal.at.returns c).After-turn_falling)
+    (rw (← c.in_ok-extend_from_slice.ensures.items) c.in_ok-sort.ensures.same) c.in_ok-sort.ensures.order)

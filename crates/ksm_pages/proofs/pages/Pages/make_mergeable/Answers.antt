@@ -7,7 +7,7 @@ came : (c : goal.After-change)
     → Comes c.self.inside c.change.new.self c.self.inside.dups (changed c.args.spot.page (λ r. record r { mergeable = true }) (seen c.args.self.now))
 came c =
     stays c.self.inside c.self.invariant c.self.view_is _ (λ r. record r { mergeable = true }) (λ r. refl) (λ r. refl)
-    (λ x lone. lone) c.change.new.self (held_as (c.change.ensures _ (search rules)))
+    (λ x lone. lone) c.change.new.self (held_as (c.change.ensures.made _ (search rules)))
 
 pub invariant_of-self : goal.invariant_of-self
 invariant_of-self c = (came c).lawful

@@ -24,7 +24,7 @@ found r = record r { unchanged = true; state = Private }
 went : (c : goal.After-change) → Comes c.self.inside c.change.new.self c.self.inside.dups (changed c.args.spot.page found (seen c.args.self.now))
 went c =
     let it = asked c.self.inside c.self.invariant c.self.view_is c.in-Some.entry.now c.in-Some.ensures (grind arith) in
-    rested (own_left c.self.invariant c.self.view_is (alone_seen it)) (alone_seen it) _ (c.change.ensures (on_row (λ r. record (settled r) { unchanged = true })) (search rules))
+    rested (own_left c.self.invariant c.self.view_is (alone_seen it)) (alone_seen it) _ (c.change.ensures.made (on_row (λ r. record (settled r) { unchanged = true })) (search rules))
     found (λ x. (refl, refl)) (λ r. (refl, refl)) (λ x own. grind (arith, own)) (λ lone. lone)
 
 pub invariant_of-self-then-not-entry : goal.invariant_of-self-then-not-entry
