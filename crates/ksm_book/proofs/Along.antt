@@ -1,12 +1,10 @@
 -- Pages in order: the parts of a list before and behind a page, and rows changed one after another up to a cursor.
 use Rattle.ksm_book.proofs.Names.{after_cursor, All, All-filter, All-head, any-filter_same, ap, AreAscending, arith, before_irrefl, Bool, cases_Bool, change_none, change_row, change_rows}
 use Rattle.ksm_book.proofs.Names.{comes_before, Contains-from_any, each_at_page, false, filter, filter_all, filter_mapped, filter_none, find, find_all, find_mapped, find_none, find_passes}
-use Rattle.ksm_book.proofs.Names.{get_or, get_or_from_slice_get, GuestPage, has_item, if◌then◌else◌, inl, InPageOrder, inr, is_before, is_next, List, map-id, map_alike, map_mapped, mapped_some}
-use Rattle.ksm_book.proofs.Names.{None, none_mapped, not, not_both, one_before, Option, option_map, pairs_head, pairs_tail, Row, row_at, same_page, same_page_eq, slice_get, slice_get-get_or}
-use Rattle.ksm_book.proofs.Names.{slice_get_within, Some, subst, suc, sym, take, true, zero, [], ℕ, ⊤, ◌&&◌, ◌*◌, ◌++◌, ◌+◌, ◌<◌, ◌∙◌, ◌∷◌, ◌≡◌, ◌≤◌}
+use Rattle.ksm_book.proofs.Names.{found_first, get_or, get_or_from_slice_get, GuestPage, has_item, if◌then◌else◌, inl, InPageOrder, inr, is_before, is_next, List, map-id, map_alike, map_mapped}
+use Rattle.ksm_book.proofs.Names.{mapped_some, min, None, none_mapped, not, not_both, one_before, Option, option_map, pairs_head, pairs_tail, Row, row_at, same_page, same_page_eq, slice_get}
+use Rattle.ksm_book.proofs.Names.{slice_get-get_or, slice_get_within, Some, subst, suc, sym, take, true, zero, ℕ, [], ⊤, ◌&&◌, ◌*◌, ◌++◌, ◌+◌, ◌<◌, ◌∙◌, ◌∷◌, ◌≡◌, ◌≤◌}
 use Rattle.ksm_book.proofs.ByPage.{row_of_page}
-use Rattle.std.specs.Prelude.{min}
-use Rattle.ksm_pages.proofs.Found.{first_found as found_first}
 
 -- the first page comes before the second
 abbrev pub Before : GuestPage → GuestPage → Type 0
@@ -126,14 +124,11 @@ module _ {asked : Row → Bool} {f : Row → Row} (keeps : (r : Row) → (f r).p
     passes : next_of asked last row ≡ true
     passes = find_passes _ rows row next_is.1
 
-    at_cursor : after_cursor last page ≡ true
-    at_cursor = grind (arith, passes, next_is.2)
-
     place : All (λ r. asked r ≡ true → after_cursor last r.page ≡ not (comes_before r.page page)) rows
     place k d lt asks =
         let r = get_or rows k d in
         let low = found_first (λ (x : Row). x.page) (next_of asked last) rows row rise next_is.1 k d lt in
-        grind (arith, low, next_is.2, after_later last page r.page, at_cursor, one_before page r.page, same_page_eq page r.page)
+        grind (arith, low, next_is.2, after_later last page r.page, passes, one_before page r.page, same_page_eq page r.page)
 
     at_page : row_at page rows ≡ Some row
     at_page = subst (λ q. row_at q rows ≡ Some row) next_is.2

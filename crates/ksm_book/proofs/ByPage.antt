@@ -1,7 +1,7 @@
 -- Rows that change at one page: what becomes of what holds of each row, and of how many lie on a frame.
-use Rattle.ksm_book.proofs.Names.{All, All-map, arith, change_row, count_alike, count_mapped, count_with_row, count_without_page, counts_one, eq-eqb, false, filter_passes, find_all}
-use Rattle.ksm_book.proofs.Names.{find_changed, find_none, find_passes, Frames, GuestPage, if◌then◌else◌, in_hand, InPageOrder, is_frame, lies_on, List, map, map_mapped, None, not, not-true}
-use Rattle.ksm_book.proofs.Names.{one_of_each_page, Option, Row, row_at, same_page, same_page_eq, same_page_refl, Some, true, uses, with_row, without_page, ℕ, ◌+◌, ◌≡◌, ◌≤◌}
+use Rattle.ksm_book.proofs.Names.{All, All-map, arith, change_row, count_alike, count_mapped, count_with_row, count_without_page, counts_one, eq-eqb, false, filter_passes, find_all, find_changed}
+use Rattle.ksm_book.proofs.Names.{find_none, find_passes, Frames, GuestPage, if◌then◌else◌, in_hand, InPageOrder, is_frame, lies_on, List, map, map_mapped, None, not, not-true, one_of_each_page}
+use Rattle.ksm_book.proofs.Names.{Option, Row, row_at, same_page, same_page_eq, same_page_refl, Some, true, uses, with_row, without_page, ℕ, ◌+◌, ◌≡◌, ◌≤◌}
 
 -- frames that are equal at each page are equal
 pub same_frames : (f g : Frames) → ((page : GuestPage) → f page ≡ g page) → f ≡ g

@@ -1,16 +1,9 @@
 -- What follows from the steps of a command: the frames that they gave, and what the log shows of the answer.
-use Rattle.ksm_base.specs.declared.command.Command.{Command}
-use Rattle.ksm_base.specs.declared.command.Command.TheVariants.{Drop, MoveDup, MovePage, Prune, Register, Scan, SetAcross, SetLimit, SetRun, Store, Unmerge}
-use Rattle.ksm_base.specs.declared.reply.Reply.TheVariants.{Done, Pruned, Scanned, Unmerged}
-use Rattle.ksm_base.specs.declared.fault.Fault.TheVariants.{InUse, NoFrame}
-use Rattle.ksm_base.specs.Answers.{IsAnswerOrMemory}
 use Rattle.ksm_base.proofs.Reasons.{has_reason}
-use Rattle.ksm_book.specs.Carried.{StoresTo, TakesSteps}
-use Rattle.std.specs.Prelude.{option_and_then}
-use Rattle.ksm_book.specs.Commands.{IsIdle}
-use Rattle.ksm_book.proofs.Names.{AllocatesOn, Answer, arith, BookState, BookView, Bool, CarriedOut, DupRow, Err, false, Frames, HasShown, if◌then◌else◌, IsCarried, List, listed, Mapped, mapped}
-use Rattle.ksm_book.proofs.Names.{MatchBool, MatchOption, nodes_got, None, Ok, Option, Performs, pruning, refl, Resettles, rewriting, Row, scanning, shared_state, Some, suc, true, Withdraw, zero, ℕ}
-use Rattle.ksm_book.proofs.Names.{[]}
+use Rattle.ksm_book.proofs.Names.{AllocatesOn, Answer, arith, BookState, BookView, Bool, CarriedOut, Command, Done, Drop, DupRow, Err, false, Frames, HasShown, if◌then◌else◌, InUse, IsAnswerOrMemory}
+use Rattle.ksm_book.proofs.Names.{IsCarried, IsIdle, List, listed, Mapped, mapped, MatchBool, MatchOption, MoveDup, MovePage, nodes_got, NoFrame, None, Ok, Option, option_and_then, Performs, Prune}
+use Rattle.ksm_book.proofs.Names.{Pruned, pruning, refl, Register, Resettles, rewriting, Row, Scan, Scanned, scanning, SetAcross, SetLimit, SetRun, shared_state, Some, Store, StoresTo, suc}
+use Rattle.ksm_book.proofs.Names.{TakesSteps, true, Unmerge, Unmerged, Withdraw, zero, ℕ, []}
 use Rattle.ksm_book.proofs.Made.{made_none}
 use Rattle.ksm_book.proofs.Singles.{place_is}
 use Rattle.ksm_book.proofs.Shown.{each_does, GivesNone, lost, moved, none_left, provides_does, quiet_both, quiet_does, quiet_leaving, quiet_map, quiet_puts, resettles_does, unmerges_does}

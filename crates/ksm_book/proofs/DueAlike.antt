@@ -1,11 +1,11 @@
 -- The visit of a page that is due does what that of the definitions does, where no row further on waits.
-use Rattle.ksm_book.proofs.Names.{All, All-map, ap, apart, arith, before_irrefl, best_dup, BookState, Bool, cases_Bool, change_row, change_rows, comes_before, comes_later, count_mapped}
-use Rattle.ksm_book.proofs.Names.{Deed, due_visited, dup_frame, DupRow, each_at_page, false, find_all, find_mapped, find_none, find_nothing, find_passes, Frames, freed, get_or}
-use Rattle.ksm_book.proofs.Names.{get_or_from_slice_get, GuestPage, handled, has_item, hidden_from, if◌then◌else◌, inl, InPageOrder, inr, is_best, is_no_rival, is_no_worse, is_restless}
-use Rattle.ksm_book.proofs.Names.{is_stale, IsSound, item_count, List, made_dup, map-id, map_alike, map_mapped, may_join, mergeable_pages, Merged, merged_into, new_place, None, not}
-use Rattle.ksm_book.proofs.Names.{not_both, one_before, Option, option_map, page, page_visited, PageState, paired, partner, place_count, refl, restless_at, Row, row_at, same_page}
-use Rattle.ksm_book.proofs.Names.{same_page_eq, same_page_refl, same_page_sym, settled, settled_calmer, slice_get_within, Some, sound_changed, Stage, subst, sym, takes_over, true, up_to}
-use Rattle.ksm_book.proofs.Names.{visited, Waiting, waiting_state, waits_for, waits_tells, Zero, ℕ, ◌||◌, ◌∙◌, ◌≡◌}
+use Rattle.ksm_book.proofs.Names.{All, All-map, ap, apart, arith, before_irrefl, best_dup, BookState, Bool, cases_Bool, change_row, change_rows, comes_before, comes_later, count_mapped, Deed}
+use Rattle.ksm_book.proofs.Names.{due_visited, dup_frame, DupRow, each_at_page, false, find_all, find_mapped, find_none, find_nothing, find_passes, Frames, freed, get_or, get_or_from_slice_get}
+use Rattle.ksm_book.proofs.Names.{GuestPage, handled, has_item, hidden_from, if◌then◌else◌, inl, InPageOrder, inr, is_best, is_no_rival, is_no_worse, is_restless, is_stale, IsSound, item_count, List}
+use Rattle.ksm_book.proofs.Names.{made_dup, map-id, map_alike, map_mapped, may_join, mergeable_pages, Merged, merged_into, new_place, None, not, not_both, one_before, Option, option_map, page}
+use Rattle.ksm_book.proofs.Names.{page_visited, PageState, paired, partner, place_count, refl, restless_at, Row, row_at, same_page, same_page_eq, same_page_refl, same_page_sym, settled}
+use Rattle.ksm_book.proofs.Names.{settled_calmer, slice_get_within, Some, sound_changed, Stage, subst, sym, takes_over, true, up_to, visited, Waiting, waiting_state, waits_for, waits_tells, Zero, ℕ}
+use Rattle.ksm_book.proofs.Names.{◌||◌, ◌∙◌, ◌≡◌}
 use Rattle.ksm_book.proofs.Folded.{becomes, by_row, Goes, mergeable_kept, page_goes}
 use Rattle.ksm_base.specs.declared.row.PageState.TheVariants.{Private}
 use Rattle.ksm_book.proofs.Along.{place_of}
@@ -28,10 +28,6 @@ calmed test r = if test r then settled r else r
 -- the book as it is where only rows wait whose page passes a test
 abbrev pub narrowed : (GuestPage → Bool) → BookState → BookState
 narrowed t b = record b { rows = change_rows (λ r. not (t r.page)) settled b.rows }
-
--- where each page passes, the book is as it is
-pub all_pass : (b : BookState) → narrowed (λ _. true) b ≡ b
-all_pass b = grind (arith, map-id b.rows)
 
 module _ (t : GuestPage → Bool) (b : BookState) where
   abbrev narrow : Row → Row
@@ -169,10 +165,6 @@ module _ (b : BookState) (s : IsSound b) (r : Row) where
         let frames = dup_frame_kept is_on b deed.frame in
         grind (arith, best_kept is_on b r, handled_alike, partner_alike, frames, place_kept is_on b)
 
-  -- the row that waits for it further on, where it takes over
-  pub waiter_of : takes_over b r ≡ true → (w : Row) × (partner b.knobs b.rows r ≡ Some w) × (comes_before r.page w.page ≡ true)
-  waiter_of takes = grind arith
-
   module _ (w : Row) (found : partner b.knobs b.rows r ≡ Some w) where
     abbrev of_w : Row → Bool
     of_w x = same_page x.page w.page
@@ -217,7 +209,7 @@ module _ (b : BookState) (s : IsSound b) (deed : Deed) where
   row_due : (r : Row) → row_at r.page b.rows ≡ Some r → is_restless r ≡ true → IsAlike b deed r.page
   row_due r found restless = elim (cases_Bool (takes_over b r)) [
     | inl takes ↦
-        let w = waiter_of b s r takes in
+        let w : (w : Row) × (partner b.knobs b.rows r ≡ Some w) × (comes_before r.page w.page ≡ true) = grind arith in
         by_visit r restless (freed b (Some w.0)) (freed_sound b s r w.0 w.1) (freed_found b s r w.0 w.1 found)
         (mergeable_kept _ (grind arith) b.rows)
         (sym (narrowed_over (λ q. comes_before q r.page) b (λ x. same_page x.page w.0.page)

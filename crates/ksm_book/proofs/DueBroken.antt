@@ -1,13 +1,11 @@
 -- A page that is stored to while it is merged or Zero, comes or goes: of the others only one that waits in its tree with its
 -- bytes may come to join its dup by that, so no other page becomes due. And commands by which no page becomes due.
-use Rattle.ksm_base.specs.Answers.{IsAnswerOrMemory}
 use Rattle.ksm_book.proofs.Names.{All, All-filter, all_changed, all_with_row, Answer, AreDue, arith, BookState, BookView, Bool, bytes_eq, bytes_eq-Decides, change_row, Command, count_with_row}
 use Rattle.ksm_book.proofs.Names.{count_without_page, dup_of_item, DupRow, effect, Err, false, filter, find_all, find_none, fresh_row, get_or, GuestPage, has_item, InPageOrder, IsAlone}
-use Rattle.ksm_book.proofs.Names.{IsCarried, IsDupOf, IsSound, item_count, List, MatchOption, may_join, merged_into, merged_state, names, nat_tests, None, Ok, Option, own_not_merged, refl, Reply}
-use Rattle.ksm_book.proofs.Names.{Row, row_at, same_page, same_page_refl, same_page_sym, shared_state, Some, stored, sym, tree_of, true, waiting_state, waits_for, waits_on, with_row}
-use Rattle.ksm_book.proofs.Names.{without_page, ℕ, ◌&&◌, ◌==◌, ◌||◌, ◌≡◌}
+use Rattle.ksm_book.proofs.Names.{IsAnswerOrMemory, IsCarried, IsDupOf, IsSound, item_count, List, MatchOption, may_join, merged_into, merged_state, names, nat_tests, None, Ok, Option, own_not_merged}
+use Rattle.ksm_book.proofs.Names.{page_beside, refl, Reply, Row, row_at, same_page, same_page_refl, same_page_sym, shared_state, Some, stored, sym, tree_of, true, waiting_state, waits_for, waits_on}
+use Rattle.ksm_book.proofs.Names.{with_row, without_page, ℕ, ◌&&◌, ◌==◌, ◌||◌, ◌≡◌}
 use Rattle.ksm_book.proofs.DueKept.{count_kept, more_due, on_still, WaitsElse, own_due}
-use Rattle.ksm_pages.specs.Paged.{page_beside}
 use Rattle.ksm_book.proofs.ByPage.{found_page, row_of_page}
 use Rattle.ksm_book.proofs.DueAlike.{one_waits}
 use Rattle.ksm_book.proofs.RowVisits.{filled_by}

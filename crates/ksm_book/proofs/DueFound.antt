@@ -1,10 +1,10 @@
 -- The visit of a page that is due, by what was found of it: it takes over from none, but where a row further on waits
 -- for it; and which pages are due then.
-use Rattle.ksm_book.proofs.Names.{ap, AreDue, arith, before_differs, best_dup, BookState, BookValue, BookView, change_row, Comes, comes_before, Deed, due_visited, Dup, each_at_page}
-use Rattle.ksm_book.proofs.Names.{false, Find, find_all, find_passes, freed, GuestPage, has_item, hidden_from, is_restless, IsAlone, IsLaid, IsSound, KeeperView, List, None, not, not_both}
-use Rattle.ksm_book.proofs.Names.{one_before, Option, own_not_merged, page, page_visited, PagesView, Partner, refl, restless_at, row_at, row_visited, same_page, same_page_eq}
-use Rattle.ksm_book.proofs.Names.{same_page_refl, same_page_sym, settled, Some, state_of, StaysBefore, subst, sym, takes_over, TakesOver, true, view_of, visits, VisitsPage, waits_for}
-use Rattle.ksm_book.proofs.Names.{waits_tells, WaitsFor, with_rows, ℕ, ◌&&◌, ◌||◌, ◌∙◌, ◌∷◌, ◌≡◌}
+use Rattle.ksm_book.proofs.Names.{ap, AreDue, arith, before_differs, best_dup, BookState, BookValue, BookView, change_row, Comes, comes_before, Deed, due_visited, Dup, each_at_page, false, Find}
+use Rattle.ksm_book.proofs.Names.{find_all, find_passes, freed, GuestPage, has_item, hidden_from, is_restless, IsAlone, IsLaid, IsSound, KeeperView, List, None, not, not_both, one_before, Option}
+use Rattle.ksm_book.proofs.Names.{own_not_merged, page, page_visited, PagesView, Partner, refl, restless_at, row_at, row_visited, same_page, same_page_eq, same_page_refl, same_page_sym, settled, Some}
+use Rattle.ksm_book.proofs.Names.{state_of, StaysBefore, subst, sym, takes_over, TakesOver, true, view_of, visits, VisitsPage, waits_for, waits_tells, WaitsFor, with_rows, ℕ, ◌&&◌, ◌||◌, ◌∙◌, ◌∷◌}
+use Rattle.ksm_book.proofs.Names.{◌≡◌}
 use Rattle.ksm_base.specs.declared.row.PageState.TheVariants.{Private}
 use Rattle.ksm_pages.specs.Paged.{Finds}
 use Rattle.ksm_book.proofs.DueKept.{calm_undue, IsDueNoMore, own_due, row_undue}

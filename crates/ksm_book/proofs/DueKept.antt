@@ -1,11 +1,10 @@
 -- A pass over what is due leaves what waits on as it is, and what is due stays so.
-use Rattle.ksm_book.proofs.Names.{All, All-cons, All-head, All-tail, all_changed, all_with_dup, ap, AreDue, arith, best_dup, BookState, Bool, bytes_eq, bytes_eq-Decides, cases_Bool}
-use Rattle.ksm_book.proofs.Names.{change_row, change_rows, cond_both, count_by, count_mapped, Deed, due_visited, dup_of_row, DupRow, eqb-true, false, find_all, find_mapped, find_none}
-use Rattle.ksm_book.proofs.Names.{find_nothing, find_passes, get_or, GuestPage, handled, has, has_item, inl, InPageOrder, inr, is_best, is_for_zero, is_restless, IsSound, IsStill}
-use Rattle.ksm_book.proofs.Names.{item_count, Knobs, List, list_all-from_AllPass, made_dup, may_join, Merged, merged_into, merged_state, nat_le, nat_lt, nat_tests, None, not, not_an_item}
-use Rattle.ksm_book.proofs.Names.{one_of_each_page, Option, own_not_merged, page, page_visited, paired, partner, refl, restless_at, Row, row_at, row_visited, same_page, same_page_refl}
-use Rattle.ksm_book.proofs.Names.{same_page_sym, settled, Some, sym, tree_of, true, true≢false, Waiting, waiting_state, waits_for, waits_on, waits_tells, WaitsFor, with_dup, Zero, ℕ, []}
-use Rattle.ksm_book.proofs.Names.{◌&&◌, ◌+◌, ◌==◌, ◌||◌, ◌∙◌, ◌∷◌, ◌≡◌}
+use Rattle.ksm_book.proofs.Names.{All, All-cons, All-head, All-tail, all_changed, all_with_dup, ap, AreDue, arith, best_dup, BookState, Bool, bytes_eq, bytes_eq-Decides, cases_Bool, change_row}
+use Rattle.ksm_book.proofs.Names.{change_rows, cond_both, count_by, count_mapped, Deed, due_visited, dup_of_row, DupRow, eqb-true, false, find_all, find_mapped, find_none, find_nothing, find_passes}
+use Rattle.ksm_book.proofs.Names.{get_or, GuestPage, handled, has, has_item, inl, InPageOrder, inr, is_best, is_for_zero, is_restless, IsSound, IsStill, item_count, Knobs, List, list_all-from_AllPass}
+use Rattle.ksm_book.proofs.Names.{made_dup, may_join, Merged, merged_into, merged_state, nat_le, nat_lt, nat_tests, None, not, not_an_item, one_of_each_page, Option, own_not_merged, page}
+use Rattle.ksm_book.proofs.Names.{page_visited, paired, partner, refl, restless_at, Row, row_at, row_visited, same_page, same_page_refl, same_page_sym, settled, Some, sym, tree_of, true, true≢false}
+use Rattle.ksm_book.proofs.Names.{Waiting, waiting_state, waits_for, waits_on, waits_tells, WaitsFor, with_dup, Zero, ℕ, [], ◌&&◌, ◌+◌, ◌==◌, ◌||◌, ◌∙◌, ◌∷◌, ◌≡◌}
 use Rattle.ksm_book.proofs.DueAlike.{at_own_page, by_counts, calm_stays, one_waits}
 use Rattle.ksm_book.proofs.ByPage.{at_changed, row_of_page}
 use Rattle.ksm_book.proofs.Folded.{by_row, then_idle}
@@ -77,43 +76,30 @@ count_kept number test f rows same = grind (arith, count_mapped)
 abbrev merge : ℕ → Row → Row
 merge number r = record r { state = Merged number }
 
--- the row is not merged, nor is it once it is changed
-abbrev pub IsSingle : (Row → Row) → Row → Type 0
-IsSingle f r = (merged_state r.state ≡ false) × (merged_state (f r).state ≡ false)
-
--- the rows that pass a test change, and none of them is merged, before or after
-module _ (b : BookState) (test : Row → Bool) (f : Row → Row)
-    (single : All (λ r. test r ≡ true → IsSingle f r) b.rows) where
+-- the row of a page changes, which is not merged, before or after
+module _ (b : BookState) (page : GuestPage) (f : Row → Row) (row : Row) (rise : InPageOrder b.rows)
+    (found : row_at page b.rows ≡ Some row) (single : (merged_state row.state ≡ false) × (merged_state (f row).state ≡ false)) where
   abbrev after : BookState
-  after = record b { rows = change_rows test f b.rows }
+  after = record b { rows = change_row page f b.rows }
+
+  is : All (λ r. same_page r.page page ≡ true → r ≡ row) b.rows
+  is = row_of_page page b.rows row rise found
 
   same_items : (d : DupRow) → item_count after.rows d ≡ item_count b.rows d
-  same_items d = count_kept d.number test f b.rows (λ k e lt passes. grind (arith, not_an_item, single k e lt passes))
+  same_items d = count_kept d.number (λ r. same_page r.page page) f b.rows (grind (arith, not_an_item, is))
 
   on_kept : (r : Row) → waits_on after r ≡ waits_on b r
   on_kept r = simp (same_items, waits_on, by_counts)
 
-  -- of the changed rows those are due that a visit may change, if they do not wait on
-  pub single_due : (due more : List GuestPage)
-      → All (λ r. test r ≡ true → WaitsElse b more (f r)) b.rows
-      → All (λ r. test r ≡ false → has_item r.page due ≡ true → has_item r.page more ≡ true) b.rows
-      → AreDue b due → AreDue after more
-  single_due due more ours others was =
-      all_changed (WaitsElse after more) test f b.rows
-      (λ k d lt passes restless out. on_kept (f (get_or b.rows k d)) ∙ ours k d lt passes restless out)
-      (λ k d lt fails restless out. on_kept (get_or b.rows k d)
-      ∙ was k d lt restless (grind (arith, others k d lt fails)))
-
--- the row of a page changes, which is not merged, before or after
-module _ (b : BookState) (page : GuestPage) (f : Row → Row) (row : Row) (rise : InPageOrder b.rows)
-    (found : row_at page b.rows ≡ Some row) (single : IsSingle f row) where
   -- the page is due then, if a visit may change its row and it does not wait on; the others are as they were
   pub own_due : (due more : List GuestPage) → WaitsElse b more (f row)
       → ((p : GuestPage) → same_page p page ≡ false → has_item p due ≡ true → has_item p more ≡ true)
-      → AreDue b due → AreDue (record b { rows = change_row page f b.rows }) more
+      → AreDue b due → AreDue after more
   own_due due more ours others was =
-      let is = row_of_page page b.rows row rise found in
-      single_due b (λ r. same_page r.page page) f (grind (arith, is)) due more (grind (arith, is)) (grind arith) was
+      all_changed (WaitsElse after more) (λ r. same_page r.page page) f b.rows
+      (λ k d lt passes restless out. rw (is k d lt passes) (on_kept (f row) ∙ ours (rw (is k d lt passes) at restless) (rw (is k d lt passes) at out)))
+      (λ k d lt fails restless out. on_kept (get_or b.rows k d)
+      ∙ was k d lt restless (grind (arith, others (get_or b.rows k d).page fails)))
 
 -- the visit of a row
 module _ (b : BookState) (sound : IsSound b) (row : Row) (found : row_at row.page b.rows ≡ Some row) (restless : is_restless row ≡ true) where

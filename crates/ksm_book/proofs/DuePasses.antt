@@ -1,10 +1,10 @@
 -- A pass over what is due comes to what the pass of the definitions comes to.
-use Rattle.ksm_book.proofs.Names.{after_cursor, ahead_before, ahead_up_to, All, ap, AreAscending, AreDue, arith, BookState, BookValue, Bool, Comes, comes_before, Deed, due_visited}
-use Rattle.ksm_book.proofs.Names.{each_at_page, false, filter, filter_all, FindsFirst, FindsNext, fold, fold-append, get_or, GuestPage, has_item, hidden_from, InPageOrder, IsSound}
-use Rattle.ksm_book.proofs.Names.{IsStill, length, List, mergeable_pages, None, one_before, Option, page, page_visited, pages_ahead, pages_visited, part_before, part_visited, pass_begun}
-use Rattle.ksm_book.proofs.Names.{refl, restless_at, same_page_eq, slice_get-get_or, slice_get_within, Some, Stage, StaysBefore, StaysStill, Stops, subst, suc, sym, take, take-suc}
-use Rattle.ksm_book.proofs.Names.{take_all, true, up_to, view_of, zero, ℕ, [], ◌∙◌, ◌∷◌, ◌≡◌, ◌≤◌}
-use Rattle.ksm_book.proofs.DueAlike.{all_has, all_pass, calm_stays, narrowed, narrowed_alike, one_due}
+use Rattle.ksm_book.proofs.Names.{after_cursor, ahead_before, ahead_up_to, All, ap, AreAscending, AreDue, arith, BookState, BookValue, Bool, Comes, comes_before, Deed, due_visited, each_at_page}
+use Rattle.ksm_book.proofs.Names.{false, filter, filter_all, FindsFirst, FindsNext, fold, fold-append, get_or, GuestPage, has_item, hidden_from, InPageOrder, IsSound, IsStill, length, List, map-id}
+use Rattle.ksm_book.proofs.Names.{mergeable_pages, None, one_before, Option, page, page_visited, pages_ahead, pages_visited, part_before, part_visited, pass_begun, refl, restless_at, same_page_eq}
+use Rattle.ksm_book.proofs.Names.{slice_get-get_or, slice_get_within, Some, Stage, StaysBefore, StaysStill, Stops, subst, suc, sym, take, take-suc, take_all, true, up_to, view_of, zero, ℕ, [], ◌∙◌}
+use Rattle.ksm_book.proofs.Names.{◌∷◌, ◌≡◌, ◌≤◌}
+use Rattle.ksm_book.proofs.DueAlike.{all_has, calm_stays, narrowed, narrowed_alike, one_due}
 use Rattle.ksm_book.proofs.DueKept.{still_undue, undue_rests}
 use Rattle.ksm_book.proofs.Along.{has_filter, place_of, place_splits}
 use Rattle.ksm_book.proofs.Reached.{agrees, begins, comes_by, comes_to, first}
@@ -72,7 +72,7 @@ module _ (b : BookState) (deed : Deed) (sound : IsSound b) (start : b.cursor ≡
   whole_part =
       let end = alike (up_to None) (length all) (omega arith)
       (filter_all (up_to None) all (λ k d lt. refl) ∙ sym (take_all (length all) all (omega arith))) in
-      grind (arith, begun_ahead b, all_pass (fold due_visited (b, deed) (ahead_up_to None b)).0)
+      grind (arith, begun_ahead b, map-id (fold due_visited (b, deed) (ahead_up_to None b)).0.rows)
 
   -- the visits of the pages before one that is ahead, once no row from there on waits
   pub before_part : (page : GuestPage) → has_item page all ≡ true

@@ -1,9 +1,7 @@
 -- The pages that are due, as they are kept: which there are once one came or went, and the first behind a cursor.
 use Rattle.ksm_book.proofs.Names.{added, after_cursor, All, All-map, any-filter_same, any_found, append-nil, arith, Bool, comes_before, false, filter, find, find_all, find_none, find_passes}
-use Rattle.ksm_book.proofs.Names.{get_or, GuestPage, has_item, is_some, length, List, list_any, list_any-append, list_any_at, map, Named, None, not, Option, option_map, page, refl, same_page}
-use Rattle.ksm_book.proofs.Names.{same_page_refl, Some, true, [], ◌&&◌, ◌++◌, ◌==◌, ◌||◌, ◌∙◌, ◌∷◌, ◌≡◌}
-use Rattle.ksm_pages.proofs.Found.{first_found as found_first}
-use Rattle.ksm_book.specs.Due.{FindsFirst, pages_of}
+use Rattle.ksm_book.proofs.Names.{FindsFirst, found_first, get_or, GuestPage, has_item, is_some, length, List, list_any, list_any-append, list_any_at, map, Named, None, not, Option, option_map, page}
+use Rattle.ksm_book.proofs.Names.{pages_of, refl, same_page, same_page_refl, Some, true, [], ◌&&◌, ◌++◌, ◌==◌, ◌||◌, ◌∙◌, ◌∷◌, ◌≡◌}
 use Rattle.ksm_pages.specs.declared.row.Spot.{Spot}
 use Rattle.ksm_pages.specs.Ordered.{AreAscending, is_of, with_named, without_named}
 

@@ -1,13 +1,12 @@
 -- The visits of a pass are a fold over its pages: what they keep, and what the parts of a scan come to.
-use Rattle.ksm_book.proofs.Names.{after_cursor, Ahead, ahead_before, AllPairs-filter, and_right, ap, append-nil, AreAscending, arith, At, begun, best_dup, BookState, Bool, cases_Bool}
-use Rattle.ksm_book.proofs.Names.{change_row, comes_before, Deed, drop, drop_all, drop_more, DupRow, each_at_page, End, EndsAt, false, filter, filter_all, filter_mapped, find_all}
-use Rattle.ksm_book.proofs.Names.{find_passes, fold-append, get_or, get_or_from_slice_get, GuestPage, handled, has_item, idle, inl, InPageOrder, inr, is_none, is_nowhere, is_restless}
-use Rattle.ksm_book.proofs.Names.{IsSound, IsStill, last_of, last_of_take, last_visited, length, length-take-le, List, map, map_mapped, mapped_some, mergeable_pages, Merged, next_row}
-use Rattle.ksm_book.proofs.Names.{next_visited, None, none_mapped, Option, option_map, page, page_visited, pages_ahead, pages_visited, PageState, paired, pairs_mapped, partner, pass_begun}
-use Rattle.ksm_book.proofs.Names.{pass_ended, pass_ended_at_last, passes_ended, refl, restless_at, restless_row, Row, row_at, row_done, row_visited, rowwise_visits, settled, slice_get}
-use Rattle.ksm_book.proofs.Names.{slice_get-get_or, slice_get_within, Some, sound_row_visited, sound_settings, sound_visit_begun, Stage, subst, suc, suc-mul, sym, take, take-append-drop}
-use Rattle.ksm_book.proofs.Names.{take-suc, take_all, then_doing, true, true≢false, up_to, visit, visit_begun, visit_of, visits, visits_beside, Waiting, with_none_waiting, Zero, zero, ℕ}
-use Rattle.ksm_book.proofs.Names.{[], ⊤, ◌*◌, ◌++◌, ◌+◌, ◌-◌, ◌<◌, ◌||◌, ◌∙◌, ◌∷◌, ◌≡◌, ◌≤◌}
+use Rattle.ksm_book.proofs.Names.{after_cursor, Ahead, ahead_before, AllPairs-filter, and_right, ap, append-nil, AreAscending, arith, At, begun, best_dup, BookState, Bool, cases_Bool, change_row}
+use Rattle.ksm_book.proofs.Names.{comes_before, Deed, drop, drop_all, drop_more, DupRow, each_at_page, End, EndsAt, false, filter, filter_all, filter_mapped, find_all, find_passes}
+use Rattle.ksm_book.proofs.Names.{get_or, get_or_from_slice_get, GuestPage, handled, has_item, idle, inl, InPageOrder, inr, is_none, is_nowhere, is_restless, is_some, IsSound, IsStill, last_of}
+use Rattle.ksm_book.proofs.Names.{last_of_take, last_visited, length, length-take-le, List, map, map_mapped, mapped_some, mergeable_pages, Merged, next_row, next_visited, None, none_mapped, Option}
+use Rattle.ksm_book.proofs.Names.{option_map, page, page_visited, pages_ahead, pages_visited, PageState, paired, pairs_mapped, partner, pass_begun, pass_ended, pass_ended_at_last, passes_ended, refl}
+use Rattle.ksm_book.proofs.Names.{restless_at, restless_row, Row, row_at, row_done, row_visited, rowwise_visits, settled, slice_get, slice_get_within, Some, sound_cursor}
+use Rattle.ksm_book.proofs.Names.{sound_row_visited, sound_settings, sound_visit_begun, Stage, subst, suc, suc-mul, sym, take, take_all, then_doing, true, true≢false}
+use Rattle.ksm_book.proofs.Names.{up_to, visit, visit_begun, visit_of, visits, visits_beside, Waiting, with_none_waiting, Zero, zero, ℕ, [], ⊤, ◌*◌, ◌+◌, ◌-◌, ◌<◌, ◌||◌, ◌∙◌, ◌∷◌, ◌≡◌, ◌≤◌}
 use Rattle.ksm_book.proofs.Along.{Before, behind_first, place_of, place_splits}
 use Rattle.ksm_book.proofs.ByPage.{found_page, row_of_page}
 use Rattle.ksm_base.specs.declared.row.PageState.TheVariants.{Private}
@@ -38,13 +37,6 @@ ascending_mergeable rows rise =
 -- the pages ahead ascend where the rows are in page order
 pub ascending_ahead : (b : BookState) → InPageOrder b.rows → AreAscending (pages_ahead b)
 ascending_ahead b rise = AllPairs-filter Before _ _ (ascending_mergeable _ rise)
-
-behind_done : (done left : List GuestPage) (cursor : Option GuestPage) (pages : List GuestPage) → AreAscending pages
-    → filter (after_cursor cursor) pages ≡ done ++ left
-    → filter (after_cursor (last_of cursor done)) pages ≡ left
-behind_done [] left cursor pages rise is = is
-behind_done (page ∷ done) left cursor pages rise is =
-    behind_done done left (Some page) pages rise (behind_first _ _ _ _ rise is)
 
 -- rows that settled are settled
 pub settled_twice : (rows : List Row) → map settled (map settled rows) ≡ map settled rows
@@ -181,69 +173,66 @@ module _ (s : Stage) where
   abbrev pub after : List GuestPage → Stage
   after pages = pages_visited (begun s) pages
 
-  -- the first n pages ahead were visited, with the cursor at the last
-  abbrev pub stood : ℕ → Stage
-  stood n = (
-    record (after (take n ahead)).0 { cursor = last_of (visit_begun s.0).cursor (take n ahead) },
-    (after (take n ahead)).1,
-  )
+  -- pages were visited, with the cursor at the last
+  abbrev pub stood : List GuestPage → Stage
+  stood pages = (record (after pages).0 { cursor = last_of (visit_begun s.0).cursor pages }, (after pages).1)
 
-  module _ (sound : IsSound s.0) where
-    -- the book is sound once a visit begins
-    pub begun_sound : IsSound (visit_begun s.0)
-    begun_sound = sound_visit_begun s.0 sound
+-- so many visits led to a sound book, with a page at its cursor and others ahead; the pass ends if none is
+abbrev Led : Stage → Stage → List GuestPage → ℕ → Type 0
+Led s t others made =
+    IsSound t.0 × (pages_ahead t.0 ≡ others) × (is_some t.0.cursor ≡ true) × (visits_beside made s ≡ (pass_ended_at_last t.0, t.1))
 
-    -- the pages ahead once a visit begins ascend
-    pub ascending : AreAscending ahead
-    ascending = ascending_ahead (visit_begun s.0) begun_sound.rows_rise
+-- the first page ahead is visited next
+first_visited : (s : Stage) (page : GuestPage) (more : List GuestPage) → IsSound (begun s).0 → ahead s ≡ page ∷ more
+    → Led s (stood s (page ∷ [])) more 1
+first_visited s page more sound is =
+    let next = some_next (begun s).0 is in
+    let visit = next_is_page (begun s) next.0 sound.rows_rise next.1 in
+    let went = page_goes (begun s) page sound in (
+      sound_cursor _ _ went.0,
+      ap (filter (after_cursor (Some page))) went.1 ∙ behind_first _ _ page more (ascending_mergeable _ sound.rows_rise) is,
+      refl,
+      grind (arith, visit, next.1, next.2),
+    )
 
-    goes_then : (n : ℕ) → Goes (visit_begun s.0) (after (take n ahead)).0
-    goes_then n = pages_go (take n ahead) (begun s) begun_sound
+-- visits are those of the pages ahead, one after another; the pass ends with the last of them
+pub visits_folded : (n : ℕ) (s : Stage) (pages : List GuestPage) → IsSound (begun s).0 → ahead s ≡ pages → n < length pages
+    → Led s (stood s (take (suc n) pages)) (drop (suc n) pages) (suc n)
+visits_folded n s [] sound is lt = absurd (omega arith)
+visits_folded zero s (p ∷ pages) sound is lt = first_visited s p pages sound is
+visits_folded (suc n) s (p ∷ []) sound is lt = absurd (omega arith)
+visits_folded (suc n) s (p ∷ q ∷ pages) sound is lt =
+    let first = first_visited s p (q ∷ pages) sound is in
+    let t = stood s (p ∷ []) in
+    let from : begun t ≡ t = grind (arith, pass_goes_on t.0 q pages first.1) in
+    let later = visits_folded n t (q ∷ pages) (subst (λ (z : Stage). IsSound z.0) (sym from) first.0) (ap (λ (z : Stage). pages_ahead z.0) from ∙ first.1) (omega arith) in
+    let one : visits_beside 1 s ≡ t = first.3 ∙ grind (arith, pass_goes_on t.0 q pages first.1) in
+    let done = page_visited (begun s) p in
+    let same : stood t (take (suc n) (q ∷ pages)) ≡ stood s (p ∷ take (suc n) (q ∷ pages)) =
+    grind (arith, from, pages_alike (Some p) done.0.passes (take (suc n) (q ∷ pages)) done, pages_stay (take (suc n) (q ∷ pages)) done) in
+    subst (λ z. Led s z (drop (suc n) (q ∷ pages)) (suc (suc n))) same
+    (later.0, later.1, later.2, beside_on 1 (suc n) (suc (suc n)) s (omega arith) ∙ ap (visits_beside (suc n)) one ∙ later.3)
 
-    -- once the first n pages ahead were visited, the others are ahead
-    pub ahead_then : (n : ℕ) → pages_ahead (stood n).0 ≡ drop n ahead
-    ahead_then n =
-        ap (filter (after_cursor (stood n).0.cursor)) (goes_then n).1
-        ∙ behind_done (take n ahead) (drop n ahead) _ _ (ascending_mergeable _ begun_sound.rows_rise) (sym (take-append-drop n ahead))
+module _ (s : Stage) (sound : IsSound s.0) where
+  -- the book is sound once a visit begins
+  pub begun_sound : IsSound (visit_begun s.0)
+  begun_sound = sound_visit_begun s.0 sound
 
-    one_more : (n : ℕ) (page : GuestPage) → slice_get ahead n ≡ Some page → begun (visits_beside n s) ≡ stood n
-        → visits_beside (suc n) s ≡ (pass_ended_at_last (stood (suc n)).0, (stood (suc n)).1)
-    one_more n page at from =
-        let t = stood n in
-        let lt = slice_get_within ahead n page at in
-        let here = get_or_from_slice_get ahead n page page at in
-        let next = some_next t.0 (ahead_then n ∙ drop_more ahead n page lt ∙ ap (λ p. p ∷ drop (n + 1) ahead) here) in
-        let visit = subst (λ p. page_visited t p ≡ row_done t next.0) next.2
-        (next_is_page t next.0 (goes_then n).0.rows_rise next.1) in
-        let more = take-suc ahead n page lt ∙ ap (λ p. take n ahead ++ p ∷ []) here in
-        grind (
-          arith,
-          from,
-          visit,
-          more,
-          page_alike t.0.cursor t.0.passes (after (take n ahead)) page,
-          fold-append page_visited (begun s) (take n ahead) (page ∷ []),
-          last_of_take ahead n (visit_begun s.0).cursor at,
-          pages_stay (take n ahead) (begun s),
-          pages_stay (take (suc n) ahead) (begun s),
-        )
+  -- the pages ahead once a visit begins ascend
+  pub ascending : AreAscending (ahead s)
+  ascending = ascending_ahead (visit_begun s.0) begun_sound.rows_rise
 
-    -- the visit behind those of the first n pages ahead begins where these have led
-    pub begun_folded : (n : ℕ) (page : GuestPage) → slice_get ahead n ≡ Some page
-        → begun (visits_beside n s) ≡ stood n
-    begun_folded zero page at = refl
-    begun_folded (suc n) page at =
-        let lt = slice_get_within ahead (suc n) page at in
-        let there = slice_get-get_or ahead n page (omega arith) in
-        let made = one_more n _ there (begun_folded n _ there) in
-        let cut = ahead_then (suc n) ∙ drop_more ahead (suc n) page lt in
-        let last = last_of_take ahead n (visit_begun s.0).cursor there in
-        grind (arith, made, last, pass_goes_on (stood (suc n)).0 _ _ cut)
+  made_first : (n : ℕ) → n < length (ahead s) → Led s (stood s (take (suc n) (ahead s))) (drop (suc n) (ahead s)) (suc n)
+  made_first n lt = visits_folded n s (ahead s) begun_sound refl lt
 
-    -- as many visits as lead up to a page ahead are those of the pages up to it; the pass ends if it is the last
-    pub visits_folded : (n : ℕ) (page : GuestPage) → slice_get ahead n ≡ Some page
-        → visits_beside (suc n) s ≡ (pass_ended_at_last (stood (suc n)).0, (stood (suc n)).1)
-    visits_folded n page at = one_more n page at (begun_folded n page at)
+  -- the visit behind those of the first n pages ahead begins where these have led
+  pub begun_folded : (n : ℕ) (page : GuestPage) → slice_get (ahead s) n ≡ Some page
+      → begun (visits_beside n s) ≡ stood s (take n (ahead s))
+  begun_folded zero page at = refl
+  begun_folded (suc n) page at =
+      let lt = slice_get_within (ahead s) (suc n) page at in
+      let made = made_first n (omega arith) in
+      grind (arith, made.2, made.3, pass_goes_on (stood s (take (suc n) (ahead s))).0 _ _ (made.1 ∙ drop_more (ahead s) (suc n) page lt))
 
 -- a pass has gone through all pages where so many visits end nowhere
 pub nowhere_is : (b : BookState) (most : ℕ) (ahead : Ahead) → EndsAt (pages_ahead b) most ahead
@@ -292,24 +281,20 @@ module _ (s : Stage) (sound : IsSound s.0) where
   page_made most page some ends =
       let n = most - 1 in
       let one : suc n ≡ most = omega arith in
-      let made = visits_folded s sound n page ends.1 in
+      let made = made_first s sound n (omega arith) in
       let first = (place_splits (ahead s) n page (ascending s sound) ends.1).1 in
-      let stays = pass_goes_on (stood s (suc n)).0 _ _
-      (ahead_then s sound (suc n) ∙ drop_more (ahead s) (suc n) page (omega arith)) in
-      grind (arith, last_of_take (ahead s) n (visit_begun s.0).cursor ends.1)
+      let stays = pass_goes_on (stood s (take (suc n) (ahead s))).0 _ _ (made.1 ∙ drop_more (ahead s) (suc n) page (omega arith)) in
+      grind (arith, made.3, last_of_take (ahead s) n (visit_begun s.0).cursor ends.1)
 
   -- as many visits as there are pages ahead are the visits of all of them, and then the end of the pass
   pass_made : 1 ≤ length (ahead s) → visits_beside (length (ahead s)) s ≡ ended s 1
   pass_made some =
       let n = length (ahead s) - 1 in
       let one : suc n ≡ length (ahead s) = omega arith in
-      let at = slice_get-get_or (ahead s) n (record { guest = 0; page = 0 }) (omega arith) in
-      let made = visits_folded s sound n _ at in
-      let none = none_next (stood s (suc n)).0
-      (ahead_then s sound (suc n) ∙ drop_all (suc n) (ahead s) (omega arith)) in
-      let last = last_of_take (ahead s) n (visit_begun s.0).cursor at in
+      let made = made_first s sound n (omega arith) in
+      let none = none_next (stood s (take (suc n) (ahead s))).0 (made.1 ∙ drop_all (suc n) (ahead s) (omega arith)) in
       let all = filter_all (up_to None) (ahead s) (λ k d lt. refl) in
-      grind (arith, take_all (suc n) (ahead s) (omega arith))
+      grind (arith, made.2, made.3, take_all (suc n) (ahead s) (omega arith))
 
 module _ (s : Stage) (sound : IsSound s.0) (some : 1 ≤ length (mergeable_pages s.0.rows)) where
   abbrev size : ℕ
@@ -379,11 +364,3 @@ module _ (s : Stage) (sound : IsSound s.0) (page : GuestPage) (there : has_item 
       let order = ascending s sound (most - 1) place page in
       grind (arith, many, stands, get_or_from_slice_get, slice_get_within (ahead s) place page stands)
   stopped_fewer (End made) some comes passes = omega (arith, many, slice_get_within (ahead s) place page stands)
-
--- as a pass begins nothing changes but which rows wait
-pub begins_still : (s : Stage) → IsStill s (pass_begun s.0, s.1)
-begins_still s = grind (arith, settled_twice)
-
--- what changed only which rows wait changed no more once a pass begins
-pub begun_still : (b : BookState) (x : Deed) (new : Stage) → IsStill (b, x) new → IsStill (pass_begun b, x) new
-begun_still b x new still = grind (arith, settled_twice)

@@ -1,8 +1,8 @@
 -- Rows that wait no more: that of a page with a frame of its own, and those from a page on, one after another.
 use Rattle.ksm_book.proofs.DueAlike.{at_own_page}
 use Rattle.ksm_book.proofs.Names.{ap, arith, BookValue, BookView, change_row, comes_before, every_row, false, find, GuestPage, hidden_from, if◌then◌else◌, InPageOrder, is_next, IsAlone, List}
-use Rattle.ksm_book.proofs.Names.{map_alike, None, not, on_its_own, Option, option_map, ordered_change, page, Row, row_at, same_page_eq, same_page_sym, settled, shared_state, Some}
-use Rattle.ksm_book.proofs.Names.{sym, true, view_of, with_rows, ◌∙◌, ◌≡◌, ◌⊎◌}
+use Rattle.ksm_book.proofs.Names.{map_alike, None, not, on_its_own, Option, option_map, ordered_change, page, Row, row_at, same_page_eq, same_page_sym, settled, shared_state, Some, sym, true, view_of}
+use Rattle.ksm_book.proofs.Names.{with_rows, ◌∙◌, ◌≡◌, ◌⊎◌}
 use Rattle.ksm_book.proofs.Along.{along, along_end, along_next, IsAlong, passed}
 use Rattle.ksm_book.proofs.ByPage.{found_page, row_of_page}
 use Rattle.ksm_book.proofs.Singles.{change_still}

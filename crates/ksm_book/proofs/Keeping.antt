@@ -1,14 +1,12 @@
 -- The keeper's steps: what they make of a placement, of the lives spent and of the sets of free and dying frames; and
 -- frames that are found, filled and mounted.
-use Rattle.ksm_book.proofs.Names.{All, arith, blank, cases_eq, cases_lt, did, DupRow, dying_on, filter_passes, frame_at, Frames, frames_of, get_or, get_or-set_other, get_or-set_same, get_or_past}
-use Rattle.ksm_book.proofs.Names.{IfSome, KeeperView, Keeps, leaving, Ledger, length, length-set, List, MakesSteps, map, MayLeave, None, Note, Option, Placed, Reap, reaped, refl, Row, set, Shape}
-use Rattle.ksm_book.proofs.Names.{Some, spent, spent_on, suc, sum_by-set, with_frame, ℕ, [], ◌+◌, ◌<◌, ◌∷◌, ◌≡◌, ◌≤◌, Add, added, ap, Dying, Finds, Free, HasNewFrame, holding, IsLawful, loads}
-use Rattle.ksm_book.proofs.Names.{mounting, Open, opened, PAGE_WORDS, puts, Raise, raised, replicate, set-get_or, set-set, stepped, with_more, zero, ◌-◌, ◌∙◌, dying_from, dying_kind}
-use Rattle.ksm_book.proofs.Names.{FindsNone, free_kind, NoneOf, true, ◌*◌, once_mounted, AreSets, Bool, cond, Freeze, inl, inr, Kind, Marks, Stable, Sub, ◌≢◌, ◌⊎◌}
-use Rattle.std.proofs.lemmas.List.{set_past}
-use Rattle.ksm_book.proofs.Made.{first_made, none_made, step_made, made_one, made_part, made_then, made_none}
+use Rattle.ksm_book.proofs.Names.{Add, added, All, ap, AreSets, arith, blank, Bool, cases_eq, cases_lt, cond, did, DupRow, Dying, dying_from, dying_kind, dying_on, filter_passes, Finds, FindsNone}
+use Rattle.ksm_book.proofs.Names.{frame_at, Frames, frames_of, Free, free_kind, Freeze, get_or, get_or-set_other, get_or-set_same, get_or_past, HasNewFrame, holding, IfSome, inl, inr, IsLawful}
+use Rattle.ksm_book.proofs.Names.{KeeperView, Keeps, Kind, leaving, Ledger, length, length-set, List, loads, MakesSteps, map, Marks, MayLeave, mounting, named_anew, None, NoneOf, Note, once_mounted}
+use Rattle.ksm_book.proofs.Names.{Open, opened, Option, PAGE_WORDS, Placed, puts, Raise, raised, Reap, reaped, refl, replicate, Row, set, set-get_or, set-set, set_past, Shape, Some, spent, spent_on}
+use Rattle.ksm_book.proofs.Names.{Stable, stepped, Sub, suc, sum_by-set, true, with_frame, with_more, zero, ℕ, [], ◌*◌, ◌+◌, ◌-◌, ◌<◌, ◌∙◌, ◌∷◌, ◌≡◌, ◌≢◌, ◌≤◌, ◌⊎◌}
+use Rattle.ksm_book.proofs.Made.{first_made, none_made, made_one, made_part, made_then, made_none}
 use Rattle.ksm_book.proofs.Noted.{noted}
-use Rattle.frame_core.specs.Ledger.{named_anew}
 
 -- the lives spent, where one frame's note is another, differ by those of this frame
 pub spent_set : (k : Ledger) (g : ℕ) (fr : Note) → g < length k.frames → spent (with_frame k g fr) + spent_on (frame_at k g) ≡ spent k + spent_on fr
@@ -27,24 +25,6 @@ module _ {sh : Shape} {across : ℕ} {rows : List Row} {frame : Frames} {dups : 
   pub held_inside : {k : Ledger} {g : ℕ} → Placed sh across k rows frame dups (Some g)
       → (g < frames_of sh) × (1 ≤ (frame_at k g).base)
   held_inside {k} {g} p = grind (arith, held_within k g, p.bases g)
-
-  -- the frame in hand, if there is one, may be left
-  pub may_leave : (v : KeeperView) → v.table.shape ≡ sh → (o : Option ℕ) → Placed sh across v.ledger rows frame dups o
-      → IfSome o (MayLeave v)
-  may_leave v same None p = tt
-  may_leave v same (Some g) p = grind (arith, held_inside p)
-
-  -- what was in hand was given back: rows and dups lie lawfully
-  pub left_placed : {v w : KeeperView} (o : Option ℕ) → MakesSteps v w (leaving o)
-      → Placed sh across v.ledger rows frame dups o → Placed sh across w.ledger rows frame dups None
-  left_placed None m p = rw (none_made m) p
-  left_placed (Some g) m p =
-      rw (step_made m).1 (noted p g (held_inside p).0 _ None (grind (arith, held_inside p)) (grind arith))
-
--- a reference given back ends no life
-pub left_spends : {v w : KeeperView} (o : Option ℕ) → MakesSteps v w (leaving o) → spent v.ledger ≤ spent w.ledger
-left_spends None m = grind (arith, m, none_made m)
-left_spends (Some g) m = grind (arith, step_made m, spent_kept)
 
 -- a frame that the keeper knows, on which nothing is
 abbrev IsLeft : Ledger → ℕ → Type 0

@@ -1,15 +1,15 @@
 -- What becomes of pages that lie lawfully, where the keeper makes its steps, and where a page gets another frame.
-use Rattle.ksm_book.proofs.Names.{All, arith, blank, cases_lt, change_row, cond_both, default_knobs, DupRow, false, find_all, first_ledger, frame_at, Frames, get_or, get_or_past, GuestPage}
-use Rattle.ksm_book.proofs.Names.{HasNewFrame, inl, InPageOrder, IsLaid, IsServed, IsShape, KeeperView, Keeps, Knobs, Ledger, length-replicate, lies_on, List, map, None, nowhere, Option}
-use Rattle.ksm_book.proofs.Names.{PagesView, Placed, refl, Row, row_at, Shape, shared_state, Some, spent, subst, with_row, ℕ, [], ◌≡◌, ◌≤◌, ◌⊎◌, FindsNone, IfSome, leaving, MakesSteps}
-use Rattle.ksm_book.proofs.Names.{lying, MayLeave, Provides, Resettles, TurnedAway}
+use Rattle.ksm_book.proofs.Names.{All, arith, blank, cases_lt, change_row, cond_both, default_knobs, DupRow, false, find_all, FindsNone, first_ledger, frame_at, Frames, get_or, get_or-replicate}
+use Rattle.ksm_book.proofs.Names.{get_or_past, GuestPage, HasNewFrame, IfSome, inl, InPageOrder, IsLaid, IsServed, IsShape, KeeperView, Keeps, Knobs, leaving, Ledger, length-replicate, lies_on, List}
+use Rattle.ksm_book.proofs.Names.{lying, MakesSteps, map, MayLeave, None, nowhere, Option, PagesView, Placed, Provides, refl, relaid, Resettles, Row, row_at, Shape, shared_state, Some, spent, subst}
+use Rattle.ksm_book.proofs.Names.{TurnedAway, with_row, ℕ, [], ◌≡◌, ◌≤◌, ◌⊎◌}
 use Rattle.ksm_base.specs.declared.row.PageState.TheVariants.{Private as OwnPage}
 use Rattle.ksm_book.proofs.ByPage.{found_page, row_of_page}
-use Rattle.std.proofs.lemmas.List.{get_or-replicate}
 use Rattle.ksm_book.proofs.Moves.{inserted, remapped, Serves, swapped}
-use Rattle.ksm_pages.specs.Paged.{relaid}
 use Rattle.ksm_book.proofs.Shown.{provides_does}
-use Rattle.ksm_book.proofs.Keeping.{left_placed, left_spends, may_leave, searched_placed, searched_spends}
+use Rattle.ksm_book.proofs.Keeping.{held_inside, searched_placed, searched_spends, spent_kept}
+use Rattle.ksm_book.proofs.Made.{none_made, step_made}
+use Rattle.ksm_book.proofs.Noted.{noted}
 
 -- a row may stand in the stead of another on its frame: same home and bytes, and the same state, or neither is shared
 abbrev pub LodgesAs : Row → Row → Type 0
@@ -21,24 +21,6 @@ module _ {sh : Shape} {across : ℕ} {rows : List Row} {frame : Frames} {dups : 
       → Keeps v w hand hand' → Placed sh across v.ledger rows frame dups hand → Placed sh across w.ledger rows frame dups hand'
   kept v same w hand' keeps p = rw (← same) (keeps across rows frame dups (rw same p))
 
-  -- the frame taken serves a row with its bytes on its home
-  module _ {v w : KeeperView} (same : v.table.shape ≡ sh) {node : ℕ} {bytes : List ℕ} {g : ℕ} (took : HasNewFrame v w node bytes g) (p : Placed sh across v.ledger rows frame dups None) where
-    in_new_hand : Placed sh across w.ledger rows frame dups (Some g)
-    in_new_hand = kept v same w _ took.keeps p
-
-    serves : (r : Row) → r.state ≡ OwnPage → r.home ≡ node → r.bytes ≡ bytes → Serves sh w.ledger dups r g
-    serves r own home content = grind (arith, in_new_hand)
-
-    -- a page moves to the frame taken, where its row tells so: its placement is lawful, with the frame that it had, if it had one, in hand
-    pub moved_there : {page : GuestPage} {row : Row} (c : Row → Row) → InPageOrder rows → row_at page rows ≡ Some row → ((r : Row) → (c r).page ≡ r.page) → (c row).state ≡ OwnPage
-        → (c row).home ≡ node → (c row).bytes ≡ bytes → Placed sh across w.ledger (change_row page c rows) (lies_on page (Some g) frame) dups (frame page)
-    moved_there c rise found keeps own home content =
-        swapped (Some g) c _ rise found keeps in_new_hand (serves _ own home content)
-
-    -- where a new row comes on the frame taken, rows and dups lie lawfully
-    pub come_there : (r : Row) → row_at r.page rows ≡ None → r.state ≡ OwnPage → r.home ≡ node → r.bytes ≡ bytes → Placed sh across w.ledger (with_row r rows) (lies_on r.page (Some g) frame) dups None
-    come_there r absent own home content = inserted _ r absent in_new_hand (serves r own home content)
-
   module _ {k : Ledger} {hand : Option ℕ} (p : Placed sh across k rows frame dups hand) where
     -- the row of a page is served by its frame
     pub served_at : (page : GuestPage) (row : Row) → row_at page rows ≡ Some row → IsServed sh k dups row (frame page)
@@ -48,7 +30,39 @@ module _ {sh : Shape} {across : ℕ} {rows : List Row} {frame : Frames} {dups : 
     pub serves_at : {page : GuestPage} {row : Row} {g : ℕ} → row_at page rows ≡ Some row → frame page ≡ Some g → Serves sh k dups row g
     serves_at found lies = rw lies at (served_at _ _ found)
 
+-- pages lie lawfully, but that a reference on a frame is in hand, or none
+pub record LiesWith (hand : Option ℕ) (p : PagesView) (k : KeeperView) : Type 0 where
+  pub small : IsShape p.shape
+  pub same : k.table.shape ≡ p.shape
+  pub placed : Placed p.shape p.knobs.merge_across_nodes k.ledger p.rows p.frame p.dups hand
+  pub spent : p.next ≤ spent k.ledger
+
+-- the frame in hand, if there is one, may be left
+pub may_leave : {hand : Option ℕ} {p : PagesView} {k : KeeperView} → LiesWith hand p k → IfSome hand (MayLeave k)
+may_leave {hand = None} h = tt
+may_leave {hand = Some g} h = grind (arith, held_inside h.placed)
+
+-- pages lie lawfully once it was left
+pub laid_left : {hand : Option ℕ} {p : PagesView} {k : KeeperView} → LiesWith hand p k → (w : KeeperView) → MakesSteps k w (leaving hand) → IsLaid p w
+laid_left {hand = None} h w m = rw (none_made m) (grind arith)
+laid_left {hand = Some g} h w m = record {
+  small = h.small;
+  same = rw m.after h.same;
+  placed = rw (step_made m).1 (noted h.placed g (held_inside h.placed).0 _ None (grind (arith, held_inside h.placed)) (grind arith));
+  spent = grind (arith, h.spent, step_made m, spent_kept);
+}
+
+-- the row of a page changes, the page lies on the frame that was in hand, if one was, and its own comes into the hand
+pub lies_changed : {hand : Option ℕ} {p : PagesView} {k : KeeperView} {page : GuestPage} {row : Row} → LiesWith hand p k → (c : Row → Row)
+    → InPageOrder p.rows → row_at page p.rows ≡ Some row → ((r : Row) → (c r).page ≡ r.page) → IsServed p.shape k.ledger p.dups (c row) hand
+    → LiesWith (p.frame page) (relaid page c hand p) k
+lies_changed {hand} h c rise found keeps new = grind (arith, swapped hand c _ rise found keeps h.placed new)
+
 module _ {p : PagesView} {k : KeeperView} (h : IsLaid p k) where
+  -- pages that lie lawfully do so with nothing in hand
+  pub with_none : LiesWith None p k
+  with_none = grind arith
+
   abbrev across : ℕ
   across = p.knobs.merge_across_nodes
 
@@ -85,23 +99,36 @@ pub first_laid : {sh : Shape} {k : KeeperView} → IsShape sh → k.table.shape 
     → IsLaid (record { shape = sh; rows = []; frame = nowhere; dups = []; knobs = default_knobs; next = 0 }) k
 first_laid {sh} is same first = grind (arith, length-replicate, first_note, get_or-replicate, get_or_past, cases_lt)
 
+module _ {p : PagesView} {k w : KeeperView} (h : IsLaid p k) {node : ℕ} {bytes : List ℕ} {g : ℕ} (provides : Provides k w node bytes g)
+    (taken : HasNewFrame k w node bytes g) where
+  in_new_hand : LiesWith (Some g) p w
+  in_new_hand = grind (arith, kept k h.same w _ taken.keeps h.placed, (provides_does provides).1.table)
+
+  serves : (r : Row) → r.state ≡ OwnPage → r.home ≡ node → r.bytes ≡ bytes → Serves p.shape w.ledger p.dups r g
+  serves r own home content = grind (arith, in_new_hand)
+
+  -- pages lie lawfully where a new row comes on the frame taken
+  pub come_there : (r : Row) → row_at r.page p.rows ≡ None → r.state ≡ OwnPage → r.home ≡ node → r.bytes ≡ bytes
+      → IsLaid (record p { rows = with_row r p.rows; frame = lies_on r.page (Some g) p.frame }) w
+  come_there r absent own home content = grind (arith, in_new_hand, inserted _ r absent in_new_hand.placed (serves r own home content))
+
 module _ {p : PagesView} {k w : KeeperView} (h : IsLaid p k) (rise : InPageOrder p.rows) {page : GuestPage} {row : Row} (found : row_at page p.rows ≡ Some row) {node : ℕ}
     {bytes : List ℕ} {g : ℕ} (provides : Provides k w node bytes g) (taken : HasNewFrame k w node bytes g) {left : Option ℕ} (was : left ≡ p.frame page) where
+  moved_there : (c : Row → Row) → ((r : Row) → (c r).page ≡ r.page) → (c row).state ≡ OwnPage → (c row).home ≡ node → (c row).bytes ≡ bytes
+      → LiesWith (p.frame page) (relaid page c (Some g) p) w
+  moved_there c keeps own home content =
+      lies_changed (in_new_hand h provides taken) c rise found keeps (serves h provides taken _ own home content)
+
   -- once a page has a new frame in hand, the frame that it had, if it had one, may be left
   pub may_left : IfSome left (MayLeave w)
-  may_left =
-      let change = λ (r : Row). record r { home = node; bytes = bytes; state = OwnPage } in
-      rw was (may_leave w (rw (provides_does provides).1.table h.same) _ (moved_there h.same taken h.placed change rise found (λ r. refl) refl refl refl))
+  may_left = rw was (may_leave (moved_there (λ r. record r { home = node; bytes = bytes; state = OwnPage }) (λ r. refl) refl refl refl))
 
   -- a page that took a frame with its bytes on a node, and left the one that it had, is resettled there, where its row tells so
   pub resettled : (change : Row → Row) → ((r : Row) → (change r).page ≡ r.page) → (change row).state ≡ OwnPage → (change row).home ≡ node → (change row).bytes ≡ bytes
       → {q : PagesView} {u : KeeperView} → q ≡ relaid page change (Some g) p → MakesSteps w u (leaving left) → Resettles (lying p k) (lying q u) page node bytes × IsLaid q u
   resettled change keeps own home content {u = u} goes made =
       let leaves = subst (λ o. MakesSteps w u (leaving o)) was made in
-      let lies = left_placed _ leaves (moved_there h.same taken h.placed change rise found keeps own home content) in (
-        grind arith,
-        rw goes (laid_rows h u (rw made.after (provides_does provides).1.table) (omega (arith, left_spends _ leaves)) lies),
-      )
+      (grind arith, rw goes (laid_left (moved_there change keeps own home content) u leaves))
 
 -- where no frame of a node was found, pages that lie lawfully are turned away, and no page changed
 pub turned : {p : PagesView} {k w : KeeperView} {node : ℕ} → IsLaid p k → FindsNone k w node → TurnedAway p p k w node

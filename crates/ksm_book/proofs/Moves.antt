@@ -1,16 +1,12 @@
 -- What each step of a command does to a placement.
-use Rattle.ksm_book.proofs.Names.{Agrees, All, All-contains_itself, All-filter, All-map, all_with_dup, all_with_row, ap, arith, Bool, cases_eq, cases_lt, find, change_row, Contains}
-use Rattle.ksm_book.proofs.Names.{Contains-append_left, Contains-append_right, count_alike}
-use Rattle.ksm_book.proofs.Names.{DupFits, DupRow, elsewhere, eq-eqb, false, filter, filter_passes, find_all, find_none, FitsBase, frame_at, Frames, frames_of, GenerationFits, get_or}
-use Rattle.ksm_book.proofs.Names.{get_or-set_other, get_or-set_same, GuestPage, holding, in_hand, inl, InPageOrder, inr, is_frame, IsInLife, IsServed, item_count, Ledger, length, length-set, lies_on}
-use Rattle.ksm_book.proofs.Names.{List, lt-ltb, map, Merged, merged_into, named_at, nat_lt, None, not, Note, Option, ordered_change, PAGE_WORDS, place_frame, Placed, Private, refl, Row, row_at}
-use Rattle.ksm_book.proofs.Names.{RowFits, same_page, same_page_refl, set, Shape, shared_state, shown, Some, Stable, stored, suc, sym, uses, with_dup, with_frame, with_row, without_page, Zero}
-use Rattle.ksm_book.proofs.Names.{zero_state, ℕ, ◌+◌, ◌/◌, ◌<◌, ◌∙◌, ◌∷◌, ◌≡◌, ◌≢◌}
+use Rattle.ksm_book.proofs.Names.{Agrees, All, All-contains_itself, All-filter, All-map, all_with_dup, all_with_row, ap, arith, Bool, cases_eq, cases_lt, change_row, Contains, Contains-append_left}
+use Rattle.ksm_book.proofs.Names.{Contains-append_right, Contains-get_or, contains_filter, count_alike, DupFits, DupRow, elsewhere, eq-eqb, false, filter, filter_passes, find, find_all, find_none}
+use Rattle.ksm_book.proofs.Names.{FitsBase, frame_at, Frames, frames_of, GenerationFits, get_or, get_or-set_other, get_or-set_same, GuestPage, holding, in_hand, inl, InPageOrder, inr, is_frame}
+use Rattle.ksm_book.proofs.Names.{IsInLife, IsServed, item_count, Ledger, length, length-set, lies_on, List, lt-ltb, map, Merged, merged_into, named_anew, named_at, nat_lt, None, not, Note, Option}
+use Rattle.ksm_book.proofs.Names.{ordered_change, PAGE_WORDS, place_frame, Placed, Private, refl, Row, row_at, RowFits, same_page, same_page_refl, set, Shape, shared_state, shown, Some, Stable}
+use Rattle.ksm_book.proofs.Names.{stored, suc, sym, uses, with_dup, with_frame, with_row, without_page, Zero, zero_state, ℕ, ◌+◌, ◌/◌, ◌<◌, ◌∙◌, ◌∷◌, ◌≡◌, ◌≢◌}
 use Rattle.ksm_book.proofs.Noted.{at_it, at_other, noted}
 use Rattle.ksm_book.proofs.ByPage.{all_changed_row, at_changed, change_twice, found_page, lies_again, lies_still, row_of_page, uses_changed, uses_come, uses_gone, uses_mapped, uses_some}
-use Rattle.frame_core.specs.Ledger.{named_anew}
-use Rattle.ksm_base.proofs.Changes.{contains_filter}
-use Rattle.std.proofs.lemmas.List.Elements.{Contains-get_or}
 
 -- what a search finds is in the list
 pub found_in : {X : Type 0} (t : X → Bool) (xs : List X) {x : X} → find t xs ≡ Some x → Contains xs x

@@ -1,6 +1,6 @@
 -- The definitions, and the laws of the libraries and crates below, by their names, for proofs.
 pub use Rattle.frame_core.proofs.Above.{frames_at_most}
-pub use Rattle.frame_core.specs.Ledger.{added, blank, filled, first_ledger, frame_at, frozen, IsLoose, IsReadable, IsWritable, ledger_after, named_at, opened, raised, reaped, shown}
+pub use Rattle.frame_core.specs.Ledger.{added, blank, filled, first_ledger, frame_at, frozen, IsLoose, IsReadable, IsWritable, ledger_after, named_anew, named_at, opened, raised, reaped, shown}
 pub use Rattle.frame_core.specs.Ledger.{with_frame}
 pub use Rattle.frame_core.specs.Rule.{GenerationFits}
 pub use Rattle.frame_core.specs.State.{count_in}
@@ -10,12 +10,12 @@ pub use Rattle.frame_core.specs.declared.frame.Kind.{Kind}
 pub use Rattle.frame_core.specs.declared.frame.Kind.TheVariants.{Dying, Free, Private, Stable}
 pub use Rattle.frame_core.specs.declared.ledger.Ledger.{Ledger}
 pub use Rattle.frame_core.specs.declared.ledger.Note.{Note}
-pub use Rattle.frame_core.specs.declared.seat.Life.{Life}
-pub use Rattle.frame_table.specs.Kept.{did, May}
+pub use Rattle.frame_table.specs.Kept.{Did, did, May}
 pub use Rattle.frame_table.specs.Named.{KeeperView}
+pub use Rattle.ksm_base.proofs.Changes.{contains_filter}
 pub use Rattle.ksm_base.proofs.Edits.{count_more, count_none, counts_one, find_all, find_none, find_nothing, find_passes, none_counted}
-pub use Rattle.ksm_base.proofs.Orders.{all_with_dup, all_with_row, each_has_number, filter_none, one_of_each_page, one_of_each_place, ordered_change, ordered_filter, ordered_map, ordered_with}
-pub use Rattle.ksm_base.proofs.Orders.{pairs_append, pairs_head, pairs_tail}
+pub use Rattle.ksm_base.proofs.Orders.{all_with_dup, all_with_row, each_has_number, filter_none, Lower, one_of_each_page, one_of_each_place, ordered_change, ordered_filter, pairs_append, pairs_head}
+pub use Rattle.ksm_base.proofs.Orders.{pairs_tail}
 pub use Rattle.ksm_base.proofs.Pages.{before_differs, before_irrefl, not_both, one_before, same_page_eq, same_page_refl, same_page_sym}
 pub use Rattle.ksm_base.proofs.RowCounts.{change_none, count_with_row, count_without_page, each_at_page, filter_all}
 pub use Rattle.ksm_base.proofs.SoundCounts.{joined_count, not_an_item}
@@ -23,84 +23,83 @@ pub use Rattle.ksm_base.proofs.SoundEdits.{no_dup_lives, sound_changed, sound_se
 pub use Rattle.ksm_base.proofs.SoundItems.{dup_of_item, home_of_item}
 pub use Rattle.ksm_base.proofs.SoundKnobs.{none_shared}
 pub use Rattle.ksm_base.proofs.SoundPair.{IsFree, new_place_free, next_is_new, waits_tells, WaitsFor}
-pub use Rattle.ksm_base.proofs.SoundScan.{settled_calmer, sound_none_waiting, sound_row_visited, sound_visit_begun}
+pub use Rattle.ksm_base.proofs.SoundScan.{settled_calmer, sound_cursor, sound_none_waiting, sound_row_visited, sound_visit_begun}
 pub use Rattle.ksm_base.proofs.SoundSteps.{sound_after, sound_opening}
 pub use Rattle.ksm_base.proofs.SoundVisit.{all_changed, best_dup_has_room, IsJoined}
 pub use Rattle.ksm_base.proofs.Visits.{rowwise_visits}
-pub use Rattle.ksm_base.specs.Answers.{Answer, every_row, IsScanned}
-pub use Rattle.ksm_base.specs.Apply.{effect, fresh_row, is_before, let_go, scan_stopped, stored, unshare_stopped, unshared}
+pub use Rattle.ksm_base.specs.Answers.{Answer, every_row, IsAnswerOrMemory, IsScanned}
+pub use Rattle.ksm_base.specs.Apply.{effect, fresh_row, is_before, let_go, moved, scan_stopped, stored, unshare_stopped, unshared}
 pub use Rattle.ksm_base.specs.Counting.{mergeable_count}
-pub use Rattle.ksm_base.specs.Reading.{mappers_of}
 pub use Rattle.ksm_base.specs.Refusals.{is_of, live_dup_at}
-pub use Rattle.ksm_base.specs.Rows.{change_row, change_rows, comes_before, dup_numbered, has_items, InPageOrder, InPlaceOrder, is_stale, item_count, merged_into, merged_state, row_at}
-pub use Rattle.ksm_base.specs.Rows.{same_page, settled, shared_state, waiting_state, with_dup, with_row, without_page, zero_state}
+pub use Rattle.ksm_base.specs.Rows.{change_row, change_rows, comes_before, has_items, InPageOrder, InPlaceOrder, is_stale, item_count, merged_into, merged_state, row_at, same_page, settled}
+pub use Rattle.ksm_base.specs.Rows.{shared_state, waiting_state, with_dup, with_row, without_page, zero_state}
 pub use Rattle.ksm_base.specs.Sound.{IsDupOf, IsSound}
 pub use Rattle.ksm_base.specs.State.{BookState, default_knobs, pass_ended, place_count, tree_of, with_none_waiting}
 pub use Rattle.ksm_base.specs.Values.{frames_of, IsShape}
 pub use Rattle.ksm_base.specs.Visit.{after_cursor, best_dup, empty_from, handled, is_best, is_for_zero, is_no_rival, is_no_worse, made_dup, may_join, new_place, next_row, paired, partner, pass_begun}
-pub use Rattle.ksm_base.specs.Visit.{pass_ended_at_last, row_visited, stayed, visit, visit_begun, visit_of, visits, waits_for}
+pub use Rattle.ksm_base.specs.Visit.{pass_ended_at_last, row_visited, visit, visit_begun, visit_of, visits, waits_for}
 pub use Rattle.ksm_base.specs.declared.command.Command.{Command}
-pub use Rattle.ksm_base.specs.declared.command.Command.TheVariants.{Drop, Mergeable, MoveDup, MovePage, Prune, Register, Scan, SetAcross, SetLimit, SetRun}
-pub use Rattle.ksm_base.specs.declared.command.Command.TheVariants.{SetPagesToScan, Store, Unmerge}
+pub use Rattle.ksm_base.specs.declared.command.Command.TheVariants.{Drop, Mergeable, MoveDup, MovePage, Prune, Register, Scan, SetAcross, SetLimit, SetPagesToScan, SetRun, Store, Unmerge}
 pub use Rattle.ksm_base.specs.declared.fault.Fault.{Fault}
-pub use Rattle.ksm_base.specs.declared.fault.Fault.TheVariants.{InUse, NoFrame, UnknownPage}
+pub use Rattle.ksm_base.specs.declared.fault.Fault.TheVariants.{InUse, Memory, NoFrame, UnknownPage}
 pub use Rattle.ksm_base.specs.declared.knobs.Knobs.{Knobs}
-pub use Rattle.ksm_base.specs.declared.limits.TheConstants.{MOST_REFERENCES}
+pub use Rattle.ksm_base.specs.declared.limits.TheConstants.{MOST_FRAMES, MOST_LIVES, MOST_REFERENCES}
 pub use Rattle.ksm_base.specs.declared.page.GuestPage.{GuestPage}
 pub use Rattle.ksm_base.specs.declared.page.TheConstants.{PAGE_WORDS}
-pub use Rattle.ksm_base.specs.declared.reply.Reply.TheVariants.{Done, Pruned, Scanned, Unmerged}
 pub use Rattle.ksm_base.specs.declared.reply.Reply.{Reply}
+pub use Rattle.ksm_base.specs.declared.reply.Reply.TheVariants.{Done, Pruned, Scanned, Unmerged}
 pub use Rattle.ksm_base.specs.declared.row.DupRow.{DupRow}
 pub use Rattle.ksm_base.specs.declared.row.PageState.{PageState}
 pub use Rattle.ksm_base.specs.declared.row.PageState.TheVariants.{Merged, Waiting, Zero}
 pub use Rattle.ksm_base.specs.declared.row.Row.{Row}
 pub use Rattle.ksm_base.specs.declared.shape.Shape.{Shape}
-pub use Rattle.ksm_book.specs.Carried.{CarriedOut, IsCarried, scanning, UnmergesTo}
-pub use Rattle.ksm_book.specs.Commands.{Deed, dup_frame, emptying, Finds, FindsHeld, FindsNone, frame_number, handling, idle, instead, leaving, Mapped, mounting, Moves, pairing}
-pub use Rattle.ksm_book.specs.Commands.{Performs, Provides, pruning, Resettles, ResettlesEach, rewriting, row_visiting, then_doing, withdrawing}
-pub use Rattle.ksm_book.specs.Due.{AreDue, comes_later, due_visited, DueView, FindsFirst, freed, hidden_from, names, pages_of, part_before, part_visited, StaysBefore}
-pub use Rattle.ksm_book.specs.Due.{takes_over, TakesOver, TellsDue, waits_on, with_rows}
+pub use Rattle.ksm_book.specs.Carried.{CarriedOut, IsCarried, scanning, StoresTo, TakesSteps, UnmergesTo}
+pub use Rattle.ksm_book.specs.Commands.{Deed, dup_frame, Finds, FindsHeld, FindsNone, frame_number, idle, instead, IsIdle, leaving, Mapped, mounting, Moves, Performs, Provides, pruning, Resettles}
+pub use Rattle.ksm_book.specs.Commands.{ResettlesEach, rewriting, row_visiting, then_doing, withdrawing}
+pub use Rattle.ksm_book.specs.Due.{AreDue, comes_later, due_visited, DueView, FindsFirst, freed, hidden_from, names, pages_of, part_before, part_visited, StaysBefore, takes_over, TakesOver, TellsDue}
+pub use Rattle.ksm_book.specs.Due.{waits_on, with_rows}
 pub use Rattle.ksm_book.specs.Folded.{begun, IsStill, next_visited, page_visited, pages_ahead, pages_visited, restless_at, restless_row, row_done, Stage, visited, visits_beside}
-pub use Rattle.ksm_tree.specs.NumberSets.{has, Marks}
-pub use Rattle.ksm_book.specs.Keeping.{AreSets, MayLeave, HasNewFrame, holding, IsLawful, Keeps, NoneLeft, spent, spent_on, with_more, HasLost, HasMoved, MayMount, once_mounted}
-pub use Rattle.ksm_book.specs.Laid.{HasRemounted, IsLaid, lying, MayMove, state_of, TurnedAway, HasLeft, is_shared_of, left_by, MayNotLeave, Unshares}
-pub use Rattle.ksm_book.specs.Placement.{Agrees, DupFits, FitsBase, in_hand, is_frame, IsInLife, IsServed, life_or, node_of, place_frame, Placed, RowFits, uses}
+pub use Rattle.ksm_book.specs.Keeping.{AreSets, HasLost, HasMoved, HasNewFrame, holding, IsLawful, Keeps, MayLeave, MayMount, NoneLeft, once_mounted, spent, spent_on, with_more}
+pub use Rattle.ksm_book.specs.Laid.{HasLeft, HasRemounted, is_shared_of, IsLaid, left_by, lying, MayMove, MayNotLeave, state_of, TurnedAway, Unshares}
+pub use Rattle.ksm_book.specs.Placement.{Agrees, DupFits, FitsBase, in_hand, is_frame, IsInLife, IsServed, node_of, place_frame, Placed, RowFits, uses}
 pub use Rattle.ksm_book.specs.Promised.{dup_frames, FindsPlace, is_in_use, IsOutlived, LieOn, own_frames, StandsOn}
-pub use Rattle.ksm_book.specs.Scanned.{ahead_before, ahead_up_to, Comes, FindsStill, FindsUpTo, HasVisited, is_nowhere, is_quiet, last_visited, passes_ended, Reached, StaysStill, Stops, up_to, VisitsPage}
-pub use Rattle.ksm_book.specs.Steps.{Allocates, AllocatesOn, along, dying_from, dying_kind, dying_on, free_kind, given_by, Gives, IsLowestFree, loads, Log, MakesSteps, needed_after, puts}
-pub use Rattle.ksm_book.specs.Steps.{NoneOf, replayed, stepped, steps_of}
+pub use Rattle.ksm_book.specs.Scanned.{ahead_before, ahead_up_to, Comes, FindsStill, FindsUpTo, HasVisited, is_nowhere, is_quiet, last_visited, passes_ended, Reached, StaysStill, Stops, up_to}
+pub use Rattle.ksm_book.specs.Scanned.{VisitsPage}
+pub use Rattle.ksm_book.specs.Steps.{Allocates, AllocatesOn, along, dying_from, dying_kind, dying_on, free_kind, given_by, Gives, IsLowestFree, loads, Log, MakesSteps, needed_after, NoneOf, puts}
+pub use Rattle.ksm_book.specs.Steps.{replayed, stepped, steps_of}
 pub use Rattle.ksm_book.specs.Whole.{BookValue, BookView, HasShown, listed, mapped, nodes_got, view_of}
 pub use Rattle.ksm_book.specs.Worked.{apart, page}
-pub use Rattle.ksm_pages.proofs.Found.{find_changed, find_changed_other, find_put}
-pub use Rattle.ksm_pages.proofs.Options.{mapped_some, none_mapped}
-pub use Rattle.ksm_pages.proofs.Ranked.{last_of_take}
+pub use Rattle.ksm_order.proofs.Ordered.{absent_parts, any_found, none_found, with_rises, without_between, without_rises}
+pub use Rattle.ksm_pages.proofs.Found.{find_changed, find_changed_other, find_put, first_found as found_first}
 pub use Rattle.ksm_pages.proofs.Joined.{own_not_merged}
+pub use Rattle.ksm_pages.proofs.Options.{mapped_some, none_mapped, some_mapped}
+pub use Rattle.ksm_pages.proofs.Ranked.{last_of_take}
 pub use Rattle.ksm_pages.specs.Ahead.{EndsAt, FindsNext, last_of, mergeable_pages}
-pub use Rattle.ksm_pages.specs.Paged.{dup_of_row, elsewhere, FindsAt, Frames, HasRoom, is_next, is_restless, IsAlone, IsHeld, IsKnown, IsVacant, items_on, lies_on, MayPair}
-pub use Rattle.ksm_pages.specs.Paged.{nowhere, of_guest, on_its_own, PagesView, seen}
+pub use Rattle.ksm_pages.specs.Paged.{at_home_on, dup_of_row, elsewhere, FindsAt, Frames, HasRoom, HasRow, is_next, is_restless, IsAlone, IsHeld, IsVacant, items_on, ItemsLieOn, lies_on, MayPair}
+pub use Rattle.ksm_pages.specs.Paged.{nowhere, of_guest, on_its_own, page_beside, PagesView, paired as are_paired, relaid, seen}
 pub use Rattle.ksm_pages.specs.declared.ahead.Ahead.{Ahead}
 pub use Rattle.ksm_pages.specs.declared.ahead.Ahead.TheVariants.{At, End}
+pub use Rattle.ksm_pages.specs.declared.named.Named.{Named}
 pub use Rattle.ksm_pages.specs.declared.pages.Find.{Find}
 pub use Rattle.ksm_pages.specs.declared.pages.Find.TheVariants.{Dup, Partner}
 pub use Rattle.ksm_pages.specs.declared.pages.Held.{Held}
-pub use Rattle.ksm_order.proofs.Ordered.{absent_parts, any_found, none_found, without_between}
 pub use Rattle.ksm_rmap.proofs.Pages.{pages_ordered}
 pub use Rattle.ksm_rmap.specs.Items.{AreAscending, has_item}
 pub use Rattle.ksm_tree.proofs.Alike.{count_alike, count_mapped, filter_mapped, find_mapped, map_alike, map_mapped, pairs_mapped}
 pub use Rattle.ksm_tree.proofs.Numbers.{on_err}
+pub use Rattle.ksm_tree.specs.NumberSets.{has, Marks}
 pub use Rattle.ksm_tree.specs.declared.dup.Best.{Best}
-pub use Rattle.std.proofs.Common.{ap, append-nil, append_assoc, arith, Bool, cond, drop, eq-eqb, Err, false, get_or, get_or-set_other, get_or-set_same, inl, inr, IsSome, length, length-set, List, map}
-pub use Rattle.std.proofs.Common.{None, Ok, Option, refl, replicate, rules, set, Some, subst, suc, suc-mul, sym, take, true, true≢false, zero, ℕ, [], ◌*◌, ◌++◌, ◌+◌, ◌-◌, ◌/◌}
-pub use Rattle.std.proofs.Common.{◌<◌, ◌^◌, ◌∙◌, ◌∷◌, ◌≡◌, ◌≢◌, ◌≤◌, ◌⊎◌}
+pub use Rattle.std.proofs.Common.{ap, append-nil, append_assoc, arith, Bool, cond, drop, eq-eqb, Err, false, get_or, get_or-set_other, get_or-set_same, inl, inr, length, length-set, List, map, None}
+pub use Rattle.std.proofs.Common.{Ok, Option, refl, replicate, rules, set, Some, subst, suc, suc-mul, sym, take, true, true≢false, zero, ℕ, [], ◌*◌, ◌++◌, ◌+◌, ◌-◌, ◌/◌, ◌<◌, ◌^◌, ◌∙◌, ◌∷◌, ◌≡◌, ◌≢◌}
+pub use Rattle.std.proofs.Common.{◌≤◌, ◌⊎◌}
 pub use Rattle.std.proofs.Math.Dec.{eqb}
 pub use Rattle.std.proofs.Math.Seq.{take-append_seam, take-suc}
-pub use Rattle.std.proofs.lemmas.Bool.{and_parts, and_right, cases_Bool, cases_eq, cases_lt, cond_both, eqb-true, lt-ltb, ne_eqb}
-pub use Rattle.std.proofs.lemmas.Bool.{not-true}
+pub use Rattle.std.proofs.lemmas.Bool.{and_parts, and_right, cases_Bool, cases_eq, cases_lt, cond_both, eqb-true, lt-ltb, ne_eqb, not-true}
 pub use Rattle.std.proofs.lemmas.Bool.Decides.{nat_tests}
-pub use Rattle.std.proofs.lemmas.List.{append_cancel_left, drop_all, drop_more, get_or-map, get_or_default, get_or_past, length-append, length-map, map-id, take_all}
-pub use Rattle.std.proofs.lemmas.List.{length-replicate, length-take-le, map-append, replicate-append-replicate, set-get_or, set-set, take-append-drop, take_more}
-pub use Rattle.std.proofs.lemmas.List.Elements.{All-append, All-cons, All-contains_itself, All-filter, All-head, All-map, All-tail, All-weaker, Contains-append_left, Contains-append_right}
-pub use Rattle.std.proofs.lemmas.List.Elements.{Contains-push, filter-append, filter_passes}
+pub use Rattle.std.proofs.lemmas.List.{drop_all, drop_more, get_or-map, get_or-replicate, get_or_default, get_or_past, length-append, length-map, length-replicate, length-take-le, map-append, map-id}
+pub use Rattle.std.proofs.lemmas.List.{replicate-append-replicate, set-get_or, set-set, set_past, take-append-drop, take_all, take_more}
+pub use Rattle.std.proofs.lemmas.List.Elements.{All-append, All-cons, All-contains, All-contains_itself, All-filter, All-head, All-map, All-tail, All-weaker, Contains-append_left}
+pub use Rattle.std.proofs.lemmas.List.Elements.{Contains-append_right, Contains-get_or, Contains-push, filter_passes}
 pub use Rattle.std.proofs.lemmas.List.Folds.{list_any-append, list_any_at, list_any_none, map_fixed}
 pub use Rattle.std.proofs.lemmas.List.FromFn.{get_or-range_with_len, length-range_with_len}
 pub use Rattle.std.proofs.lemmas.List.Kept.{AllPairs-cons, AllPairs-filter}
@@ -110,7 +109,6 @@ pub use Rattle.std.proofs.lemmas.Map.Steps.{length-le_from_distinct_below}
 pub use Rattle.std.proofs.lemmas.Map.Views.{any-filter_same, Contains-from_any}
 pub use Rattle.std.proofs.lemmas.Option.{get_or_from_slice_get, none-some, same_Some, slice_get-get_or, slice_get_past, slice_get_within}
 pub use Rattle.std.proofs.lemmas.Slice.Eq.{bytes_eq-Decides}
-pub use Rattle.std.specs.List.{list_any, range_with_len}
-pub use Rattle.std.specs.Prelude.{All, AllPairs, bytes_eq, Contains, count_by, filter, find, fold, IfSome, if◌then◌else◌, is_none, is_some, MatchBool, MatchOption, nat_le, nat_lt, not}
-pub use Rattle.std.specs.Prelude.{option_map, slice_get, ⊤, ◌&&◌, ◌==◌, ◌||◌}
-pub use Rattle.ksm_pages.specs.declared.named.Named.{Named}
+pub use Rattle.std.specs.List.{list_any}
+pub use Rattle.std.specs.Prelude.{All, AllPairs, bytes_eq, Contains, count_by, filter, find, fold, IfSome, if◌then◌else◌, is_none, is_some, MatchBool, MatchOption, min, nat_le, nat_lt, not}
+pub use Rattle.std.specs.Prelude.{option_and_then, option_map, slice_get, ⊤, ◌&&◌, ◌==◌, ◌||◌}

@@ -1,6 +1,6 @@
 -- What becomes of rows and dups that lie lawfully, where the note of one frame changes.
-use Rattle.ksm_book.proofs.Names.{All-weaker, arith, cases_eq, DupFits, DupRow, FitsBase, frame_at, Frames, frames_of, GenerationFits, get_or-set_other, get_or-set_same, in_hand, IsServed}
-use Rattle.ksm_book.proofs.Names.{Ledger, length, length-set, List, None, Note, Option, PAGE_WORDS, Placed, Private, Row, Shape, Some, uses, with_frame, ℕ, ◌+◌, ◌<◌, ◌≡◌, ◌≢◌, ◌≤◌, ◌⊎◌}
+use Rattle.ksm_book.proofs.Names.{All-weaker, arith, cases_eq, DupFits, DupRow, FitsBase, frame_at, Frames, frames_of, GenerationFits, get_or-set_other, get_or-set_same, in_hand, IsServed, Ledger}
+use Rattle.ksm_book.proofs.Names.{length, length-set, List, None, Note, Option, PAGE_WORDS, Placed, Private, Row, Shape, Some, uses, with_frame, ℕ, ◌+◌, ◌<◌, ◌≡◌, ◌≢◌, ◌≤◌, ◌⊎◌}
 use Rattle.ksm_book.proofs.ByPage.{uses_some}
 
 -- kind, content and generation are the same

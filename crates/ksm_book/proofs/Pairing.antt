@@ -1,10 +1,9 @@
 -- A visited page makes a dup with the page that waits for it: what the keeper may do, and what becomes of the book.
-use Rattle.ksm_book.proofs.Names.{Add, All, arith, BookState, BookView, Bool, change_row, Contains-append_right, count_none, did, dup_of_row, DupRow, each_at_page}
-use Rattle.ksm_book.proofs.Names.{eq-eqb, false, find_all, find_changed_other, find_passes, frames_of, GuestPage, IfSome, if◌then◌else◌, InPageOrder, IsFree, IsLaid, IsVacant, joined_count}
-use Rattle.ksm_book.proofs.Names.{KeeperView, leaving, lies_on, list_any, MakesSteps, May, MayLeave, MayPair, Merged, merged_into, new_place, new_place_free, next_is_new, Option, ordered_change}
-use Rattle.ksm_book.proofs.Names.{PagesView, Partner, partner, place_count, Publish, refl, Row, row_at, shared_state, Some, state_of, Sub, subst, sym, true, waits_for, waits_tells, WaitsFor}
-use Rattle.ksm_book.proofs.Names.{with_dup, Withdraw, withdrawing, [], ℕ, ◌+◌, ◌<◌, ◌==◌, ◌∙◌, ◌∷◌, ◌≡◌}
-use Rattle.ksm_pages.specs.Paged.{HasRow, paired as are_paired}
+use Rattle.ksm_book.proofs.Names.{Add, All, are_paired, arith, BookState, BookView, Bool, change_row, Contains-append_right, count_none, did, dup_of_row, DupRow, each_at_page, eq-eqb, false, find_all}
+use Rattle.ksm_book.proofs.Names.{find_changed_other, find_passes, frames_of, GuestPage, HasRow, IfSome, if◌then◌else◌, InPageOrder, IsFree, IsLaid, IsVacant, joined_count, KeeperView, leaving}
+use Rattle.ksm_book.proofs.Names.{lies_on, list_any, MakesSteps, May, MayLeave, MayPair, Merged, merged_into, new_place, new_place_free, next_is_new, Option, ordered_change, PagesView, Partner}
+use Rattle.ksm_book.proofs.Names.{partner, place_count, Publish, refl, Row, row_at, shared_state, Some, state_of, Sub, subst, sym, true, waits_for, waits_tells, WaitsFor, with_dup, Withdraw}
+use Rattle.ksm_book.proofs.Names.{withdrawing, ℕ, [], ◌+◌, ◌<◌, ◌==◌, ◌∙◌, ◌∷◌, ◌≡◌}
 use Rattle.ksm_pages.proofs.Paired.{both_changed}
 use Rattle.ksm_book.proofs.Made.{made_one, made_then}
 use Rattle.ksm_book.proofs.Moves.{found_in}

@@ -1,13 +1,11 @@
 -- A lawful placement says the sentences that are promised, and so a new dup finds a place.
-use Rattle.ksm_book.proofs.Names.{All, All-append, All-filter, All-map, AllPairs, AllPairs-cons, AllPairs-filter, ap, arith, BookState, Bool, cases_Bool, Contains}
-use Rattle.ksm_book.proofs.Names.{Contains-append_left, Contains-append_right, Contains-from_any, count_by, count_more, counts_one, dup_frames, DupRow, eq-eqb, eqb, eqb-true, false}
+use Rattle.ksm_book.proofs.Names.{All, All-append, All-filter, All-map, AllPairs, AllPairs-cons, AllPairs-filter, ap, arith, BookState, Bool, cases_Bool, Contains, Contains-append_left}
+use Rattle.ksm_book.proofs.Names.{Contains-append_right, Contains-from_any, Contains-get_or, contains_filter, count_by, count_more, counts_one, dup_frames, DupRow, eq-eqb, eqb, eqb-true, false}
 use Rattle.ksm_book.proofs.Names.{filter, filter_passes, find, find_all, find_passes, FindsPlace, frame_at, frame_number, Frames, frames_of, get_or, get_or-map, GuestPage, has_items, home_of_item}
 use Rattle.ksm_book.proofs.Names.{inl, inr, is_frame, is_in_use, is_stale, IsDistinct-from_apart, IsOutlived, IsSound, item_count, Ledger, length-append, length-le_from_distinct_below, length-map}
 use Rattle.ksm_book.proofs.Names.{LieOn, List, lt-ltb, map, Merged, merged_into, None, none_counted, not, own_frames, pairs_append, pairs_mapped, place_frame, Placed, Private, Row, row_at}
 use Rattle.ksm_book.proofs.Names.{shared_state, Some, Stable, StandsOn, subst, suc, true, uses, ℕ, [], ◌++◌, ◌<◌, ◌==◌, ◌∙◌, ◌∷◌, ◌≡◌, ◌≢◌, ◌≤◌}
-use Rattle.ksm_base.proofs.Changes.{contains_filter}
 use Rattle.ksm_book.proofs.Moves.{base_is_items, found_in, stale_is_loose}
-use Rattle.std.proofs.lemmas.List.Elements.{Contains-get_or}
 use Rattle.ksm_book.proofs.Sharing.{empty_from_most, frames_apart, Lives, lives, first_found, none_stale}
 
 -- what passes a test is among those that pass, and so is what is made of it

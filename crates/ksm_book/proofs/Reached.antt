@@ -1,6 +1,5 @@
 -- What was reached of a scan: it begins with no step, and tells the state of the book.
-use Rattle.ksm_book.proofs.Names.{Stage}
-use Rattle.ksm_book.proofs.Names.{ap, BookState, BookValue, BookView, Comes, Deed, idle, mapped, Performs, Reached, refl, subst, sym, view_of, ◌∙◌, ◌≡◌}
+use Rattle.ksm_book.proofs.Names.{ap, BookState, BookValue, BookView, Comes, Deed, idle, mapped, Performs, Reached, refl, Stage, subst, sym, view_of, ◌∙◌, ◌≡◌}
 use Rattle.ksm_book.proofs.Made.{made_none}
 
 -- the state of a book, and a deed without a step

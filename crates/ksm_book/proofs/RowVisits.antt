@@ -1,21 +1,18 @@
 -- The visit of a row, by what is found: what becomes of the book, and what is done to the frames.
-use Rattle.ksm_book.proofs.Names.{Add, All, All-contains_itself, arith, Best, best_dup, best_dup_has_room, BookValue, BookView, change_row, Contains, Dup, DupRow, each_at_page, false}
-use Rattle.ksm_book.proofs.Names.{Find, find_all, find_passes, FindsAt, FindsStill, Frames, GuestPage, HasRoom, HasVisited, idle, IfSome, is_best, is_restless, IsDupOf, IsJoined, IsLaid}
-use Rattle.ksm_book.proofs.Names.{IsSound, item_count, KeeperStep, KeeperView, leaving, lies_on, lying, MakesSteps, map, map_mapped, MatchOption, May, MayLeave, Merged, merged_into}
-use Rattle.ksm_book.proofs.Names.{merged_state, MOST_REFERENCES, None, Option, page_visited, PagesView, Performs, Placed, refl, Row, row_at, row_visited, row_visiting, settled}
-use Rattle.ksm_book.proofs.Names.{shared_state, Some, sound_row_visited, state_of, Sub, subst, sym, true, view_of, VisitsPage, Waiting, Zero, ℕ, [], ◌-◌, ◌∷◌, ◌≡◌, ◌≤◌}
-use Rattle.frame_table.specs.Kept.{Did}
+use Rattle.ksm_book.proofs.Names.{Add, All, All-contains_itself, arith, Best, best_dup, best_dup_has_room, BookValue, BookView, change_row, Contains, Did, Dup, DupRow, each_at_page, false, Find}
+use Rattle.ksm_book.proofs.Names.{find_all, find_passes, FindsAt, FindsStill, Frames, GuestPage, HasRoom, HasVisited, idle, IfSome, is_best, is_restless, IsDupOf, IsJoined, IsLaid, IsSound}
+use Rattle.ksm_book.proofs.Names.{item_count, KeeperStep, KeeperView, leaving, lies_on, lying, MakesSteps, map, map_mapped, MatchOption, May, MayLeave, Merged, merged_into, merged_state}
+use Rattle.ksm_book.proofs.Names.{MOST_REFERENCES, None, Option, page_visited, PagesView, Performs, refl, Row, row_at, row_visited, row_visiting, settled, shared_state, Some}
+use Rattle.ksm_book.proofs.Names.{sound_row_visited, state_of, Sub, subst, sym, true, view_of, VisitsPage, Waiting, Zero, ℕ, [], ◌-◌, ◌∷◌, ◌≡◌, ◌≤◌}
 use Rattle.ksm_book.proofs.ByPage.{found_page, row_of_page}
-use Rattle.ksm_book.proofs.Keeping.{left_placed, left_spends, may_leave}
 use Rattle.ksm_book.proofs.Made.{made_one, made_then}
-use Rattle.ksm_book.proofs.Moves.{swapped}
 use Rattle.ksm_book.proofs.Sharing.{laid_joined, may_join as join_may, may_part, state_of_item, Lives, lives}
 use Rattle.ksm_book.proofs.Singles.{book}
 use Rattle.ksm_pages.specs.declared.pages.Find.TheVariants as finds
 use Rattle.ksm_base.specs.declared.row.PageState.TheVariants.{Private}
 use Rattle.ksm_book.proofs.Folded.{then_idle}
-use Rattle.ksm_pages.specs.Paged.{changed as row_changed, Finds, ItemsLieOn}
-use Rattle.ksm_book.proofs.Laying.{laid_changed, laid_rows, LodgesAs}
+use Rattle.ksm_pages.specs.Paged.{changed as row_changed, Finds, ItemsLieOn, relaid}
+use Rattle.ksm_book.proofs.Laying.{laid_changed, laid_left, lies_changed, LiesWith, LodgesAs, may_leave, with_none}
 
 -- where something is told of what an option holds, it holds something, of which that is so
 pub filled_by : {X : Type 0} (P : X → Type 0) {o : Option X} → MatchOption o (true ≡ false) P → (x : X) × (o ≡ Some x) × P x
@@ -178,21 +175,18 @@ module _ {p : PagesView} {k : KeeperView} {cursor : Option GuestPage} {passes : 
     abbrev zeroed : Row → Row
     zeroed r = record r { state = Zero }
 
-    zero_hand : Placed p.shape p.knobs.merge_across_nodes k.ledger (change_row page zeroed p.rows) (lies_on page None p.frame) p.dups
-        (p.frame page)
-    zero_hand = swapped None _ _ at.sound.rows_rise at.found (λ r. refl) at.laid.placed refl
+    zero_hand : LiesWith (p.frame page) (relaid page zeroed None p) k
+    zero_hand = lies_changed (with_none at.laid) _ at.sound.rows_rise at.found (λ r. refl) refl
 
     -- the frame of a page that is to become Zero may be left
     pub may_empty : {left : Option ℕ} → left ≡ p.frame page → IfSome left (MayLeave k)
-    may_empty was = rw was (may_leave k at.laid.same _ zero_hand)
+    may_empty was = rw was (may_leave zero_hand)
 
     -- once the page is Zero and has left its frame, the book is what the visit leads to
     pub zero_leads : (q : PagesView) {l : KeeperView} {left : Option ℕ} → left ≡ p.frame page → MakesSteps k l (leaving left)
-        → q ≡ record p { rows = change_row page zeroed p.rows; frame = lies_on page None p.frame } → Leads v q l cursor passes page
+        → q ≡ relaid page zeroed None p → Leads v q l cursor passes page
     zero_leads q {l} was made goes =
-        let leaves = subst (λ o. MakesSteps k l (leaving o)) was made in
-        leads at q l at.so.0
-        (rw goes (laid_rows at.laid l (rw leaves.after) (left_spends _ leaves) (left_placed _ leaves zero_hand)))
+        leads at q l at.so.0 (rw goes (laid_left zero_hand l (subst (λ o. MakesSteps k l (leaving o)) was made)))
         (grind (arith, goes, page_is at, at.so)) (grind (arith, goes, page_is at, at.so))
 
 -- the visit of a row that is found to wait makes the row Waiting, and does nothing to the frames

@@ -1,22 +1,18 @@
 -- What becomes of the layout where a page joins a dup, a dup is made, or stale dups go, one by one.
-use Rattle.frame_core.specs.Ledger.{named_anew}
-use Rattle.ksm_base.specs.declared.limits.TheConstants.{MOST_FRAMES, MOST_LIVES, MOST_REFERENCES}
-use Rattle.ksm_book.proofs.Names.{Add, added, All, All-filter, ap, arith, blank, Bool, cases_Bool, change_row, Contains, inl, inr, count_by, count_none, did, DupRow, elsewhere, eq-eqb, false}
-use Rattle.ksm_book.proofs.Names.{filter, filter_passes, find}
-use Rattle.ksm_book.proofs.Names.{find_all, find_none, find_passes, frame_at, Frames, frames_of, get_or-set_same, get_or_default, GuestPage, IfSome, if◌then◌else◌, InPageOrder, IsInLife, IsLaid}
-use Rattle.ksm_book.proofs.Names.{IsLoose, IsVacant, item_count, KeeperView, leaving, Ledger, length, lies_on, List, list_any, MakesSteps, May, MayLeave, Merged, merged_into, merged_state, named_at}
-use Rattle.ksm_book.proofs.Names.{None, none_found, Note, Option, PageState, PagesView, place_frame, Placed, Private, Publish, refl, Row, row_at, RowFits, set-get_or, Shape, shared_state, Some, spent}
-use Rattle.ksm_book.proofs.Names.{spent_on, Stable, suc, sum_by-le, sym, true, with_dup, Withdraw, withdrawing, ℕ, [], ◌*◌, ◌+◌, ◌-◌, ◌<◌, ◌==◌, ◌∙◌, ◌∷◌, ◌≡◌, ◌≤◌, empty_from, get_or, InPlaceOrder}
-use Rattle.ksm_book.proofs.Names.{IsServed, ◌≢◌, count_by-le-length, eqb-true, filter_all, filter_none, frames_at_most, has_items, is_stale, length-filter, lying, one_of_each_place, option_map}
-use Rattle.ksm_book.proofs.Names.{ordered_filter, pairs_tail, Performs, pruning, ◌^◌}
-use Rattle.ksm_book.proofs.Moves.{base_is_items, emptied, framed, published, Serves, stale_is_loose, swapped, withdrawn}
-use Rattle.ksm_book.proofs.Laying.{laid_rows, serves_at}
-use Rattle.ksm_book.proofs.Keeping.{left_placed, left_spends, may_leave, spent_kept, spent_set}
+use Rattle.ksm_book.proofs.Names.{Add, added, All, All-filter, ap, arith, blank, Bool, cases_Bool, change_row, Contains, Contains-get_or, count_by, count_by-le-length, count_none, did, DupRow}
+use Rattle.ksm_book.proofs.Names.{elsewhere, empty_from, eq-eqb, eqb-true, false, filter, filter_all, filter_none, filter_passes, find, find_all, find_none, find_passes, frame_at, Frames}
+use Rattle.ksm_book.proofs.Names.{frames_at_most, frames_of, get_or, get_or-set_same, get_or_default, GuestPage, has_items, IfSome, inl, InPageOrder, InPlaceOrder, inr, is_stale}
+use Rattle.ksm_book.proofs.Names.{IsInLife, IsLaid, IsLoose, IsServed, IsVacant, item_count, KeeperView, leaving, Ledger, length, length-filter, List, list_any, Lower, lying, MakesSteps, May}
+use Rattle.ksm_book.proofs.Names.{MayLeave, Merged, merged_into, merged_state, MOST_FRAMES, MOST_LIVES, MOST_REFERENCES, named_anew, named_at, None, none_found, Note, one_of_each_place, Option}
+use Rattle.ksm_book.proofs.Names.{option_map, ordered_filter, PageState, PagesView, pairs_tail, Performs, place_frame, Placed, Private, pruning, Publish, refl, relaid, Row, row_at, RowFits}
+use Rattle.ksm_book.proofs.Names.{set-get_or, Shape, shared_state, Some, spent, spent_on, Stable, suc, sum_by-le, sym, true, with_dup, Withdraw, withdrawing, ℕ, [], ◌*◌, ◌+◌, ◌-◌, ◌<◌, ◌==◌, ◌^◌, ◌∙◌}
+use Rattle.ksm_book.proofs.Names.{◌∷◌, ◌≡◌, ◌≢◌, ◌≤◌}
+use Rattle.ksm_book.proofs.Moves.{base_is_items, emptied, framed, published, Serves, stale_is_loose, withdrawn}
+use Rattle.ksm_book.proofs.Laying.{laid_left, lies_changed, LiesWith, may_leave, serves_at}
+use Rattle.ksm_book.proofs.Keeping.{spent_kept, spent_set}
 use Rattle.ksm_book.proofs.Noted.{noted}
 use Rattle.ksm_book.proofs.Made.{first_made, none_made, step_made, made_none, made_one, made_then}
 use Rattle.std.proofs.lemmas.Bool.{eq-eqb}
-use Rattle.std.proofs.lemmas.List.Elements.{Contains-get_or}
-use Rattle.ksm_base.proofs.Orders.{Lower}
 
 -- the state of an item of a dup is Merged with the dup's number
 pub state_of_item : (n : ℕ) (s : PageState) → merged_into n s ≡ true → s ≡ Merged n
@@ -47,24 +43,21 @@ module _ {p : PagesView} {k : KeeperView} (h : IsLaid p k) (rise : InPageOrder p
   module _ (c : Row → Row) (keeps : (r : Row) → (c r).page ≡ r.page) (state : (c row).state ≡ item.state)
       (bytes : (c row).bytes ≡ item.bytes) where
     -- once the reference has come, the page lies there, and its own frame is in the hand
-    joined_hand : (w : KeeperView) (n : ℕ) → w ≡ did k (Add g) n → Placed p.shape across w.ledger (change_row page c p.rows)
-        (lies_on page (Some g) p.frame) p.dups (p.frame page)
+    joined_hand : (w : KeeperView) (n : ℕ) → w ≡ did k (Add g) n → LiesWith (p.frame page) (relaid page c (Some g) p) w
     joined_hand w n is =
+        let more = spent_kept k.ledger g (added (frame_at k.ledger g)) (omega arith) in
         let q : Placed p.shape across w.ledger p.rows p.frame p.dups (Some g) = rw is
         (noted h.placed g item_fits.0.frame _ (Some g) (grind (arith, item_fits)) (grind arith)) in
-        swapped (Some g) c row rise found keeps q (grind (arith, serves_at q found_item there))
+        let held : LiesWith (Some g) p w = grind (arith, more) in
+        lies_changed held c rise found keeps (grind (arith, serves_at q found_item there))
 
     -- once a reference came to the item's frame, the frame of the page that joins, if it has one, may be left
     pub may_part : (w : KeeperView) → MakesSteps k w (Add g ∷ []) → IfSome (p.frame page) (MayLeave w)
-    may_part w comes = may_leave w (rw comes.after h.same) _ (joined_hand w _ (step_made comes).1)
+    may_part w comes = may_leave (joined_hand w _ (step_made comes).1)
 
     -- rows and dups lie lawfully once a page is an item, lies on the item's frame and has left its own
-    pub laid_joined : (u : KeeperView) → MakesSteps k u (Add g ∷ leaving (p.frame page))
-        → IsLaid (record p { rows = change_row page c p.rows; frame = lies_on page (Some g) p.frame }) u
-    laid_joined u m =
-        let first = first_made m in
-        let more = spent_kept k.ledger g (added (frame_at k.ledger g)) (omega arith) in
-        laid_rows h u (rw m.after) (grind (arith, left_spends _ first.1)) (left_placed _ first.1 (joined_hand _ first.0 refl))
+    pub laid_joined : (u : KeeperView) → MakesSteps k u (Add g ∷ leaving (p.frame page)) → IsLaid (relaid page c (Some g) p) u
+    laid_joined u m = let first = first_made m in laid_left (joined_hand _ first.0 refl) u first.1
 
 -- a place where no dup with items stands names no frame that is Stable in the life named
 pub vacant_loose : {sh : Shape} {across : ℕ} {k : Ledger} {rows : List Row} {frame : Frames} {dups : List DupRow} (place : ℕ)
@@ -91,12 +84,6 @@ module _ {p : PagesView} {k : KeeperView} (w : KeeperView) (h : IsLaid p k) (pla
         rw (none_made (rw is at m))
         (grind (arith, h.placed.empty place (grind (arith, none)), set-get_or k.ledger.places place None))
   ]
-
--- pages lie lawfully where a place names nothing any more and the dup that stood there is gone
-pub laid_cleared : {p : PagesView} {k : KeeperView} (w : KeeperView) {place : ℕ} → IsLaid p k → place < frames_of p.shape → w.table ≡ k.table
-    → w.ledger ≡ emptied k.ledger place
-    → IsLaid (record p { dups = filter (elsewhere place) p.dups }) w
-laid_cleared w h inside e is = let placed = withdrawn _ inside h.placed in grind arith
 
 -- where each element that passes a test passes another too, that other takes out none of them
 pub inside_of : {X : Type 0} (p q : X → Bool) (xs : List X) → All (λ x. p x ≡ true → q x ≡ true) xs → filter p (filter q xs) ≡ filter p xs
@@ -268,7 +255,7 @@ module _ {p q : PagesView} {k l : KeeperView} {count : ℕ} (h : Drops p q k l c
     own = rw is h.own;
     made = λ w m. h.made w (rw (next, stale.2) (made_then (made_one l l' _ 0 is) (rw goes at m)));
     rise = rw goes (ordered_filter _ _ h.rise);
-    laid = rw goes (laid_cleared l' h.laid inside (rw is) (rw is));
+    laid = let placed = withdrawn place inside h.laid.placed in rw goes (grind (arith, is));
   }
 
 -- where none is stale any more, all are gone

@@ -1,15 +1,11 @@
 -- The frames that steps give, and what the log shows of a frame that was not found, of one in use, and of a dup that moved.
-use Rattle.ksm_book.proofs.Names.{Add, Allocates, AllocatesOn, append-nil, arith, Contains, Contains-append_right, Contains-push, count_in}
-use Rattle.ksm_book.proofs.Names.{dup_frame, DupRow, Dying, dying_on, false, Fault, FindsHeld, FindsNone, frame_at, free_kind, Freeze, get_or-range_with_len}
-use Rattle.ksm_book.proofs.Names.{get_or-set_other, get_or-set_same, get_or_past, given_by, Gives, GuestPage, HasLost, HasMoved, IsLowestFree, KeeperStep, KeeperView, leaving}
-use Rattle.ksm_book.proofs.Names.{Ledger, ledger_after, length-range_with_len, length-set, List, loads, Log, MakesSteps, map, Mapped, Moves, NoFrame, None, NoneLeft}
-use Rattle.ksm_book.proofs.Names.{Option, Provides, Publish, puts, Raise, Reap, refl, replicate, Resettles, ResettlesEach, Row, Shape, Some, Stable, stepped, steps_of, subst, suc}
-use Rattle.ksm_book.proofs.Names.{sym, UnmergesTo, zero, ℕ, [], ◌*◌, ◌++◌, ◌+◌, ◌-◌, ◌<◌, ◌∷◌, ◌≡◌, ◌≢◌, ◌≤◌}
-use Rattle.ksm_book.proofs.Names.{cases_eq, cases_lt, replayed, Contains-append_right}
-use Rattle.std.proofs.lemmas.List.{set_past}
+use Rattle.ksm_book.proofs.Names.{Add, Allocates, AllocatesOn, append-nil, arith, cases_eq, cases_lt, Contains, Contains-append_right, Contains-push, contains_filter, count_in, dup_frame, DupRow}
+use Rattle.ksm_book.proofs.Names.{Dying, dying_on, false, Fault, FindsHeld, FindsNone, frame_at, free_kind, Freeze, get_or-range_with_len, get_or-set_other, get_or-set_same, get_or_past, given_by}
+use Rattle.ksm_book.proofs.Names.{Gives, GuestPage, HasLost, HasMoved, IsLowestFree, KeeperStep, KeeperView, leaving, Ledger, ledger_after, length-range_with_len, length-set, List, loads, Log}
+use Rattle.ksm_book.proofs.Names.{MakesSteps, map, Mapped, Moves, NoFrame, None, NoneLeft, Option, Provides, Publish, puts, Raise, Reap, refl, replayed, replicate, Resettles, ResettlesEach, Row}
+use Rattle.ksm_book.proofs.Names.{set_past, Shape, Some, Stable, stepped, steps_of, subst, suc, sym, UnmergesTo, zero, ℕ, [], ◌*◌, ◌++◌, ◌+◌, ◌-◌, ◌<◌, ◌∷◌, ◌≡◌, ◌≢◌, ◌≤◌}
 use Rattle.ksm_book.proofs.Keeping.{set_holds}
 use Rattle.ksm_book.proofs.Made.{chained, first_made, made_none, step_made}
-use Rattle.ksm_base.proofs.Changes.{contains_filter}
 
 -- none of these steps gives a frame
 abbrev pub GivesNone : List KeeperStep → Type 0

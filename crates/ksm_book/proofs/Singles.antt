@@ -1,19 +1,14 @@
 -- The commands on single pages, and on one dup, carried out.
-use Rattle.ksm_base.specs.Apply.{moved}
-use Rattle.ksm_pages.specs.Paged.{at_home_on, relaid, seen}
 use Rattle.ksm_book.specs.declared.state.State.TheInside.{Inside}
-use Rattle.ksm_book.proofs.Names.{absent_parts, All, Answer, ap, arith, BookState, BookValue, BookView, change_row, comes_before, Command, Done, Drop, DupRow, Err, false, filter, filter_passes}
-use Rattle.ksm_book.proofs.Names.{find_passes, find_put, FindsNone, frame_at, frames_of, fresh_row, GuestPage, HasNewFrame, HasRemounted, Held, holding, IfSome, inl}
-use Rattle.ksm_book.proofs.Names.{InPageOrder, IsCarried, IsHeld, IsLaid, IsReadable, IsSound, IsWritable, KeeperView, leaving, length, lies_on, List, live_dup_at, lying, MakesSteps}
-use Rattle.ksm_book.proofs.Names.{map_fixed, MayLeave, MayMove, MoveDup, MovePage, nat_le, NoFrame, None, Ok, Option, PAGE_WORDS, pages_ordered, PagesView, Provides, puts}
-use Rattle.ksm_book.proofs.Names.{refl, Register, Resettles, Row, row_at, same_page, same_page_refl, shared_state, Some, sound_after, state_of, stepped, Store, stored, true, view_of}
-use Rattle.ksm_book.proofs.Names.{with_frame, with_row, without_between, without_page, ℕ, [], ◌<◌, ◌==◌, ◌∙◌, ◌∷◌, ◌≡◌, ◌≤◌}
-use Rattle.ksm_base.proofs.SoundEdits.{sound_settings}
-use Rattle.ksm_tree.proofs.Alike.{map_alike}
+use Rattle.ksm_book.proofs.Names.{absent_parts, All, Answer, ap, arith, at_home_on, BookState, BookValue, BookView, change_row, comes_before, Command, Done, Drop, DupRow, Err, false, filter}
+use Rattle.ksm_book.proofs.Names.{filter_passes, find_passes, find_put, FindsNone, frame_at, frames_of, fresh_row, GuestPage, HasNewFrame, HasRemounted, Held, holding, IfSome, inl, InPageOrder}
+use Rattle.ksm_book.proofs.Names.{IsCarried, IsHeld, IsLaid, IsReadable, IsSound, IsWritable, KeeperView, leaving, length, lies_on, List, live_dup_at, lying, MakesSteps, map_alike, map_fixed}
+use Rattle.ksm_book.proofs.Names.{MayLeave, MayMove, moved, MoveDup, MovePage, nat_le, NoFrame, None, Ok, Option, PAGE_WORDS, pages_ordered, PagesView, Provides, puts, refl, Register, relaid}
+use Rattle.ksm_book.proofs.Names.{Resettles, Row, row_at, same_page, same_page_refl, seen, shared_state, Some, sound_after, sound_settings, state_of, stepped, Store, stored, true, view_of, with_frame}
+use Rattle.ksm_book.proofs.Names.{with_row, without_between, without_page, ℕ, [], ◌<◌, ◌==◌, ◌∙◌, ◌∷◌, ◌≡◌, ◌≤◌}
 use Rattle.ksm_book.proofs.ByPage.{found_page, lies_again, lies_still, row_of_page}
-use Rattle.ksm_book.proofs.Laying.{come_there, laid_rows, retuned, serves_at, turned}
-use Rattle.ksm_book.proofs.Keeping.{left_placed, left_spends, may_leave, spent_kept}
-use Rattle.ksm_book.proofs.Shown.{provides_does}
+use Rattle.ksm_book.proofs.Laying.{come_there, laid_left, laid_rows, LiesWith, may_leave, retuned, serves_at, turned}
+use Rattle.ksm_book.proofs.Keeping.{spent_kept}
 use Rattle.ksm_book.proofs.Moves.{removed, written_in}
 
 -- the pages, their keeper, the cursor and the passes as a book
@@ -104,19 +99,17 @@ module _ {p : PagesView} {k : KeeperView} {cursor : Option GuestPage} {passes : 
 
 module _ {p : PagesView} {k : KeeperView} (h : IsLaid p k) (rise : InPageOrder p.rows) {page : GuestPage} {row : Row}
     (found : row_at page p.rows ≡ Some row) {left : Option ℕ} (was : left ≡ p.frame page) where
+  dropping : LiesWith (p.frame page) (record p { rows = without_page page p.rows; frame = lies_on page None p.frame }) k
+  dropping = grind (arith, removed _ row rise found h.placed)
+
   -- the frame of a page that goes, if it has one, may be left
   pub drop_may : IfSome left (MayLeave k)
-  drop_may = rw was (may_leave k h.same _ (removed _ row rise found h.placed))
+  drop_may = rw was (may_leave dropping)
 
   -- `Drop` is carried out, and all lies lawfully, where the page has left its frame and its row is gone
   pub drop_gone : {cursor : Option GuestPage} {passes : ℕ} {q : PagesView} {l : KeeperView} → q ≡ record p { rows = without_page page p.rows; frame = lies_on page None p.frame } → MakesSteps k l (leaving left)
       → Carries p k q l cursor passes (Drop page) (Ok Done)
-  drop_gone {l = l} goes made =
-      let leaves = rw was at made in (
-        grind arith,
-        rw goes (laid_rows h l (rw made.after) (left_spends _ leaves)
-            (left_placed _ leaves (removed _ row rise found h.placed))),
-      )
+  drop_gone {l = l} goes made = let leaves = rw was at made in (grind arith, rw goes (laid_left dropping l leaves))
 
 -- a row that came and goes leaves the rows as they were
 without_come : (row : Row) (rows : List Row) → InPageOrder rows → row_at row.page rows ≡ None → without_page row.page (with_row row rows) ≡ rows
@@ -153,8 +146,7 @@ module _ {p m : PagesView} {page : GuestPage} {node : ℕ} {bytes : List ℕ} (n
         let there : q ≡ record p { rows = with_row fresh p.rows; frame = lies_on page (Some g) p.frame } =
         grind (arith, goes, new.comes, new.others, lies_again) in (
           grind arith,
-          rw there (laid_rows h l (provides_does provides).1.table taken.spent
-              (come_there h.same taken h.placed _ new.absent refl refl refl)),
+          rw there (come_there h provides taken _ new.absent refl refl refl),
         )
 
     -- `Register` is refused, and all lies lawfully, where no frame of the node was left and the page went again

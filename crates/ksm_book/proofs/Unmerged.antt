@@ -1,14 +1,13 @@
 -- Pages that leave their dups, or the zero page, one after another; and the commands on all pages of a guest, or all.
-use Rattle.ksm_book.proofs.Names.{All, append-nil, arith, Bool, change_row, change_rows, false, Fault, filter, filter_none, find, find_all, find_passes, GuestPage, HasLeft, HasNewFrame, Held, InPageOrder, is_next}
-use Rattle.ksm_book.proofs.Names.{is_shared_of, is_some, IsHeld, IsLaid, KeeperView, leaving, left_by, length, length-append, let_go, List, lying, MakesSteps, Mapped, MayNotLeave, None, not, of_guest, Option}
-use Rattle.ksm_book.proofs.Names.{option_map, PagesView, Provides, refl, ResettlesEach, Row, row_at, same_page, same_Some, shared_state, slice_get, Some, take-append_seam, true, Unshares, ℕ, []}
-use Rattle.ksm_book.proofs.Names.{◌++◌, ◌+◌, ◌<◌, ◌∷◌, ◌≡◌, ◌≤◌, All-map, any_found, BookState, Done, Err, inl, is_of, IsCarried, Knobs, list_any, map, map_mapped, MatchOption, Mergeable, Ok, SetRun}
-use Rattle.ksm_book.proofs.Names.{slice_get_past, state_of, UnknownPage, Unmerge, Unmerged, unshare_stopped, sym, unshared, ◌∙◌}
-use Rattle.ksm_base.proofs.Edits.{count_more}
+use Rattle.ksm_book.proofs.Names.{All, All-map, any_found, append-nil, arith, BookState, Bool, change_row, change_rows, count_by-le-length, count_more, Done, Err, false, Fault, filter}
+use Rattle.ksm_book.proofs.Names.{filter_none, find, find_all, find_passes, GuestPage, HasLeft, HasNewFrame, Held, inl, InPageOrder, is_next, is_of, is_shared_of, is_some, IsCarried, IsHeld, IsLaid}
+use Rattle.ksm_book.proofs.Names.{KeeperView, Knobs, leaving, left_by, length, length-append, let_go, List, list_any, lying, MakesSteps, map, map_mapped, Mapped, MatchOption, MayNotLeave, Mergeable}
+use Rattle.ksm_book.proofs.Names.{mergeable_count, None, not, of_guest, Ok, Option, option_map, PagesView, Provides, refl, relaid, ResettlesEach, Row, row_at, same_page, same_Some, SetRun}
+use Rattle.ksm_book.proofs.Names.{shared_state, slice_get_past, Some, state_of, sym, take-append_seam, true, UnknownPage, Unmerge, Unmerged, unshare_stopped, unshared, Unshares, ℕ, []}
+use Rattle.ksm_book.proofs.Names.{◌++◌, ◌+◌, ◌<◌, ◌∙◌, ◌∷◌, ◌≡◌, ◌≤◌}
 use Rattle.ksm_base.specs.declared.row.PageState.TheVariants.{Private}
-use Rattle.ksm_pages.specs.Paged.{relaid}
-use Rattle.ksm_base.specs.Counting.{mergeable_count}
-use Rattle.std.proofs.lemmas.List.Sums.{count_by-le-length}
+use Rattle.std.proofs.Math.Seq.{get_or-append_seam}
+use Rattle.std.proofs.lemmas.Option.{slice_get-get_or}
 use Rattle.ksm_book.proofs.Along.{along_end, along_next, along_none, along_stop, FitsPage, further, IsAlong, next_is, parted, passed, passed_all, position, there}
 use Rattle.ksm_book.proofs.ByPage.{found_page, row_of_page}
 use Rattle.ksm_book.proofs.Laying.{laid_changed, laid_mapped, resettled, retuned}
@@ -30,27 +29,14 @@ stay_in_scan test (r ∷ rows) all =
 pub page_left : (guest : Option ℕ) (r : Row) → (left_by guest r).page ≡ r.page
 page_left guest r = grind arith
 
--- a shared row once it has a frame of its own: a guest's leaves the scan, any other is not unchanged
-abbrev pub freed_by : Option ℕ → Row → Row
-freed_by None = unshared
-freed_by (Some guest) = let_go
+-- a shared row that is left has a frame of its own, on its home and with its bytes
+housed : (guest : Option ℕ) (r : Row) → shared_state r.state ≡ true → ((left_by guest r).state ≡ Private) × ((left_by guest r).home ≡ r.home) × ((left_by guest r).bytes ≡ r.bytes)
+housed guest r shared = grind arith
 
-freed_as : (guest : Option ℕ) (r : Row) → shared_state r.state ≡ true → freed_by guest r ≡ left_by guest r
-freed_as None r shared = rw shared refl
-freed_as (Some guest) r shared = refl
-
-housed : (guest : Option ℕ) (r : Row) → ((freed_by guest r).page ≡ r.page) × ((freed_by guest r).state ≡ Private) × ((freed_by guest r).home ≡ r.home) × ((freed_by guest r).bytes ≡ r.bytes)
-housed None r = (refl, refl, refl, refl)
-housed (Some guest) r = (refl, refl, refl, refl)
-
--- it is a guest's, or any other
-pub freed_some : (guest : Option ℕ) → is_some guest ≡ true → let_go ≡ freed_by guest
-freed_some None some = grind arith
-freed_some (Some guest) some = refl
-
-pub freed_any : (guest : Option ℕ) → is_some guest ≡ false → unshared ≡ freed_by guest
-freed_any None none = refl
-freed_any (Some guest) none = grind arith
+-- a guest's row that is left leaves the scan
+pub left_some : (guest : Option ℕ) → is_some guest ≡ true → let_go ≡ left_by guest
+left_some None some = grind arith
+left_some (Some guest) some = refl
 
 -- the row of a page is left: a guest's, or any
 module _ {p : PagesView} {k : KeeperView} (guest : Option ℕ) {page : GuestPage} {held : Held} (told : IsHeld p page held) (h : IsLaid p k)
@@ -76,16 +62,19 @@ module _ {p : PagesView} {k : KeeperView} (guest : Option ℕ) {page : GuestPage
         → HasLeft p q k k guest page 0
     left_alone some {q} goes = grind (arith, left_own)
 
+  -- any other that was shared is not unchanged
+  pub left_any : not held.shared ≡ false → is_some guest ≡ false → change_row page unshared p.rows ≡ change_row page (left_by guest) p.rows
+  left_any test none = changed_alike page unshared (left_by guest) p.rows row rise told.found (grind arith)
+
   -- a shared row is left where its page takes a frame with its bytes, and leaves the one that it had
   pub left_shared : {w l : KeeperView} {q : PagesView} {bytes : List ℕ} {g : ℕ} {left : Option ℕ} → Provides k w held.home bytes g → HasNewFrame k w held.home bytes g
       → left ≡ p.frame page → MakesSteps w l (leaving left) → option_map (λ r. r.bytes) (row_at page p.rows) ≡ Some bytes → not held.shared ≡ false
-      → q ≡ relaid page (freed_by guest) (Some g) p → HasLeft p q k l guest page 1
+      → q ≡ relaid page (left_by guest) (Some g) p → HasLeft p q k l guest page 1
   left_shared provides took was made are test goes =
       let shared : shared_state row.state ≡ true = grind arith in
       let content : row.bytes ≡ _ = grind (arith, same_Some) in
-      let is = housed guest row in
-      let got = resettled h rise told.found provides took was (freed_by guest) (λ r. (housed guest r).0) is.1 (is.2 ∙ sym told.home) (is.3 ∙ content) goes made in
-      let alike = changed_alike page (freed_by guest) (left_by guest) p.rows row rise told.found (freed_as guest row shared) in
+      let is = housed guest row shared in
+      let got = resettled h rise told.found provides took was (left_by guest) (page_left guest) is.0 (is.1 ∙ sym told.home) (is.2 ∙ content) goes made in
       grind (arith, found_page, got)
 
 -- rows that are resettled after others
@@ -115,11 +104,6 @@ pub unsharing_begins : (p : PagesView) (k : KeeperView) (guest : Option ℕ) →
 unsharing_begins p k guest h =
     let none = filter_none (passed (is_shared_of guest) None) p.rows (grind arith) in
     grind (arith, along_none (of_guest guest) (left_by guest) p.rows)
-
--- the row behind others stands at the place that is their number
-seam : (xs : List Row) (x : Row) (ys : List Row) → slice_get (xs ++ x ∷ ys) (length xs) ≡ Some x
-seam [] x ys = refl
-seam (y ∷ xs) x ys = seam xs x ys
 
 module _ {p q : PagesView} {k l : KeeperView} {guest : Option ℕ} {count : ℕ} {last : Option GuestPage}
     (u : IsUnsharing p q k l guest count last) (rise : InPageOrder p.rows) where
@@ -172,7 +156,7 @@ module _ {p q : PagesView} {k l : KeeperView} {guest : Option ℕ} {count : ℕ}
         record {
           at = Some r;
           fault = grind (arith, at);
-          stands = grind (arith, are, seam);
+          stands = grind (arith, are, slice_get-get_or (met ++ r ∷ cut.0) (length met) r, get_or-append_seam met r cut.0 r, length-append);
           pages = grind (arith, along_stop (page_left guest) u.along rise told);
           unmerges = grind (arith, are, at, take-append_seam);
           laid = h.turned.laid;
@@ -229,13 +213,10 @@ module _ {p m : PagesView} {k l : KeeperView} (cursor : Option GuestPage) (passe
       → IsCarried (book p k cursor passes) (book q l cursor' passes) (SetRun 2) (Ok (Unmerged count stop))
   carried q cursor' frame state = grind arith
 
-  across : knobs.merge_across_nodes ≡ m.knobs.merge_across_nodes
-  across = grind arith
-
   -- `SetRun` 2 is carried out, and all lies lawfully, where the unsharing of all rows stopped and run is 0 then
   pub unshare_stops : is_some stop ≡ true → {q : PagesView} → q ≡ record m { knobs = record knobs { run = 0 } }
       → IsCarried (book p k cursor passes) (book q l cursor passes) (SetRun 2) (Ok (Unmerged count stop)) × IsLaid q l
-  unshare_stops some {q} goes = (carried q _ (rw goes) (grind arith), rw goes (retuned (inl across) u.laid))
+  unshare_stops some {q} goes = (carried q _ (rw goes) (grind arith), rw goes (retuned (inl (grind arith)) u.laid))
 
   -- it went through
   module _ (none : is_some stop ≡ false) where

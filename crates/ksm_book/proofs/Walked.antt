@@ -1,9 +1,8 @@
 -- A walk from page to page comes to the visits of all pages ahead, where visits of those passed over do nothing.
-use Rattle.ksm_book.proofs.Names.{after_cursor, ahead_before, ahead_up_to, All, All-cons, All-filter, and_parts, ap, AreAscending, arith, BookState, BookValue, Bool}
-use Rattle.ksm_book.proofs.Names.{cases_Bool, Comes, comes_before, Deed, false, filter, filter_none, filter_passes, find_all, fold, fold-append, get_or, get_or_from_slice_get, GuestPage}
-use Rattle.ksm_book.proofs.Names.{has_item, HasVisited, inl, inr, is_restless, IsSound, IsStill, List, mergeable_pages, not, one_before, Option, page_visited}
-use Rattle.ksm_book.proofs.Names.{pages_ahead, pairs_head, pairs_tail, Reached, refl, restless_at, same_page_eq, slice_get_within, Some, Stage, StaysStill, subst, suc, sym, take, take-suc, true}
-use Rattle.ksm_book.proofs.Names.{true≢false, up_to, [], ℕ, ◌&&◌, ◌-◌, ◌<◌, ◌∙◌, ◌∷◌, ◌≡◌}
+use Rattle.ksm_book.proofs.Names.{after_cursor, ahead_before, ahead_up_to, All, All-cons, All-filter, and_parts, ap, AreAscending, arith, BookState, BookValue, Bool, cases_Bool, Comes, comes_before}
+use Rattle.ksm_book.proofs.Names.{Deed, false, filter, filter_none, filter_passes, find_all, fold, fold-append, get_or, get_or_from_slice_get, GuestPage, has_item, HasVisited, inl, inr, is_restless}
+use Rattle.ksm_book.proofs.Names.{IsSound, IsStill, List, mergeable_pages, not, one_before, Option, page_visited, pages_ahead, pairs_head, pairs_tail, Reached, refl, restless_at, same_page_eq}
+use Rattle.ksm_book.proofs.Names.{slice_get_within, Some, Stage, StaysStill, subst, suc, sym, take, take-suc, true, true≢false, up_to, ℕ, [], ◌&&◌, ◌-◌, ◌<◌, ◌∙◌, ◌∷◌, ◌≡◌}
 use Rattle.ksm_book.proofs.Along.{Before, FitsPage, after_later, has_filter, place_of, place_splits, position}
 use Rattle.ksm_book.proofs.Reached.{Agree, agrees, comes_to}
 use Rattle.ksm_book.proofs.Folded.{ascending_ahead, by_row, Goes, page_goes, restless_mergeable, still_on}

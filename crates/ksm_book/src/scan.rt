@@ -74,7 +74,7 @@ impl State {
         ensures { Comes self.old self.new (λ s. (record s.0 { cursor = cursor }, s.1)) }
     {
         self.cursor = cursor;
-        self.made = self.made.wrapping_add(visits as usize);
+        self.visits = self.visits.wrapping_add(visits as usize);
     }
 
     // So many passes have ended.
@@ -83,7 +83,7 @@ impl State {
     {
         self.passes = self.passes.saturating_add(count);
         self.cursor = None;
-        self.made = 0;
+        self.visits = 0;
     }
 
     // The first page behind one, up to the last one, that a visit may change, or a page before it.
@@ -153,12 +153,12 @@ impl State {
         ensures comes { Comes self.old self.new (λ s. (pass_ended_at_last s.0, s.1)) }
         ensures ahead { EndsAt (pages_ahead self.new.state) most result }
     {
-        let ahead = self.pages.ahead(self.cursor, self.made, most);
+        let ahead = self.pages.ahead(self.cursor, self.visits, most);
         let nowhere = is_none(ahead);
         let under_way = self.cursor().is_some();
         if nowhere && under_way {
             self.end_passes(1);
-            return self.pages.ahead(self.cursor, self.made, most);
+            return self.pages.ahead(self.cursor, self.visits, most);
         }
         ahead
     }

@@ -36,7 +36,7 @@ pub struct State {
     pub(crate) pages: Pages,
     pub(crate) keeper: FrameKeeper,
     pub(crate) cursor: Option<GuestPage>,
-    pub(crate) made: usize,
+    pub(crate) visits: usize,
     pub(crate) passes: u64,
 }
 
@@ -77,7 +77,7 @@ impl State {
                 pages,
                 keeper,
                 cursor: None,
-                made: 0,
+                visits: 0,
                 passes: 0,
             }),
             Err(fault) => Err((keeper.close(), fault)),
@@ -92,7 +92,7 @@ impl State {
             pages: _pages,
             keeper,
             cursor: _,
-            made: _,
+            visits: _,
             passes: _,
         } = self;
         keeper.close()

@@ -138,7 +138,7 @@ impl State {
         self.pages.unshare_all();
         self.pages.set_knobs(Knobs { run: 2, ..knobs });
         self.cursor = None;
-        self.made = 0;
+        self.visits = 0;
         Ok(Reply::Unmerged { pages, stop })
     }
 }

@@ -1,8 +1,7 @@
-use Rattle.ksm_book.proofs.Names.{ap, rules, Some, sym, ◌∙◌, ◌≡◌}
-use Rattle.ksm_pages.specs.Paged.{relaid, seen}
+use Rattle.ksm_book.proofs.Names.{ap, left_by, relaid, rules, seen, Some, sym, ◌∙◌, ◌≡◌}
 use Rattle.ksm_book.proofs.Laying.{may_left, turned}
 use Rattle.ksm_book.proofs.Singles.{row_held}
-use Rattle.ksm_book.proofs.Unmerged.{freed_any, freed_by, freed_some, left_alone, left_shared, left_still}
+use Rattle.ksm_book.proofs.Unmerged.{left_alone, left_any, left_shared, left_some, left_still}
 use Rattle.ksm_book.proofs.unmerging.leave.Goals as goal
 use Rattle.ksm_book.proofs.unmerging.leave.Goals.{else-is_some-2, Joined-is_some-2, then-is_some-2}
 
@@ -23,8 +22,13 @@ left : (c : Joined-is_some-2) → c.if-is_some-2.left ≡ (seen c.args.pages.now
 left c = elim c.if-is_some-2.branch [ then-is_some-2 w ↦ w.left-is ∙ w.let_go_on-left.ensures.left | else-is_some-2 w ↦ w.left-is ∙ w.unshare_on-left.ensures.left ]
 
 -- the page has its new frame
-freed : (c : Joined-is_some-2) → seen c.if-is_some-2.pages ≡ relaid c.args.held.spot.page (freed_by c.args.guest) (Some c.in-Some.frame) (seen c.args.pages.now)
-freed c = elim c.if-is_some-2.branch [ then-is_some-2 w ↦ rw (← freed_some c.args.guest (sym c.is_some-2.ensures ∙ w.if-is_some-2.true)) (ap seen w.pages-is ∙ w.let_go_on-left.ensures.gone) | else-is_some-2 w ↦ rw (← freed_any c.args.guest (sym c.is_some-2.ensures ∙ w.if-is_some-2.false)) (ap seen w.pages-is ∙ w.unshare_on-left.ensures.unshared) ]
+freed : (c : Joined-is_some-2) → seen c.if-is_some-2.pages ≡ relaid c.args.held.spot.page (left_by c.args.guest) (Some c.in-Some.frame) (seen c.args.pages.now)
+freed c = elim c.if-is_some-2.branch [
+  | then-is_some-2 w ↦ rw (← left_some c.args.guest (sym c.is_some-2.ensures ∙ w.if-is_some-2.true)) (ap seen w.pages-is ∙ w.let_go_on-left.ensures.gone)
+  | else-is_some-2 w ↦
+      rw (← left_any c.args.guest c.requires.held c.requires.laid c.lie_in_order.ensures.rise c.if-not-held.false (sym c.is_some-2.ensures ∙ w.if-is_some-2.false))
+      (ap seen w.pages-is ∙ w.unshare_on-left.ensures.unshared)
+]
 
 pub release_if-requires-clause-may : goal.release_if-requires-clause-may
 release_if-requires-clause-may c =

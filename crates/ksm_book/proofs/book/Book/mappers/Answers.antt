@@ -1,6 +1,4 @@
-use Rattle.ksm_book.proofs.Names.{◌∙◌}
-use Rattle.ksm_tree.proofs.Numbers.{on_err}
-use Rattle.ksm_pages.proofs.Options.{some_mapped}
+use Rattle.ksm_book.proofs.Names.{on_err, some_mapped, ◌∙◌}
 use Rattle.ksm_book.proofs.book.Book.mappers.Goals as goal
 
 pub returns-in_err-items_at-clause-refused : goal.returns-in_err-items_at-clause-refused

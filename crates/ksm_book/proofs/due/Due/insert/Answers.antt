@@ -1,5 +1,4 @@
-use Rattle.ksm_book.proofs.Names.{arith, list_any-append, Named, pages_of, pages_ordered, refl, same_page}
-use Rattle.ksm_order.proofs.Ordered.{with_rises}
+use Rattle.ksm_book.proofs.Names.{arith, list_any-append, Named, pages_of, pages_ordered, refl, same_page, with_rises}
 use Rattle.ksm_book.proofs.Dues.{has_found, has_put, pages_in}
 use Rattle.ksm_book.proofs.due.Due.insert.Goals as goal
 

@@ -1,6 +1,5 @@
-use Rattle.ksm_book.proofs.Names.{ap, arith, DueView, has_item, Named, not, pages_ordered, same_page, sym, ◌&&◌, ◌∙◌}
+use Rattle.ksm_book.proofs.Names.{ap, arith, DueView, has_item, Named, not, pages_ordered, same_page, sym, without_rises, ◌&&◌, ◌∙◌}
 use Rattle.ksm_book.proofs.Dues.{has_found, has_taken, none_added, pages_in}
-use Rattle.ksm_order.proofs.Ordered.{without_rises}
 use Rattle.ksm_book.proofs.due.Due.remove.Goals as goal
 
 pub remove-requires : goal.remove-requires

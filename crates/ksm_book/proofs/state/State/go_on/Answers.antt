@@ -1,6 +1,6 @@
-use Rattle.ksm_book.proofs.Names.{ahead_before, ap, arith, BookValue, Comes, has_item, last_of, last_visited, length, None, pages_ahead, part_before, pass_ended_at_last, Stage, sym, true}
-use Rattle.ksm_book.proofs.Names.{visit_begun, visits_beside, ◌*◌, ◌<◌, ◌∙◌, ◌≡◌, ◌≤◌}
-use Rattle.ksm_book.proofs.Folded.{begun_ahead, begun_still, page_made, passes_made, some_ahead, stopped_fewer, stopped_made}
+use Rattle.ksm_book.proofs.Names.{ahead_before, ap, arith, BookValue, Comes, has_item, last_of, last_visited, length, None, pages_ahead, part_before, pass_ended_at_last, Stage, sym, true, visit_begun}
+use Rattle.ksm_book.proofs.Names.{visits_beside, ◌*◌, ◌<◌, ◌∙◌, ◌≡◌, ◌≤◌}
+use Rattle.ksm_book.proofs.Folded.{begun_ahead, page_made, passes_made, settled_twice, some_ahead, stopped_fewer, stopped_made}
 use Rattle.ksm_book.proofs.Reached.{comes_by, comes_to, first}
 use Rattle.std.proofs.Math.Nat.{div-mul-le_self, le-div_iff_mul-le, one-le-mul}
 use Rattle.ksm_book.proofs.state.State.go_on.Goals as goal
@@ -93,8 +93,7 @@ returns-after-whole-clause-made c =
           passes_made (v.state, deed) c.lies_lawfully.ensures.sound c.requires.some times told.0
           (λ more. (
             (told.2 more).1,
-            begun_still (pass_ended_at_last v.state) deed _
-                (visited.still (told.2 more).0 from _ (c.close_pass-ahead.ensures.comes from _ is)),
+            grind (arith, settled_twice, visited.still (told.2 more).0 from _ (c.close_pass-ahead.ensures.comes from _ is)),
           ))
           ∙ ap (λ n. visits_beside (times * n) (v.state, deed)) (sym made.1));
     }

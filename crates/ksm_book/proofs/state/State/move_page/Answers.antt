@@ -1,5 +1,4 @@
-use Rattle.ksm_book.proofs.Names.{ap, Done, MovePage, ne_eqb, Ok, option_map, refl, same_Some, seen, sym, view_of, ◌∙◌}
-use Rattle.ksm_pages.specs.Paged.{at_home_on}
+use Rattle.ksm_book.proofs.Names.{ap, at_home_on, Done, MovePage, ne_eqb, Ok, option_map, refl, same_Some, seen, sym, view_of, ◌∙◌}
 use Rattle.ksm_book.proofs.Laying.{may_left, resettled, turned}
 use Rattle.ksm_book.proofs.Singles.{carried_so, Does, move_home, move_moved, row_held, lawful}
 use Rattle.ksm_book.proofs.state.State.move_page.Goals as goal

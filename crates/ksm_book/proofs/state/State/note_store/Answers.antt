@@ -1,7 +1,6 @@
-use Rattle.ksm_book.proofs.Names.{InPageOrder}
+use Rattle.ksm_book.proofs.Names.{arith, false, InPageOrder, MatchOption, row_at, same_page_refl, waiting_state, ◌≡◌}
 use Rattle.ksm_book.proofs.DueBroken.{stored_due}
 use Rattle.ksm_book.proofs.DueKept.{more_due}
-use Rattle.ksm_book.proofs.Names.{arith, false, MatchOption, row_at, same_page_refl, waiting_state, ◌≡◌}
 use Rattle.ksm_book.proofs.state.State.note_store.Goals as goal
 use Rattle.ksm_book.proofs.state.State.note_store.Goals.{After-waits}
 

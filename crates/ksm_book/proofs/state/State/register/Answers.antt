@@ -1,5 +1,4 @@
-use Rattle.std.proofs.Common.{arith}
-use Rattle.ksm_book.proofs.Names.{Done, Err, NoFrame, Ok, refl, Register, seen}
+use Rattle.ksm_book.proofs.Names.{arith, Done, Err, NoFrame, Ok, refl, Register, seen}
 use Rattle.ksm_book.proofs.Singles.{carried_so, Does, come_found, HasCome, register_come, register_turned, lawful}
 use Rattle.ksm_book.proofs.state.State.register.Goals as goal
 use Rattle.ksm_book.proofs.state.State.register.Goals.{In_ok-spot}

@@ -1,7 +1,6 @@
-use Rattle.ksm_book.proofs.Names.{arith, BookValue, Comes, false, Fault, filter, IsCarried, IsScanned, length, length-filter, length-map, List, list_any, list_any_none, mergeable_count}
-use Rattle.ksm_book.proofs.Names.{mergeable_pages, None, none_counted, Ok, Option, refl, Row, Scan, scan_stopped, Scanned, Some, subst, sym, TellsDue, true, view_of, visits_beside, ℕ, []}
-use Rattle.ksm_book.proofs.Names.{◌+◌, ◌∙◌, ◌∷◌, ◌≡◌, ◌≤◌}
-use Rattle.ksm_base.specs.declared.fault.Fault.TheVariants.{Memory}
+use Rattle.ksm_book.proofs.Names.{arith, BookValue, Comes, false, Fault, filter, IsCarried, IsScanned, length, length-filter, length-map, List, list_any, list_any_none, Memory, mergeable_count}
+use Rattle.ksm_book.proofs.Names.{mergeable_pages, None, none_counted, Ok, Option, refl, Row, Scan, scan_stopped, Scanned, Some, subst, sym, TellsDue, true, view_of, visits_beside, ℕ, [], ◌+◌, ◌∙◌}
+use Rattle.ksm_book.proofs.Names.{◌∷◌, ◌≡◌, ◌≤◌}
 use Rattle.ksm_book.specs.contracts.state.State.{the_view}
 use Rattle.ksm_book.proofs.Folded.{beside_on, beside_state, visits_mergeable}
 use Rattle.ksm_book.proofs.Reached.{begins, comes_to, first}

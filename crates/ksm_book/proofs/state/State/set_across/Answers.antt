@@ -1,5 +1,5 @@
-use Rattle.ksm_book.proofs.Names.{All, All-map, arith, Done, false, inr, IsCarried, IsLaid, ne_eqb, no_dup_lives, none_shared, Ok, PagesView, refl, seen, SetAcross, subst, sym, view_of}
-use Rattle.ksm_book.proofs.Names.{waiting_state, [], ◌≡◌}
+use Rattle.ksm_book.proofs.Names.{All, All-map, arith, Done, false, inr, IsCarried, IsLaid, ne_eqb, no_dup_lives, none_shared, Ok, PagesView, refl, seen, SetAcross, subst, sym, view_of, waiting_state}
+use Rattle.ksm_book.proofs.Names.{[], ◌≡◌}
 use Rattle.ksm_book.proofs.Laying.{laid_mapped, retuned}
 use Rattle.ksm_book.proofs.Singles.{book, lawful}
 use Rattle.ksm_book.proofs.state.State.set_across.Goals as goal

@@ -1,5 +1,4 @@
-use Rattle.ksm_book.proofs.Names.{arith, Done, find_all, length, Ok, PAGE_WORDS, refl, rules, seen, Store, sym, ◌<◌, ◌∙◌, ◌≡◌}
-use Rattle.ksm_base.specs.Apply.{stored}
+use Rattle.ksm_book.proofs.Names.{arith, Done, find_all, length, Ok, PAGE_WORDS, refl, rules, seen, Store, stored, sym, ◌<◌, ◌∙◌, ◌≡◌}
 use Rattle.ksm_book.proofs.Laying.{served_at, may_left, resettled, turned}
 use Rattle.ksm_book.proofs.Singles.{carried_so, Does, own_ready, row_held, lawful, store_copied, store_written}
 use Rattle.ksm_book.proofs.state.State.store.Goals as goal

@@ -1,5 +1,4 @@
 use Rattle.ksm_book.proofs.Names.{ap, arith, BookValue, Comes, due_visited, Find, inl, inr, on_err, refl, seen, StaysBefore, sym, view_of, ◌∙◌, ◌∷◌, ◌≡◌}
-use Rattle.ksm_pages.specs.declared.pages.Find.TheVariants as finds
 use Rattle.ksm_book.specs.contracts.state.State.{the_view}
 use Rattle.ksm_book.proofs.DueFound.{changed_keeps, left_due, partner_takes}
 use Rattle.ksm_book.proofs.RowVisits.{finds_it, found_lawful}

@@ -1,7 +1,7 @@
-use Rattle.ksm_book.proofs.Names.{arith, HasVisited, part_before, part_visited, pass_begun, Stops, sym, ◌∙◌}
+use Rattle.ksm_book.proofs.Names.{arith, HasVisited, part_before, part_visited, Stops, sym, ◌∙◌}
 use Rattle.ksm_book.proofs.DueKept.{more_due}
 use Rattle.ksm_book.proofs.Reached.{comes_to}
-use Rattle.ksm_book.proofs.Folded.{begins_still, begun_ahead, still_on}
+use Rattle.ksm_book.proofs.Folded.{begun_ahead, settled_twice}
 use Rattle.ksm_book.proofs.state.State.visit_part.Goals as goal
 use Rattle.ksm_book.proofs.state.State.visit_part.Goals.{In_ok-quiet}
 
@@ -16,8 +16,7 @@ visits c =
     let visited = c.in_ok-quiet.ensures.visited in
     record {
       comes = λ from s before. visited.comes from _ (c.begin_pass.ensures from s before);
-      still = λ is from s before. still_on s (pass_begun s.0, s.1) _ (begins_still s)
-          (visited.still is from _ (c.begin_pass.ensures from s before));
+      still = λ is from s before. grind (arith, settled_twice, visited.still is from _ (c.begin_pass.ensures from s before));
     }
 
 pub returns-then-quiet-clause-visited : goal.returns-then-quiet-clause-visited
