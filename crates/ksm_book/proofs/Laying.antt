@@ -1,8 +1,8 @@
 -- What becomes of pages that lie lawfully, where the keeper makes its steps, and where a page gets another frame.
 use Rattle.ksm_book.proofs.Names.{All, arith, blank, cases_lt, change_row, cond_both, default_knobs, DupRow, false, find_all, FindsNone, first_ledger, frame_at, Frames, get_or, get_or-replicate}
-use Rattle.ksm_book.proofs.Names.{get_or_past, GuestPage, HasNewFrame, IfSome, inl, InPageOrder, IsLaid, IsServed, IsShape, KeeperView, Keeps, Knobs, leaving, Ledger, length-replicate, lies_on, List}
-use Rattle.ksm_book.proofs.Names.{lying, MakesSteps, map, MayLeave, None, nowhere, Option, PagesView, Placed, Provides, refl, relaid, Resettles, Row, row_at, Shape, shared_state, Some, spent, subst}
-use Rattle.ksm_book.proofs.Names.{TurnedAway, with_row, ℕ, [], ◌≡◌, ◌≤◌, ◌⊎◌}
+use Rattle.ksm_book.proofs.Names.{get_or_past, GuestPage, HasNewFrame, IfSome, inl, InPageOrder, IsLaid, IsServed, IsShape, KeeperView, Keeps, Knobs, leaving, Ledger, length-replicate, lies_on}
+use Rattle.ksm_book.proofs.Names.{LiesWith, List, lying, MakesSteps, map, MayLeave, None, nowhere, Option, PagesView, Placed, Provides, refl, relaid, Resettles, Row, row_at, Shape, shared_state, Some}
+use Rattle.ksm_book.proofs.Names.{spent, subst, TurnedAway, with_row, ℕ, [], ◌≡◌, ◌≤◌, ◌⊎◌}
 use Rattle.ksm_base.specs.declared.row.PageState.TheVariants.{Private as OwnPage}
 use Rattle.ksm_book.proofs.ByPage.{found_page, row_of_page}
 use Rattle.ksm_book.proofs.Moves.{inserted, remapped, Serves, swapped}
@@ -30,13 +30,6 @@ module _ {sh : Shape} {across : ℕ} {rows : List Row} {frame : Frames} {dups : 
     pub serves_at : {page : GuestPage} {row : Row} {g : ℕ} → row_at page rows ≡ Some row → frame page ≡ Some g → Serves sh k dups row g
     serves_at found lies = rw lies at (served_at _ _ found)
 
--- pages lie lawfully, but that a reference on a frame is in hand, or none
-pub record LiesWith (hand : Option ℕ) (p : PagesView) (k : KeeperView) : Type 0 where
-  pub small : IsShape p.shape
-  pub same : k.table.shape ≡ p.shape
-  pub placed : Placed p.shape p.knobs.merge_across_nodes k.ledger p.rows p.frame p.dups hand
-  pub spent : p.next ≤ spent k.ledger
-
 -- the frame in hand, if there is one, may be left
 pub may_leave : {hand : Option ℕ} {p : PagesView} {k : KeeperView} → LiesWith hand p k → IfSome hand (MayLeave k)
 may_leave {hand = None} h = tt
@@ -44,7 +37,7 @@ may_leave {hand = Some g} h = grind (arith, held_inside h.placed)
 
 -- pages lie lawfully once it was left
 pub laid_left : {hand : Option ℕ} {p : PagesView} {k : KeeperView} → LiesWith hand p k → (w : KeeperView) → MakesSteps k w (leaving hand) → IsLaid p w
-laid_left {hand = None} h w m = rw (none_made m) (grind arith)
+laid_left {hand = None} h w m = rw (none_made m) h
 laid_left {hand = Some g} h w m = record {
   small = h.small;
   same = rw m.after h.same;
@@ -59,10 +52,6 @@ pub lies_changed : {hand : Option ℕ} {p : PagesView} {k : KeeperView} {page : 
 lies_changed {hand} h c rise found keeps new = grind (arith, swapped hand c _ rise found keeps h.placed new)
 
 module _ {p : PagesView} {k : KeeperView} (h : IsLaid p k) where
-  -- pages that lie lawfully do so with nothing in hand
-  pub with_none : LiesWith None p k
-  with_none = grind arith
-
   abbrev across : ℕ
   across = p.knobs.merge_across_nodes
 

@@ -27,7 +27,6 @@ pub framed : (sh : Shape) (k : Ledger) (dups : List DupRow) (r : Row) (o : Optio
     → (f : ℕ) × (o ≡ Some f) × Serves sh k dups r f
 framed sh k dups r o other h = grind arith
 
--- a row is served by its frame
 abbrev At : Shape → Ledger → List DupRow → Frames → Row → Type 0
 At sh k dups frame r = IsServed sh k dups r (frame r.page)
 
@@ -48,7 +47,6 @@ all_without P d dups apart h =
     )
 
 module _ {sh : Shape} {across : ℕ} {k : Ledger} {rows : List Row} {frame : Frames} {dups : List DupRow} where
-  -- a row changes, or comes, or goes, with its frame, if it has one
   -- other rows in the same frames
   rehoused : {rows' : List Row} {frame' : Frames} {o o' : Option ℕ} → Placed sh across k rows frame dups o → All (λ r. IsServed sh k dups r (frame' r.page)) rows'
       → ((f : ℕ) → (frame_at k f).base ≡ uses f frame' rows' + in_hand f o') → Placed sh across k rows' frame' dups o'
@@ -131,7 +129,6 @@ emptied k place = record { frames = k.frames; places = set k.places place None }
 module _ {sh : Shape} {across : ℕ} {k : Ledger} {rows : List Row} {frame : Frames} {dups : List DupRow} where
   module _ (p : Placed sh across k rows frame dups None) (page : GuestPage) (row : Row) (rise : InPageOrder rows) (found : row_at page rows ≡ Some row)
       (g : ℕ) (lies : frame page ≡ Some g) (own : (frame_at k g).kind ≡ Private) where
-    -- the row is served by its frame
     fits : Serves sh k dups row g
     fits = grind (arith, found_page, find_all _ (λ r. IsServed sh k dups r (frame r.page)) _ row found p.each_row)
 
@@ -144,7 +141,6 @@ module _ {sh : Shape} {across : ℕ} {k : Ledger} {rows : List Row} {frame : Fra
     abbrev off : Frames
     off = lies_on page None frame
 
-    -- without the page its frame is in the hand
     lifted : Placed sh across k bare off dups (Some g)
     lifted = rw (← lies) (swapped None _ row rise found (λ r. refl) p refl)
 

@@ -60,7 +60,7 @@ pub use Rattle.ksm_book.specs.Due.{AreDue, comes_later, due_visited, DueView, Fi
 pub use Rattle.ksm_book.specs.Due.{waits_on, with_rows}
 pub use Rattle.ksm_book.specs.Folded.{begun, IsStill, next_visited, page_visited, pages_ahead, pages_visited, restless_at, restless_row, row_done, Stage, visited, visits_beside}
 pub use Rattle.ksm_book.specs.Keeping.{AreSets, HasLost, HasMoved, HasNewFrame, holding, IsLawful, Keeps, MayLeave, MayMount, NoneLeft, once_mounted, spent, spent_on, with_more}
-pub use Rattle.ksm_book.specs.Laid.{HasLeft, HasRemounted, is_shared_of, IsLaid, left_by, lying, MayMove, MayNotLeave, state_of, TurnedAway, Unshares}
+pub use Rattle.ksm_book.specs.Laid.{HasLeft, HasRemounted, is_shared_of, IsLaid, left_by, LiesWith, lying, MayMove, MayNotLeave, state_of, TurnedAway, Unshares}
 pub use Rattle.ksm_book.specs.Placement.{Agrees, DupFits, FitsBase, in_hand, is_frame, IsInLife, IsServed, node_of, place_frame, Placed, RowFits, uses}
 pub use Rattle.ksm_book.specs.Promised.{dup_frames, FindsPlace, is_in_use, IsOutlived, LieOn, own_frames, StandsOn}
 pub use Rattle.ksm_book.specs.Scanned.{ahead_before, ahead_up_to, Comes, FindsStill, FindsUpTo, HasVisited, is_nowhere, is_quiet, last_visited, passes_ended, Reached, StaysStill, Stops, up_to}

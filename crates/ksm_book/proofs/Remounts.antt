@@ -25,7 +25,6 @@ module _ (f g : ℕ) (frame : Frames) (rows : List Row) where
 module _ {sh : Shape} {across : ℕ} {k : Ledger} {rows : List Row} {frame : Frames} {dups : List DupRow}
     (p : Placed sh across k rows frame dups None) (moving : DupRow) (among : (P : DupRow → Type 0) → All P dups → P moving) (left g : ℕ)
     (leaves : left ≡ place_frame k moving.place) where
-  -- the place of the dup that moves
   abbrev q : ℕ
   q = moving.place
 
@@ -135,18 +134,15 @@ module _ {v : PagesView} {k : KeeperView} {dup : DupRow} {node g : ℕ} (may : M
     on_frame : g ≡ place_frame w.ledger dup.place
     on_frame = grind (arith, item_lies, live)
 
-    -- what is known of it
     known : (g < frames_of sh) × (n.kind ≡ Stable) × (n.content ≡ dup.bytes)
     known = grind (arith, on_frame, dup_fits, live)
 
-    -- the dup's items are the rows on its frame
     on_it : All (λ r. is_frame g (v.frame r.page) ≡ merged_into dup.number r.state) v.rows
     on_it = rw on_frame (lies_as_item p dup stands live.life)
 
     base : n.base ≡ item_count v.rows dup
     base = rw on_frame (base_is_items p dup stands live.life)
 
-    -- so they go from there
     items_go : (f' : ℕ) → items_on dup.number f' v.rows v.frame ≡ instead g f' v.frame
     items_go f' = same_frames _ _ (λ page.
         let at = λ (r : Row) (found : row_at page v.rows ≡ Some r).

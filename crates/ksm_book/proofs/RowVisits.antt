@@ -1,9 +1,9 @@
 -- The visit of a row, by what is found: what becomes of the book, and what is done to the frames.
 use Rattle.ksm_book.proofs.Names.{Add, All, All-contains_itself, arith, Best, best_dup, best_dup_has_room, BookValue, BookView, change_row, Contains, Did, Dup, DupRow, each_at_page, false, Find}
 use Rattle.ksm_book.proofs.Names.{find_all, find_passes, FindsAt, FindsStill, Frames, GuestPage, HasRoom, HasVisited, idle, IfSome, is_best, is_restless, IsDupOf, IsJoined, IsLaid, IsSound}
-use Rattle.ksm_book.proofs.Names.{item_count, KeeperStep, KeeperView, leaving, lies_on, lying, MakesSteps, map, map_mapped, MatchOption, May, MayLeave, Merged, merged_into, merged_state}
-use Rattle.ksm_book.proofs.Names.{MOST_REFERENCES, None, Option, page_visited, PagesView, Performs, refl, Row, row_at, row_visited, row_visiting, settled, shared_state, Some}
-use Rattle.ksm_book.proofs.Names.{sound_row_visited, state_of, Sub, subst, sym, true, view_of, VisitsPage, Waiting, Zero, ℕ, [], ◌-◌, ◌∷◌, ◌≡◌, ◌≤◌}
+use Rattle.ksm_book.proofs.Names.{item_count, KeeperStep, KeeperView, leaving, lies_on, LiesWith, lying, MakesSteps, map, map_mapped, MatchOption, May, MayLeave, Merged, merged_into, merged_state}
+use Rattle.ksm_book.proofs.Names.{MOST_REFERENCES, None, Option, page_visited, PagesView, Performs, refl, Row, row_at, row_visited, row_visiting, settled, shared_state, Some, sound_row_visited}
+use Rattle.ksm_book.proofs.Names.{state_of, Sub, subst, sym, true, view_of, VisitsPage, Waiting, Zero, ℕ, [], ◌-◌, ◌∷◌, ◌≡◌, ◌≤◌}
 use Rattle.ksm_book.proofs.ByPage.{found_page, row_of_page}
 use Rattle.ksm_book.proofs.Made.{made_one, made_then}
 use Rattle.ksm_book.proofs.Sharing.{laid_joined, may_join as join_may, may_part, state_of_item, Lives, lives}
@@ -12,7 +12,7 @@ use Rattle.ksm_pages.specs.declared.pages.Find.TheVariants as finds
 use Rattle.ksm_base.specs.declared.row.PageState.TheVariants.{Private}
 use Rattle.ksm_book.proofs.Folded.{then_idle}
 use Rattle.ksm_pages.specs.Paged.{changed as row_changed, Finds, ItemsLieOn, relaid}
-use Rattle.ksm_book.proofs.Laying.{laid_changed, laid_left, lies_changed, LiesWith, LodgesAs, may_leave, with_none}
+use Rattle.ksm_book.proofs.Laying.{laid_changed, laid_left, lies_changed, LodgesAs, may_leave}
 
 -- where something is told of what an option holds, it holds something, of which that is so
 pub filled_by : {X : Type 0} (P : X → Type 0) {o : Option X} → MatchOption o (true ≡ false) P → (x : X) × (o ≡ Some x) × P x
@@ -176,7 +176,7 @@ module _ {p : PagesView} {k : KeeperView} {cursor : Option GuestPage} {passes : 
     zeroed r = record r { state = Zero }
 
     zero_hand : LiesWith (p.frame page) (relaid page zeroed None p) k
-    zero_hand = lies_changed (with_none at.laid) _ at.sound.rows_rise at.found (λ r. refl) refl
+    zero_hand = lies_changed at.laid _ at.sound.rows_rise at.found (λ r. refl) refl
 
     -- the frame of a page that is to become Zero may be left
     pub may_empty : {left : Option ℕ} → left ≡ p.frame page → IfSome left (MayLeave k)

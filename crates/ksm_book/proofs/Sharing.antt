@@ -1,14 +1,14 @@
 -- What becomes of the layout where a page joins a dup, a dup is made, or stale dups go, one by one.
 use Rattle.ksm_book.proofs.Names.{Add, added, All, All-filter, ap, arith, blank, Bool, cases_Bool, change_row, Contains, Contains-get_or, count_by, count_by-le-length, count_none, did, DupRow}
 use Rattle.ksm_book.proofs.Names.{elsewhere, empty_from, eq-eqb, eqb-true, false, filter, filter_all, filter_none, filter_passes, find, find_all, find_none, find_passes, frame_at, Frames}
-use Rattle.ksm_book.proofs.Names.{frames_at_most, frames_of, get_or, get_or-set_same, get_or_default, GuestPage, has_items, IfSome, inl, InPageOrder, InPlaceOrder, inr, is_stale}
-use Rattle.ksm_book.proofs.Names.{IsInLife, IsLaid, IsLoose, IsServed, IsVacant, item_count, KeeperView, leaving, Ledger, length, length-filter, List, list_any, Lower, lying, MakesSteps, May}
-use Rattle.ksm_book.proofs.Names.{MayLeave, Merged, merged_into, merged_state, MOST_FRAMES, MOST_LIVES, MOST_REFERENCES, named_anew, named_at, None, none_found, Note, one_of_each_place, Option}
-use Rattle.ksm_book.proofs.Names.{option_map, ordered_filter, PageState, PagesView, pairs_tail, Performs, place_frame, Placed, Private, pruning, Publish, refl, relaid, Row, row_at, RowFits}
-use Rattle.ksm_book.proofs.Names.{set-get_or, Shape, shared_state, Some, spent, spent_on, Stable, suc, sum_by-le, sym, true, with_dup, Withdraw, withdrawing, ℕ, [], ◌*◌, ◌+◌, ◌-◌, ◌<◌, ◌==◌, ◌^◌, ◌∙◌}
-use Rattle.ksm_book.proofs.Names.{◌∷◌, ◌≡◌, ◌≢◌, ◌≤◌}
+use Rattle.ksm_book.proofs.Names.{frames_at_most, frames_of, get_or, get_or-set_same, get_or_default, GuestPage, has_items, IfSome, inl, InPageOrder, InPlaceOrder, inr, is_stale, IsInLife, IsLaid}
+use Rattle.ksm_book.proofs.Names.{IsLoose, IsServed, IsVacant, item_count, KeeperView, leaving, Ledger, length, length-filter, LiesWith, List, list_any, Lower, lying, MakesSteps, May, MayLeave}
+use Rattle.ksm_book.proofs.Names.{Merged, merged_into, merged_state, MOST_FRAMES, MOST_LIVES, MOST_REFERENCES, named_anew, named_at, None, none_found, Note, one_of_each_place, Option, option_map}
+use Rattle.ksm_book.proofs.Names.{ordered_filter, PageState, PagesView, pairs_tail, Performs, place_frame, Placed, Private, pruning, Publish, refl, relaid, Row, row_at, RowFits, set-get_or, Shape}
+use Rattle.ksm_book.proofs.Names.{shared_state, Some, spent, spent_on, Stable, suc, sum_by-le, sym, true, with_dup, Withdraw, withdrawing, ℕ, [], ◌*◌, ◌+◌, ◌-◌, ◌<◌, ◌==◌, ◌^◌, ◌∙◌, ◌∷◌, ◌≡◌, ◌≢◌}
+use Rattle.ksm_book.proofs.Names.{◌≤◌}
 use Rattle.ksm_book.proofs.Moves.{base_is_items, emptied, framed, published, Serves, stale_is_loose, withdrawn}
-use Rattle.ksm_book.proofs.Laying.{laid_left, lies_changed, LiesWith, may_leave, serves_at}
+use Rattle.ksm_book.proofs.Laying.{laid_left, lies_changed, may_leave, serves_at}
 use Rattle.ksm_book.proofs.Keeping.{spent_kept, spent_set}
 use Rattle.ksm_book.proofs.Noted.{noted}
 use Rattle.ksm_book.proofs.Made.{first_made, none_made, step_made, made_none, made_one, made_then}

@@ -2,12 +2,12 @@
 use Rattle.ksm_book.specs.declared.state.State.TheInside.{Inside}
 use Rattle.ksm_book.proofs.Names.{absent_parts, All, Answer, ap, arith, at_home_on, BookState, BookValue, BookView, change_row, comes_before, Command, Done, Drop, DupRow, Err, false, filter}
 use Rattle.ksm_book.proofs.Names.{filter_passes, find_passes, find_put, FindsNone, frame_at, frames_of, fresh_row, GuestPage, HasNewFrame, HasRemounted, Held, holding, IfSome, inl, InPageOrder}
-use Rattle.ksm_book.proofs.Names.{IsCarried, IsHeld, IsLaid, IsReadable, IsSound, IsWritable, KeeperView, leaving, length, lies_on, List, live_dup_at, lying, MakesSteps, map_alike, map_fixed}
-use Rattle.ksm_book.proofs.Names.{MayLeave, MayMove, moved, MoveDup, MovePage, nat_le, NoFrame, None, Ok, Option, PAGE_WORDS, pages_ordered, PagesView, Provides, puts, refl, Register, relaid}
-use Rattle.ksm_book.proofs.Names.{Resettles, Row, row_at, same_page, same_page_refl, seen, shared_state, Some, sound_after, sound_settings, state_of, stepped, Store, stored, true, view_of, with_frame}
-use Rattle.ksm_book.proofs.Names.{with_row, without_between, without_page, ℕ, [], ◌<◌, ◌==◌, ◌∙◌, ◌∷◌, ◌≡◌, ◌≤◌}
+use Rattle.ksm_book.proofs.Names.{IsCarried, IsHeld, IsLaid, IsReadable, IsSound, IsWritable, KeeperView, leaving, length, lies_on, LiesWith, List, live_dup_at, lying, MakesSteps, map_alike}
+use Rattle.ksm_book.proofs.Names.{map_fixed, MayLeave, MayMove, moved, MoveDup, MovePage, nat_le, NoFrame, None, Ok, Option, PAGE_WORDS, pages_ordered, PagesView, Provides, puts, refl, Register}
+use Rattle.ksm_book.proofs.Names.{relaid, Resettles, Row, row_at, same_page, same_page_refl, seen, shared_state, Some, sound_after, sound_settings, state_of, stepped, Store, stored, true, view_of}
+use Rattle.ksm_book.proofs.Names.{with_frame, with_row, without_between, without_page, ℕ, [], ◌<◌, ◌==◌, ◌∙◌, ◌∷◌, ◌≡◌, ◌≤◌}
 use Rattle.ksm_book.proofs.ByPage.{found_page, lies_again, lies_still, row_of_page}
-use Rattle.ksm_book.proofs.Laying.{come_there, laid_left, laid_rows, LiesWith, may_leave, retuned, serves_at, turned}
+use Rattle.ksm_book.proofs.Laying.{come_there, laid_left, laid_rows, may_leave, retuned, serves_at, turned}
 use Rattle.ksm_book.proofs.Keeping.{spent_kept}
 use Rattle.ksm_book.proofs.Moves.{removed, written_in}
 

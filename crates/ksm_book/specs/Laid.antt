@@ -37,12 +37,17 @@ state_of p cursor passes = record {
   next = p.next;
 }
 
--- rows and dups lie lawfully in the frames, and no more dups were made than lives were spent
-pub record IsLaid (p : PagesView) (k : KeeperView) : Type 0 where
+-- rows and dups lie lawfully in the frames, with one more reference in hand, or none, and no more dups were made than lives
+-- were spent
+pub record LiesWith (hand : Option ℕ) (p : PagesView) (k : KeeperView) : Type 0 where
   pub small : IsShape p.shape
   pub same : k.table.shape ≡ p.shape
-  pub placed : Placed p.shape p.knobs.merge_across_nodes k.ledger p.rows p.frame p.dups None
+  pub placed : Placed p.shape p.knobs.merge_across_nodes k.ledger p.rows p.frame p.dups hand
   pub spent : p.next ≤ spent k.ledger
+
+-- they do so with none in hand
+abbrev pub IsLaid : PagesView → KeeperView → Type 0
+IsLaid p k = LiesWith None p k
 
 -- no frame of a node was left, and no page changed
 pub record TurnedAway (p q : PagesView) (k l : KeeperView) (node : ℕ) : Type 0 where

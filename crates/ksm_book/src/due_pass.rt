@@ -121,6 +121,7 @@ impl State {
     }
 
     // No row from a page on waits any more.
+    #[tactic(auto, using(crate::proofs::Along::further, crate::proofs::Along::not_far))]
     fn hide_from(&mut self, page: GuestPage)
         ensures { view_of self.new ≡ record (view_of self.old) { state = hidden_from page self.old.state } }
     {

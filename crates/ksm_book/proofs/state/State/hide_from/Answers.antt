@@ -1,7 +1,6 @@
 use Rattle.ksm_book.proofs.Names.{ap, arith, BookValue, every_row, find, find_passes, is_next, None, option_map, Row, row_at, rules, Some, subst, view_of, with_rows, ◌≡◌}
 use Rattle.ksm_book.proofs.Hiding.{hide, hiding_end, hiding_more, hiding_over}
 use Rattle.ksm_book.proofs.Along.{along_none}
-use Rattle.ksm_book.proofs.Walked.{less_room}
 use Rattle.ksm_book.proofs.state.State.hide_from.Goals as goal
 use Rattle.ksm_book.proofs.state.State.hide_from.Goals.{else-not-held, then-not-held+then-not-comes_before}
 
@@ -9,10 +8,6 @@ pub pages-init : goal.pages-init
 pages-init c = record {
   are = ap (with_rows (view_of c.args.self.now)) (along_none every_row (hide c.args.page) _).are;
 }
-
-pub pages-smaller : goal.pages-smaller
-pages-smaller c = less_room c.pages.last c.in-Some.held.spot.page (search rules, search rules)
-    (grind (arith, c.in-Some.ensures.1, find_passes))
 
 pub pages-preserved : goal.pages-preserved
 pages-preserved c =

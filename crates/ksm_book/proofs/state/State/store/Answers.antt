@@ -36,7 +36,6 @@ take_frame-requires-clause-node c =
     let homes = find_all _ (λ r. r.home < c.self.inside.pages.shape.nodes) _ _ c.in-Some.ensures.found c.self.invariant.0.homes in
     grind (arith, c.shape-shape.ensures, c.in-Some.ensures.home, homes)
 
--- where no frame is found, no page changed
 pub invariant_of-self : goal.invariant_of-self
 invariant_of-self c = (c.self.invariant.0, (turned c.self.invariant.1 c.in_default-take_frame.ensures.provides).laid)
 
@@ -61,7 +60,6 @@ returns-then-held-clause-carried c = carried_so c.self.view_is (rw c.in-Some.ens
 pub invariant_of-self-then-held : goal.invariant_of-self-then-held
 invariant_of-self-then-held c = lawful c.self.invariant.0 (copied c)
 
--- what is due stays so
 -- the page that was merged or Zero is due beside what was
 pub returns-then-held-clause-due : goal.returns-then-held-clause-due
 returns-then-held-clause-due c = λ known.
