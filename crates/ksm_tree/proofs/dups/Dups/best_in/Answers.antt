@@ -5,10 +5,8 @@ use Rattle.ksm_tree.proofs.dups.Dups.best_in.Goals.{else-items-least, then-items
 
 pub bounds-counts-place : goal.bounds-counts-place
 bounds-counts-place c =
-    let seen = c.self.view_is in
-    let below : All (λ r. r.place < c.args.self.now.places) (rows_of c.args.self.now.dups) = rw (← seen) c.self.invariant.lawful.places_below in
-    let within = candidates_within _ _ _ _ _ _ (rw c.requires at c.places_to_join-is_chain.ensures) _ below in
-    omega (arith, c.counts-counts.ensures.places, ap (λ s. s.places) seen)
+    let below : All (λ r. r.place < c.args.self.now.places) (rows_of c.args.self.now.dups) = rw (← c.self.view_is) c.self.invariant.lawful.places_below in
+    grind (arith, c.counts-counts.ensures.places, candidates_within _ _ _ _ _ _ (rw c.requires at c.places_to_join-is_chain.ensures) _ below)
 
 pub loop-place-preserved : goal.loop-place-preserved
 loop-place-preserved c =
@@ -40,7 +38,6 @@ loop-place-preserved c =
 
 pub returns : goal.returns
 returns c =
-    let over = drop_of_length-le c.places_to_join-is_chain.result.0.now {i = c.loop-place.place-index} (omega arith) in
     let rise : InPlaceOrder (rows_of c.args.self.now.dups) = rw (← c.self.view_is) c.self.invariant.lawful.in_place_order in
     let best = walk_best _ _ _ _ _ _ (rw c.requires at c.places_to_join-is_chain.ensures) rise in
-    grind (arith, over)
+    grind (arith, drop_of_length-le c.places_to_join-is_chain.result.0.now {i = c.loop-place.place-index} (omega arith))

@@ -1,4 +1,4 @@
-use Rattle.ksm_tree.proofs.Names.{All, AllPass-from_list_all, ap, arith, content_in, get_or, is_open, not, sym, true, ◌<◌, ◌∙◌}
+use Rattle.ksm_tree.proofs.Names.{AllPass-from_list_all, ap, arith, content_in, get_or, is_open, not, sym, true, ◌∙◌}
 use Rattle.ksm_tree.proofs.Chained.{group_here}
 use Rattle.ksm_tree.proofs.Joining.{candidates_within, closed_best}
 use Rattle.ksm_tree.proofs.dups.Dups.is_closed.Goals as goal
@@ -9,9 +9,8 @@ none_open-requires c k d within =
     let g = c.in-Some.found.now in
     let own = (s.groups.lawful g.content c.args.group).1 (ap content_in (sym c.in-Some.ensures)) in
     let chain = c.as_slice-chain.ensures ∙ group_here c.self.invariant _ _ own c.in-Some.ensures in
-    let below : All (λ p. p < s.slots.places) c.as_slice-chain.result.now =
-    candidates_within _ _ c.args.limit s.slots.dups _ true chain _ c.self.invariant.lawful.places_below in
-    omega (arith, below k d within, c.counts.ensures.places)
+    let below = candidates_within _ _ c.args.limit s.slots.dups _ true chain _ c.self.invariant.lawful.places_below k d within in
+    omega (arith, c.counts.ensures.places)
 
 pub returns-then-chain-le-SHORT_CHAIN : goal.returns-then-chain-le-SHORT_CHAIN
 returns-then-chain-le-SHORT_CHAIN c closed = rw (← c.self.view_is) (λ t b is.

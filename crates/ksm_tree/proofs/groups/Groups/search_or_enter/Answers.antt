@@ -1,4 +1,4 @@
-use Rattle.ksm_tree.proofs.Names.{ap, arith, content_of, get, Group, inl, None, refl, rules, Some, subst, sym, ℕ, ◌∙◌, ◌≡◌}
+use Rattle.ksm_tree.proofs.Names.{arith, content_of, get, Group, inl, None, refl, rules, Some, ◌∙◌, ◌≡◌}
 use Rattle.std.specs.BTreeMap.Entry.{map_with_value}
 use Rattle.slab.specs.Slab.{Updates as Fills}
 use Rattle.ksm_tree.specs.Groups.{number_in}
@@ -16,13 +16,9 @@ entered c =
     let k = content_of c.args.tree c.args.bytes.now in
     let fresh : Group = record { content = k; places = c.new.result } in
     let key : c.insert_reserved.result ≡ c.in-Ok.number = search rules in
-    let room = λ (n : ℕ). ap (λ s. get s n) c.reserve_one.ensures.rest in
-    let vacant = sym (room c.in-Ok.number) ∙ ap (get c.reserve_one.new.slab) (sym key) ∙
-    c.insert_reserved.ensures.was_vacant in
-    let fills = subst (λ n. Fills c.reserve_one.new.slab c.insert_reserved.new.self n (Some fresh)) key c.insert_reserved.ensures.updates in
-    keeps g _ k (c.in_ok-entry.ensures.update.0 c.in-Ok.number)
-    (record { changed = fills.changed; others = λ n apart. fills.others n apart ∙ room n })
-    (rw vacant refl) c.new.ensures.none (inl (absent c, vacant, refl, refl))
+    let vacant : get g.groups c.in-Ok.number ≡ None = grind (arith, key, c.reserve_one.ensures.rest, c.insert_reserved.ensures.was_vacant) in
+    let fills : Fills g.groups c.insert_reserved.new.self c.in-Ok.number (Some fresh) = grind (arith, key, c.reserve_one.ensures.rest, c.insert_reserved.ensures.updates) in
+    keeps g _ k (c.in_ok-entry.ensures.update.0 c.in-Ok.number) fills (rw vacant refl) c.new.ensures.none (inl (absent c, vacant, refl, refl))
 
 pub invariant_of-self-in-Vacant : goal.invariant_of-self-in-Vacant
 invariant_of-self-in-Vacant c = record { lawful = search (rules, (entered c).lawful, c.insert-number.ensures.writes_back); bounded = c.make_room.new.self.bounded }
