@@ -1,4 +1,4 @@
-use Rattle.std.proofs.Common.{arith, ◌≡◌, ◌∙◌}
+use Rattle.std.proofs.Common.{arith, ◌≡◌}
 use Rattle.ksm_order.specs.Listed.{is_at, with_item}
 use Rattle.ksm_base.proofs.Edits.{find_none}
 use Rattle.ksm_order.proofs.Between.{many_with}
@@ -9,8 +9,7 @@ use Rattle.ksm_order.proofs.leaf.LeafPart.insert.Goals as goal
 -- the item is put in behind those before its key
 added : (c : goal.After-self-2-1) → c.insert_at.new.items.items ≡ with_item c.args.item c.self.inside.items.items
 added c =
-    let at = rw c.as_slice.ensures.value at c.place_by-at.ensures in
-    c.in_ok-insert_at.ensures.put ∙ insert_here at c.args.item (find_none (is_at c.args.item.key) _ (grind (arith, c.requires.absent)))
+    grind (arith, c.in_ok-insert_at.ensures.put, insert_here c.place_by-at.ensures c.args.item (find_none (is_at c.args.item.key) _ (grind (arith, c.requires.absent))))
 
 pub invariant_of-self-2 : goal.invariant_of-self-2
 invariant_of-self-2 c =

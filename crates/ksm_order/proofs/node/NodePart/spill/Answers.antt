@@ -1,4 +1,4 @@
-use Rattle.std.proofs.Common.{arith, ap, length}
+use Rattle.std.proofs.Common.{arith}
 use Rattle.ksm_order.proofs.Changes.{items_cut, parts_cut}
 use Rattle.ksm_order.proofs.node.NodePart.spill.Goals as goal
 
@@ -20,5 +20,4 @@ invariant_of-self-2 g c =
 
 pub returns-clause-cut : goal.returns-clause-cut
 returns-clause-cut g c =
-    rw (← c.self.view_is, c.in_ok-parts.ensures.items, c.in_ok-parts.ensures.tail)
-    (items_cut c.self.invariant c.cut_for-at.result c.cut_for-at.ensures.some (omega (arith, ap length c.as_slice.ensures.value)))
+    grind (arith, c.in_ok-parts.ensures.items, c.in_ok-parts.ensures.tail, items_cut c.self.invariant c.cut_for-at.result)
