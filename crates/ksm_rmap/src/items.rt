@@ -1,8 +1,6 @@
 //! The reverse map of one dup: a sorted list of pages, since most dups have few. Eight lie in the list itself. Of each
 //! page its key is kept, since a search then compares one number a step.
-ghost use Rattle.std.specs.Prelude.{◌≡◌, ℕ, ◌==◌, ◌<◌, ◌≤◌, ◌^◌, List, [], true, false, length, Some, IfErr, IfOk};
-ghost use Rattle.std.specs.Prelude.{IsTrue, OnOk, OnErr, All, filter, map, nat_lt, slice_get, slice_index_or};
-ghost use Rattle.std.specs.List.{list_any};
+ghost use Rattle.std.specs.Prelude.{◌≡◌, ◌<◌, ◌≤◌, ◌^◌, [], All, false, length, Some, map, slice_get, IfErr, IfOk, OnErr, OnOk};
 ghost use Rattle.ksm_base.specs.declared.limits.TheConstants.{MOST_REFERENCES};
 ghost use Rattle.ksm_base.specs.declared.page.GuestPage.{GuestPage};
 ghost use Rattle.ksm_rmap.specs.Items.{AreAscending, has_item, with_item, without_item};
