@@ -1,5 +1,7 @@
 -- What is asked of the pages: the first page after a cursor.
-use Rattle.ksm_pages.proofs.Names.{after_cursor, ap, arith, Bool, comes_before, each_at_page, false, false_from_ne_true, filter_passes, find, find-append, find_all, find_none, find_nothing, find_passes, found_parts, get_or, GuestPage, IfSome, InPageOrder, Inside, is_next, IsHeld, List, MatchOption, None, none-some, of_guest, Option, option_map, pages_ordered, PagesValue, Row, row_at, rows_of, same_page_eq, seen, Some, sym, true, ℕ, ◌∙◌, ◌≡◌, ◌≤◌}
+use Rattle.ksm_pages.proofs.Names.{after_cursor, ap, arith, Bool, comes_before, each_at_page, false, false_from_ne_true, filter_passes, find, find-append, find_all, find_none, find_nothing}
+use Rattle.ksm_pages.proofs.Names.{find_passes, found_parts, get_or, GuestPage, IfSome, InPageOrder, Inside, is_next, IsHeld, List, MatchOption, None, none-some, of_guest, Option, option_map}
+use Rattle.ksm_pages.proofs.Names.{pages_ordered, PagesValue, Row, row_at, rows_of, same_page_eq, seen, Some, sym, true, ℕ, ◌∙◌, ◌≡◌, ◌≤◌}
 use Rattle.ksm_pages.proofs.Options.{mapped_some, none_mapped}
 use Rattle.ksm_pages.proofs.Found.{find_narrower, first_found}
 use Rattle.ksm_pages.specs.declared.pages.Held.{Held as Told}

@@ -1,5 +1,9 @@
 -- The pages once the stale dup at a place went, or the items of a dup went to another frame.
-use Rattle.ksm_pages.proofs.Names.{[], All, All-filter, All-head, All-tail, all_rows, ap, AreAlone, AreTied, arith, Bool, Dup, dup_at, dup_numbered, dup_rows, DupRow, each_has_number, elsewhere, eq-eqb, eqb-true, false, filter, filter_all, find, find_alike, find_all, find_none, find_nothing, find_passes, frame_of, get_or, GuestPage, Held, held_at, if◌then◌else◌, in_group, InPlaceOrder, is_item, is_live, is_some, is_stale, IsVacant, item_count, items_on, Knobs, length, List, list_any, lodging, lodgings_of, Merged, merged_into, nat_tests, None, none_counted, none_found, not, one_of_each_place, Option, option_and_then, option_map, refl, Row, row_at, rows_of, rows_without, set, slice_get, Some, stands_at, sym, tied_counted, tree_of, true, without_place, ℕ, ◌&&◌, ◌<◌, ◌==◌, ◌∙◌, ◌∷◌, ◌≡◌}
+use Rattle.ksm_pages.proofs.Names.{[], All, All-filter, All-head, All-tail, all_rows, ap, AreAlone, AreTied, arith, Bool, Dup, dup_at, dup_numbered, dup_rows, DupRow, each_has_number, elsewhere}
+use Rattle.ksm_pages.proofs.Names.{eq-eqb, eqb-true, false, filter, filter_all, find, find_alike, find_all, find_none, find_nothing, find_passes, frame_of, get_or, GuestPage, Held, held_at}
+use Rattle.ksm_pages.proofs.Names.{if◌then◌else◌, in_group, InPlaceOrder, is_item, is_live, is_some, is_stale, IsVacant, item_count, items_on, Knobs, length, List, list_any, lodging, lodgings_of}
+use Rattle.ksm_pages.proofs.Names.{Merged, merged_into, nat_tests, None, none_counted, none_found, not, one_of_each_place, Option, option_and_then, option_map, refl, Row, row_at, rows_of}
+use Rattle.ksm_pages.proofs.Names.{rows_without, set, slice_get, Some, stands_at, sym, tied_counted, tree_of, true, without_place, ℕ, ◌&&◌, ◌<◌, ◌==◌, ◌∙◌, ◌∷◌, ◌≡◌}
 use Rattle.ksm_pages.proofs.Changing.{row_found}
 use Rattle.ksm_pages.proofs.Found.{find_kept}
 use Rattle.ksm_pages.proofs.Lodgings.{frame_by, seat}

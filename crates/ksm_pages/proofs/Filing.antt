@@ -1,5 +1,8 @@
 -- Entries under keys and the order of their pages: what is found, and what one entry that came, went or changed leaves.
-use Rattle.ksm_pages.proofs.Names.{All, All-filter, All-map, ap, ap₂, AreAscending, AreFiled, arith, Bool, change_held, comes_before, Entry, false, Fills, filter, filter_mapped, filter_passes, find, find_mapped, find_passes, get, get_or, get_or-map, GuestPage, Held, held_at, held_in, held_of, held_under, if◌then◌else◌, InPageOrder, is_of, IsRows, IsUnder, key_in, List, map, map-append, map_alike, map_fixed, map_mapped, marked, Named, named_of, None, not, option_map, pairs_mapped, refl, rows_of, RowsView, rules, same_page, same_page_eq, same_page_refl, same_Some, Slab, Some, sym, true, with_held, with_named, without_held, without_named, ℕ, ◌==◌, ◌∙◌, ◌≡◌, ◌≢◌}
+use Rattle.ksm_pages.proofs.Names.{All, All-filter, All-map, ap, ap₂, AreAscending, AreFiled, arith, Bool, change_held, comes_before, Entry, false, Fills, filter, filter_mapped, filter_passes, find}
+use Rattle.ksm_pages.proofs.Names.{find_mapped, find_passes, get, get_or, get_or-map, GuestPage, Held, held_at, held_in, held_of, held_under, if◌then◌else◌, InPageOrder, is_of, IsRows, IsUnder}
+use Rattle.ksm_pages.proofs.Names.{key_in, List, map, map-append, map_alike, map_fixed, map_mapped, marked, Named, named_of, None, not, option_map, pairs_mapped, refl, rows_of, RowsView, rules}
+use Rattle.ksm_pages.proofs.Names.{same_page, same_page_eq, same_page_refl, same_Some, Slab, Some, sym, true, with_held, with_named, without_held, without_named, ℕ, ◌==◌, ◌∙◌, ◌≡◌, ◌≢◌}
 use Rattle.ksm_pages.proofs.Options.{mapped_some, none_mapped}
 use Rattle.ksm_pages.specs.declared.rows.Rows.TheInside.{Inside}
 use Rattle.ksm_pages.proofs.Found.{each_found, find_change, find_gone, find_gone_other, find_put, find_put_other}

@@ -1,5 +1,7 @@
 -- Lists in the order of their pages: what a search finds once one came, went or changed, and what a write at a page's place leaves.
-use Rattle.ksm_pages.proofs.Names.{[], absent_parts, All, All-cons, AllPairs, ap, arith, before_irrefl, Bool, comes_before, cond, false, filter, filter_passes, find, find-append, find_mapped, find_nothing, find_over, find_passes, get_or, GuestPage, if◌then◌else◌, length, length-append, List, map, map_alike, None, not, Option, option_map, pages_ordered, pairs_head, pairs_mapped, pairs_tail, rules, same_page, same_page_eq, same_page_refl, same_page_sym, same_Some, Some, suc, sym, true, zero, ◌++◌, ◌+◌, ◌∙◌, ◌∷◌, ◌≡◌}
+use Rattle.ksm_pages.proofs.Names.{[], absent_parts, All, All-cons, AllPairs, ap, arith, before_irrefl, Bool, comes_before, cond, false, filter, filter_passes, find, find-append, find_mapped}
+use Rattle.ksm_pages.proofs.Names.{find_nothing, find_over, find_passes, get_or, GuestPage, if◌then◌else◌, length, length-append, List, map, map_alike, None, not, Option, option_map, pages_ordered}
+use Rattle.ksm_pages.proofs.Names.{pairs_head, pairs_mapped, pairs_tail, rules, same_page, same_page_eq, same_page_refl, same_page_sym, same_Some, Some, suc, sym, true, zero, ◌++◌, ◌+◌, ◌∙◌, ◌∷◌, ◌≡◌}
 
 -- what a search finds among all it finds among those that are kept, where the one found is kept
 pub find_kept : {X : Type 0} (test keep : X → Bool) (xs : List X) (o : Option X) → find test xs ≡ o

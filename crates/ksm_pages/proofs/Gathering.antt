@@ -1,5 +1,8 @@
 -- A walk along the order that lists the pages that a visit may change.
-use Rattle.ksm_pages.proofs.Names.{[], after_cursor, All, All-map, Any-from_list_any, ap, AreAscending, AreFiled, AreListed, arith, before_irrefl, Bool, comes_before, Entry, false, filter, find, find_all, find_none, find_passes, FindsNext, get, GuestPage, has_item, held_of, IfNone, IfSome, inl, InPageOrder, inr, is_of, is_restless, is_some, IsAddedTo, IsUnder, length, List, Listing, Named, named_of, None, not, one_before, Option, option_map, Row, rows_of, same_page, same_page_eq, same_page_refl, same_Some, shared_state, Slab, Some, Spot, subst, sym, true, ℕ, ◌<◌, ◌∙◌, ◌∷◌, ◌≡◌, ◌≤◌, ◌⊎◌}
+use Rattle.ksm_pages.proofs.Names.{[], after_cursor, All, All-map, Any-from_list_any, ap, AreAscending, AreFiled, AreListed, arith, before_irrefl, Bool, comes_before, Entry, false, filter, find}
+use Rattle.ksm_pages.proofs.Names.{find_all, find_none, find_passes, FindsNext, get, GuestPage, has_item, held_of, IfNone, IfSome, inl, InPageOrder, inr, is_of, is_restless, is_some, IsAddedTo}
+use Rattle.ksm_pages.proofs.Names.{IsUnder, length, List, Listing, Named, named_of, None, not, one_before, Option, option_map, Row, rows_of, same_page, same_page_eq, same_page_refl, same_Some}
+use Rattle.ksm_pages.proofs.Names.{shared_state, Slab, Some, Spot, subst, sym, true, ℕ, ◌<◌, ◌∙◌, ◌∷◌, ◌≡◌, ◌≤◌, ◌⊎◌}
 use Rattle.ksm_pages.specs.Paged.{is_restless as may_change}
 use Rattle.ksm_pages.proofs.Found.{first_found}
 use Rattle.ksm_pages.proofs.Filing.{all_held, all_stand, AreRows, named_under, one_key, rows_all, under_named}

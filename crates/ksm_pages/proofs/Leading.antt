@@ -1,5 +1,8 @@
 -- The unstable tree: what a key that came to a place or went from it leaves of what is found.
-use Rattle.ksm_pages.proofs.Names.{[], ap, arith, Bool, BTreeMap, bytes_eq, cases_Bool, Content, content_of, content_order, digest, drop, drop_more, Entry, eq_bytes, false, get_or, get_or-set_at, get_or_from_slice_get, if◌then◌else◌, inl, inr, is_led, Keeps, KeepsOthers, keys_at, length, length-set, List, list_any, list_any_at, MatchOption, meets, nat_lt, nat_tests, NO_KEY, not, number_of, Option, place, refl, set, set-get_or, Slab, slice_get, slice_get_within, Some, SPREAD, stands_under, suc, sym, told_equal, true, turned, UnstableTree, Updates, zero, ℕ, ⊤, ◌%◌, ◌&&◌, ◌*◌, ◌+◌, ◌<◌, ◌==◌, ◌^◌, ◌∙◌, ◌∷◌, ◌≡◌}
+use Rattle.ksm_pages.proofs.Names.{[], ap, arith, Bool, BTreeMap, bytes_eq, cases_Bool, Content, content_of, content_order, digest, drop, drop_more, Entry, eq_bytes, false, get_or, get_or-set_at}
+use Rattle.ksm_pages.proofs.Names.{get_or_from_slice_get, if◌then◌else◌, inl, inr, is_led, Keeps, KeepsOthers, keys_at, length, length-set, List, list_any, list_any_at, MatchOption, meets, nat_lt}
+use Rattle.ksm_pages.proofs.Names.{nat_tests, NO_KEY, not, number_of, Option, place, refl, set, set-get_or, Slab, slice_get, slice_get_within, Some, SPREAD, stands_under, suc, sym, told_equal, true}
+use Rattle.ksm_pages.proofs.Names.{turned, UnstableTree, Updates, zero, ℕ, ⊤, ◌%◌, ◌&&◌, ◌*◌, ◌+◌, ◌<◌, ◌==◌, ◌^◌, ◌∙◌, ◌∷◌, ◌≡◌}
 use Rattle.std.specs.Vec.{with_item}
 use Rattle.ksm_tree.proofs.Names.{bytes_eq-Decides}
 

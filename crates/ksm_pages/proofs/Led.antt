@@ -1,5 +1,7 @@
 -- Each entry in the unstable tree is found there: what one entry that came, went or changed leaves, and what the rows show of it.
-use Rattle.ksm_pages.proofs.Names.{[], All, AreInTree, AreLed, AreWaitersLed, arith, Bool, bytes_eq-Decides, Entry, false, Fills, find, find_all, find_none, find_nothing, find_passes, get, GONE, has_content, Held, held_of, holder, holds, inl, inr, is_in, IsFree, Keeps, List, list_any, meets, nat_lt, nat_tests, None, Option, option_map, page_in_tree, refl, same_page_eq, Slab, Some, stands_as, stands_under, StaysLed, tree_by, true, UnstableTree, waiting_state, ℕ, ◌==◌, ◌∷◌, ◌≡◌, ◌≢◌, ◌⊎◌}
+use Rattle.ksm_pages.proofs.Names.{[], All, AreInTree, AreLed, AreWaitersLed, arith, Bool, bytes_eq-Decides, Entry, false, Fills, find, find_all, find_none, find_nothing, find_passes, get, GONE}
+use Rattle.ksm_pages.proofs.Names.{has_content, Held, held_of, holder, holds, inl, inr, is_in, IsFree, Keeps, List, list_any, meets, nat_lt, nat_tests, None, Option, option_map, page_in_tree, refl}
+use Rattle.ksm_pages.proofs.Names.{same_page_eq, Slab, Some, stands_as, stands_under, StaysLed, tree_by, true, UnstableTree, waiting_state, ℕ, ◌==◌, ◌∷◌, ◌≡◌, ◌≢◌, ◌⊎◌}
 use Rattle.ksm_pages.specs.declared.rows.Rows.TheInside.{Inside}
 use Rattle.ksm_pages.proofs.Filing.{all_held, differ_by, AreRows, one_key, row_found, rows_all, view_of}
 

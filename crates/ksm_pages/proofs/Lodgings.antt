@@ -1,6 +1,6 @@
 -- Where the pages lie, once the row of one was changed, came or went, and the dups kept their frames.
-use Rattle.ksm_pages.proofs.Names.{[], arith, change_held, false, frame_of, frame_seen, GuestPage, Held, held_at, if◌then◌else◌, lies_on, List}
-use Rattle.ksm_pages.proofs.Names.{lodgings_of, None, Option, refl, rules, same_page, same_page_eq, same_page_sym, Some, without_held, ℕ, ◌∷◌, ◌≡◌}
+use Rattle.ksm_pages.proofs.Names.{[], arith, change_held, false, frame_of, frame_seen, GuestPage, Held, held_at, if◌then◌else◌, lies_on, List, lodgings_of, None, Option, refl, rules, same_page}
+use Rattle.ksm_pages.proofs.Names.{same_page_eq, same_page_sym, Some, without_held, ℕ, ◌∷◌, ◌≡◌}
 use Rattle.ksm_pages.proofs.Found.{find_changed, find_changed_other, find_gone, find_gone_other}
 
 -- where what is held of a page lies: on a frame, or on none where nothing is held

@@ -1,7 +1,7 @@
 -- Rows that are said to be alone: no dup has their content, once rows or dups changed.
 use Rattle.ksm_pages.proofs.Names.{All, All-append, All-cons, All-filter, All-map, AllPairs, ap₂, AreAlone, arith, beside, change_held, comes_before, cond_both, DupRow, false, filter, find_all}
-use Rattle.ksm_pages.proofs.Names.{get_or-map, GuestPage, Held, held_at, holds, in_group, InPageOrder, InTree, is_alone, Knobs, length-map, List, PageState, Row, rows_of, shares}
-use Rattle.ksm_pages.proofs.Names.{Some, sym, tree_of, true, true≢false, with_held, ◌∙◌, ◌≡◌}
+use Rattle.ksm_pages.proofs.Names.{get_or-map, GuestPage, Held, held_at, holds, in_group, InPageOrder, InTree, is_alone, Knobs, length-map, List, PageState, Row, rows_of, shares, Some, sym, tree_of}
+use Rattle.ksm_pages.proofs.Names.{true, true≢false, with_held, ◌∙◌, ◌≡◌}
 use Rattle.ksm_pages.proofs.Found.{change_one, each_found}
 
 -- no dup has the tree and bytes of a row, if it is said to be alone

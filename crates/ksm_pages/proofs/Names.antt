@@ -1,13 +1,15 @@
 -- The definitions, and the laws of the libraries and crates below, by their names, for proofs.
 pub use Rattle.ksm_base.proofs.Edits.{count_more, count_none, find_all, find_none, find_nothing, find_over, find_passes, none_counted}
-pub use Rattle.ksm_base.proofs.Orders.{above, all_with_dup, below, dups_parted, each_has_number, one_of_each_page, one_of_each_place, ordered_change, ordered_map, ordered_with, ordered_without, pairs_append, pairs_head, pairs_tail}
+pub use Rattle.ksm_base.proofs.Orders.{above, all_with_dup, below, dups_parted, each_has_number, one_of_each_page, one_of_each_place, ordered_change, ordered_map, ordered_with, ordered_without}
+pub use Rattle.ksm_base.proofs.Orders.{pairs_append, pairs_head, pairs_tail}
 pub use Rattle.ksm_base.proofs.Pages.{before_irrefl, one_before, same_page_eq, same_page_refl, same_page_sym}
 pub use Rattle.ksm_base.proofs.RowCounts.{count_change_row, count_with_row, count_without_page, each_at_page, filter_all}
 pub use Rattle.ksm_base.proofs.Sums.{states-add}
 pub use Rattle.ksm_base.specs.Apply.{fresh_row, let_go, stored, unshared}
 pub use Rattle.ksm_base.specs.Counting.{counters_from}
 pub use Rattle.ksm_base.specs.Reading.{items_of}
-pub use Rattle.ksm_base.specs.Rows.{all_zero, change_row, change_rows, comes_before, dup_numbered, InPageOrder, InPlaceOrder, item_count, merged_into, merged_state, private_state, row_at, same_page, settled, settled_state, shared_state, waiting_state, with_dup, with_row, without_page, zero_state}
+pub use Rattle.ksm_base.specs.Rows.{all_zero, change_row, change_rows, comes_before, dup_numbered, InPageOrder, InPlaceOrder, item_count, merged_into, merged_state, private_state, row_at, same_page}
+pub use Rattle.ksm_base.specs.Rows.{settled, settled_state, shared_state, waiting_state, with_dup, with_row, without_page, zero_state}
 pub use Rattle.ksm_base.specs.State.{default_knobs, place_count, tree_of}
 pub use Rattle.ksm_base.specs.Visit.{after_cursor, best_dup, is_for_zero, partner, waits_for}
 pub use Rattle.ksm_base.specs.declared.knobs.Knobs.{Knobs}
@@ -24,11 +26,15 @@ pub use Rattle.ksm_order.specs.Listed.{is_at, is_from, key_at, up_to, with_mark,
 pub use Rattle.ksm_order.specs.Places.{IsPlace}
 pub use Rattle.ksm_order.specs.declared.item.Item.{Item}
 pub use Rattle.ksm_pages.specs.Ahead.{FindsNext, last_of, mergeable_pages, pages_behind, pages_between}
-pub use Rattle.ksm_pages.specs.Filed.{AreFiled, AreListed, CanMove, held_in, held_under, is_useless, IsInVain, IsMade, IsMoved, IsRows, IsTally, IsUnder, key_in, named_of, one_if, StaysBegun, StaysLed}
-pub use Rattle.ksm_pages.specs.Held.{altered, AreInOrder, AreInTree, AreSmall, AreWaitersLed, beside, change_held, forgotten, has_content, HasGap, Held, held_at, held_of, holds, in_tree_by, is_alone, is_in, is_restless, IsAddedTo, IsFree, IsPutAmong, Listing, low_spot, on_row, out_of_tree, page_in_tree, pages_of, rows_of, RowsView, shares, state_of, tree_by, waiting_in, with_held, without_held, written}
+pub use Rattle.ksm_pages.specs.Filed.{AreFiled, AreListed, CanMove, held_in, held_under, is_useless, IsInVain, IsMade, IsMoved, IsRows, IsTally, IsUnder, key_in, named_of, one_if, StaysBegun}
+pub use Rattle.ksm_pages.specs.Filed.{StaysLed}
+pub use Rattle.ksm_pages.specs.Held.{altered, AreInOrder, AreInTree, AreSmall, AreWaitersLed, beside, change_held, forgotten, has_content, HasGap, Held, held_at, held_of, holds, in_tree_by, is_alone}
+pub use Rattle.ksm_pages.specs.Held.{is_in, is_restless, IsAddedTo, IsFree, IsPutAmong, Listing, low_spot, on_row, out_of_tree, page_in_tree, pages_of, rows_of, RowsView, shares, state_of, tree_by}
+pub use Rattle.ksm_pages.specs.Held.{waiting_in, with_held, without_held, written}
 pub use Rattle.ksm_pages.specs.Left.{IsLeft}
 pub use Rattle.ksm_pages.specs.Ordered.{AreAscending, is_of, marked, named_by, visited, with_named, without_named}
-pub use Rattle.ksm_pages.specs.Paged.{AreAlone, AreKept, at_home_on, changed, elsewhere, Finds, FindsAt, frame_of, frame_seen, Frames, HasRoom, HasRow, is_item, is_next, IsAlone, IsHeld, IsKnown, IsVacant, items_on, lies_on, live_at, lodging, lodgings_of, MayPair, NoneHas, of_guest, on_its_own, page_beside, PagesValue, PagesView, paired, relaid, seen}
+pub use Rattle.ksm_pages.specs.Paged.{AreAlone, AreKept, at_home_on, changed, elsewhere, Finds, FindsAt, frame_of, frame_seen, Frames, HasRoom, HasRow, is_item, is_next, IsAlone, IsHeld, IsKnown}
+pub use Rattle.ksm_pages.specs.Paged.{IsVacant, items_on, lies_on, live_at, lodging, lodgings_of, MayPair, NoneHas, of_guest, on_its_own, page_beside, PagesValue, PagesView, paired, relaid, seen}
 pub use Rattle.ksm_pages.specs.Unstable.{AreLed, comes_to, digest, holder, is_led, Keeps, KeepsOthers, keys_at, meets, place, stands_as, stands_under, turned}
 pub use Rattle.ksm_pages.specs.declared.named.Named.{Named}
 pub use Rattle.ksm_pages.specs.declared.pages.Find.{Find}
@@ -65,14 +71,16 @@ pub use Rattle.ksm_tree.specs.declared.dup.Best.{Best}
 pub use Rattle.ksm_tree.specs.declared.dup.Dup.{Dup}
 pub use Rattle.slab.proofs.SlabLemmas.{Updates-with_value}
 pub use Rattle.slab.specs.Slab.{CalledAt, get, RetainsFrom, Slab, Updates as Fills, with_value}
-pub use Rattle.std.proofs.Common.{[], add-one, ap, ap₂, arith, Bool, drop, false, get_or, inl, inr, is_some, length, length-set, List, map, MutBor, None, Option, refl, rules, Some, subst, suc, sym, take, true, true≢false, unwrap_or, zero, ℕ, ◌++◌, ◌+◌, ◌-◌, ◌<◌, ◌^◌, ◌∙◌, ◌∷◌, ◌≡◌, ◌≢◌, ◌≤◌, ◌⊎◌}
+pub use Rattle.std.proofs.Common.{[], add-one, ap, ap₂, arith, Bool, drop, false, get_or, inl, inr, is_some, length, length-set, List, map, MutBor, None, Option, refl, rules, Some, subst, suc, sym}
+pub use Rattle.std.proofs.Common.{take, true, true≢false, unwrap_or, zero, ℕ, ◌++◌, ◌+◌, ◌-◌, ◌<◌, ◌^◌, ◌∙◌, ◌∷◌, ◌≡◌, ◌≢◌, ◌≤◌, ◌⊎◌}
 pub use Rattle.std.proofs.Math.ListN.{get_or-map}
 pub use Rattle.std.proofs.Math.Seq.{take-suc}
 pub use Rattle.std.proofs.lemmas.Bool.{cases_Bool, cond_both, eq-eqb, eqb-true, false_from_ne_true, not-true}
 pub use Rattle.std.proofs.lemmas.Bool.Decides.{nat_tests}
 pub use Rattle.std.proofs.lemmas.Fn.{always_returns_same, filter_same}
 pub use Rattle.std.proofs.lemmas.Grind.{get_or-set_at}
-pub use Rattle.std.proofs.lemmas.List.{append-nil, append_assoc, drop-map, drop_all, drop_more, get_or-drop, get_or-take, get_or_default, length-append, length-drop, length-map, length-take, length-take-le, map-append, nil_from_length, set-get_or, take-append-drop, take-map}
+pub use Rattle.std.proofs.lemmas.List.{append-nil, append_assoc, drop-map, drop_all, drop_more, get_or-drop, get_or-take, get_or_default, length-append, length-drop, length-map, length-take}
+pub use Rattle.std.proofs.lemmas.List.{length-take-le, map-append, nil_from_length, set-get_or, take-append-drop, take-map}
 pub use Rattle.std.proofs.lemmas.List.Elements.{All-append, All-cons, All-drop, All-filter, All-head, All-map, All-tail, All-take, filter_passes}
 pub use Rattle.std.proofs.lemmas.List.Folds.{Any-from_list_any, find-append, list_any-append, list_any_at, map_fixed}
 pub use Rattle.std.proofs.lemmas.List.Kept.{AllPairs-filter}
@@ -85,4 +93,5 @@ pub use Rattle.std.specs.Fn.{FnOnceReturnsAtMut}
 pub use Rattle.std.specs.List.{AllWithin, list_any}
 pub use Rattle.std.specs.List.Sorted.{IsNonDecreasingBy, IsPermutation}
 pub use Rattle.std.specs.Option.{IfSome, is_none, MatchOption, option_and_then}
-pub use Rattle.std.specs.Prelude.{All, AllPairs, bytes_eq, cond, count_by, Err, filter, find, IfNone, if◌then◌else◌, insert, IsTrue, nat_le, nat_lt, not, Ok, OnErr, OnOk, option_map, Result, set, slice_get, ⊤, ◌%◌, ◌&&◌, ◌*◌, ◌==◌, ◌||◌}
+pub use Rattle.std.specs.Prelude.{All, AllPairs, bytes_eq, cond, count_by, Err, filter, find, IfNone, if◌then◌else◌, insert, IsTrue, nat_le, nat_lt, not, Ok, OnErr, OnOk, option_map, Result, set}
+pub use Rattle.std.specs.Prelude.{slice_get, ⊤, ◌%◌, ◌&&◌, ◌*◌, ◌==◌, ◌||◌}

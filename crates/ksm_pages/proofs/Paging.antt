@@ -1,5 +1,8 @@
 -- What is read of the pages: rows and dups found by their pages, places and numbers.
-use Rattle.ksm_pages.proofs.Names.{All, any_found, ap, AreDups, AreTied, arith, Dup, dup_at, dup_numbered, dup_of, dup_rows, DupRow, DupsState, each_has_number, find, find_all, found_passing, Held, InPageOrder, InPlaceOrder, is_live, is_some, is_stale, items_in, items_of, length, List, list_any, live_at, live_placed, lodging, lodgings_of, merged_into, None, option_and_then, option_map, refl, Row, rows_of, slice_get, slice_get-get_or, Some, stale_alike, stands_at, sym, tied_counted, true, unwrap_or, unwrap_or-slice_get, ℕ, ◌&&◌, ◌<◌, ◌==◌, ◌∙◌, ◌≡◌}
+use Rattle.ksm_pages.proofs.Names.{All, any_found, ap, AreDups, AreTied, arith, Dup, dup_at, dup_numbered, dup_of, dup_rows, DupRow, DupsState, each_has_number, find, find_all, found_passing, Held}
+use Rattle.ksm_pages.proofs.Names.{InPageOrder, InPlaceOrder, is_live, is_some, is_stale, items_in, items_of, length, List, list_any, live_at, live_placed, lodging, lodgings_of, merged_into, None}
+use Rattle.ksm_pages.proofs.Names.{option_and_then, option_map, refl, Row, rows_of, slice_get, slice_get-get_or, Some, stale_alike, stands_at, sym, tied_counted, true, unwrap_or, unwrap_or-slice_get}
+use Rattle.ksm_pages.proofs.Names.{ℕ, ◌&&◌, ◌<◌, ◌==◌, ◌∙◌, ◌≡◌}
 use Rattle.ksm_base.specs.Rows.{is_stale as is_stale_row}
 use Rattle.ksm_tree.proofs.Changes.{row_found as dup_row_found}
 use Rattle.ksm_pages.specs.Paged.{frame_of as lies_at}

@@ -1,5 +1,10 @@
 -- The pages once two of them became the items of a new dup.
-use Rattle.ksm_pages.proofs.Names.{[], above, All, All-filter, All-map, all_with_dup, ap, ap₂, AreAlone, AreDups, AreInTree, AreKept, AreWaitersLed, arith, below, change_held, change_row, change_rows, cond_both, dup_numbered, dup_rows, DupRow, dups_parted, DupsState, Entry, eq_bytes, false, filter, find, find-append, find_all, find_nothing, find_over, frame_of, Frames, get_or, GuestPage, has_content, Held, held_at, held_of, holds, in_group, InPageOrder, InPlaceOrder, Inside, is_in, is_live, length, length-set, lies_on, List, lodging, lodgings_of, map_mapped, MatchOption, MayPair, Merged, merged_into, nat_tests, None, not, Option, option_and_then, option_map, ordered_change, page_in_tree, PagesValue, paired, refl, Row, row_at, rows_new, rows_of, RowsView, rules, same_page, same_page_eq, same_page_refl, seen, set, shares, slice_get, Some, stands_at, subst, sym, tied_made, tree_of, true, waiting_state, with_dup, with_item, with_new, ℕ, ◌&&◌, ◌+◌, ◌<◌, ◌==◌, ◌||◌, ◌∙◌, ◌∷◌, ◌≡◌}
+use Rattle.ksm_pages.proofs.Names.{[], above, All, All-filter, All-map, all_with_dup, ap, ap₂, AreAlone, AreDups, AreInTree, AreKept, AreWaitersLed, arith, below, change_held, change_row, change_rows}
+use Rattle.ksm_pages.proofs.Names.{cond_both, dup_numbered, dup_rows, DupRow, dups_parted, DupsState, Entry, eq_bytes, false, filter, find, find-append, find_all, find_nothing, find_over, frame_of}
+use Rattle.ksm_pages.proofs.Names.{Frames, get_or, GuestPage, has_content, Held, held_at, held_of, holds, in_group, InPageOrder, InPlaceOrder, Inside, is_in, is_live, length, length-set, lies_on}
+use Rattle.ksm_pages.proofs.Names.{List, lodging, lodgings_of, map_mapped, MatchOption, MayPair, Merged, merged_into, nat_tests, None, not, Option, option_and_then, option_map, ordered_change}
+use Rattle.ksm_pages.proofs.Names.{page_in_tree, PagesValue, paired, refl, Row, row_at, rows_new, rows_of, RowsView, rules, same_page, same_page_eq, same_page_refl, seen, set, shares, slice_get, Some}
+use Rattle.ksm_pages.proofs.Names.{stands_at, subst, sym, tied_made, tree_of, true, waiting_state, with_dup, with_item, with_new, ℕ, ◌&&◌, ◌+◌, ◌<◌, ◌==◌, ◌||◌, ◌∙◌, ◌∷◌, ◌≡◌}
 use Rattle.std.specs.Vec.{with_item as with_frame}
 use Rattle.ksm_base.proofs.Orders.{elsewhere}
 use Rattle.ksm_pages.proofs.Changing.{row_told, rows_changed}

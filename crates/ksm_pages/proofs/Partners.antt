@@ -14,6 +14,11 @@ pub waits_parts : (knobs : Knobs) (row w : Row) → waits_for knobs row w ≡ tr
     → (waiting_state w.state ≡ true) × (same_page w.page row.page ≡ false) × (tree_of knobs w ≡ tree_of knobs row) × (w.bytes ≡ row.bytes)
 waits_parts knobs row w is = grind (arith, nat_tests, bytes_eq-Decides w.bytes row.bytes)
 
+-- the row of a page, where it waits and is of another page than this
+abbrev pub waits_at : List Row → GuestPage → GuestPage → Option Row
+waits_at rows own page =
+    option_and_then (λ w. if waiting_state w.state && not (same_page page own) then Some w else None) (row_at page rows)
+
 -- the tree of a row with a home
 pub tree_is : (knobs : Knobs) {by_node : Bool} → by_node ≡ not (knobs.merge_across_nodes == 1) → (row : Row)
     → tree_by by_node row.home ≡ tree_of knobs row
@@ -82,12 +87,10 @@ module _ (knobs : Knobs) (v : RowsView) (rise : InPageOrder (rows_of v.held))
       grind (arith, find_passes has v.held h.0 h.1, is_row, h.2, tree_is knobs by h.0.row)
 
   -- the partner of the row is the row to which the tree leads, where that waits and is another
-  pub partner_is : partner knobs rows row ≡ option_and_then (λ page.
-      option_and_then (λ w. if waiting_state w.state && not (same_page page row.page) then Some w else None) (row_at page rows)) led_to
+  pub partner_is : partner knobs rows row ≡ option_and_then (waits_at rows row.page) led_to
   partner_is = go _ refl
     where
-      go : (o : Option Row) → partner knobs rows row ≡ o → o ≡ option_and_then (λ page.
-          option_and_then (λ w. if waiting_state w.state && not (same_page page row.page) then Some w else None) (row_at page rows)) led_to
+      go : (o : Option Row) → partner knobs rows row ≡ o → o ≡ option_and_then (waits_at rows row.page) led_to
       go None is =
           let none = λ (page : GuestPage) (w : Row) (at : row_at page rows ≡ Some w). find_all (λ r. same_page r.page page)
           (λ r. waits_for knobs row r ≡ false) rows w at (find_none (waits_for knobs row) rows is) in
@@ -124,8 +127,7 @@ module _ (s : Inside) (are : AreLawful s) (p : PagesValue) (seen_as : view_of s 
       → beside ≡ option_and_then if_waiting (page_in_tree s.rows tree e.bytes)
   merged_beside led found_by is {tree} in_tree = go _ refl
     where
-      by : partner s.knobs (rows_of s.rows.held) row ≡ option_and_then (λ q. option_and_then (λ w.
-          if waiting_state w.state && not (same_page q row.page) then Some w else None) (row_at q (rows_of s.rows.held))) (page_in_tree s.rows tree e.bytes)
+      by : partner s.knobs (rows_of s.rows.held) row ≡ option_and_then (waits_at (rows_of s.rows.held) row.page) (page_in_tree s.rows tree e.bytes)
       by = rw (in_tree row refl) (partner_is s.knobs s.rows are.order are.by_node led found_by row)
 
       here : row_at page (rows_of s.rows.held) ≡ Some row

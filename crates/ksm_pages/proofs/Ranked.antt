@@ -1,5 +1,10 @@
 -- The pages in order as the items that are kept for them: what stands before a key, what comes behind it, and in between.
-use Rattle.ksm_pages.proofs.Names.{slice_get_within, get_or_from_slice_get, [], after_cursor, All, All-filter, AllPairs, AllPairs-filter, ap, arith, before_as_key, behind_as_key, Bool, comes_before, count_by, count_more, count_none, drop, drop-map, false, filter, filter_all, filter_mapped, find, find_all, find_mapped, get_or, GuestPage, IfSome, if◌then◌else◌, is_at, is_from, is_of, is_some, Item, key_at, key_of, last_of, length, length-drop, length-filter, length-map, length-take-le, List, map, map-append, marked, Named, named_by, nat_lt, nat_tests, nil_from_length, None, not, Option, option_map, page_of, pages_behind, pages_between, pairs_head, pairs_mapped, pairs_tail, refl, rules, same_as_key, slice_get, slice_get-get_or, slice_get-map, slice_get_past, Some, suc, sym, take, take-map, true, up_to, up_to_few, visited, with_mark, with_named, without, zero, ℕ, ◌&&◌, ◌+◌, ◌-◌, ◌<◌, ◌^◌, ◌∙◌, ◌∷◌, ◌≡◌, ◌≤◌}
+use Rattle.ksm_pages.proofs.Names.{[], after_cursor, All, All-filter, AllPairs, AllPairs-filter, ap, arith, before_as_key, behind_as_key, Bool, comes_before, count_by, count_more, count_none, drop}
+use Rattle.ksm_pages.proofs.Names.{drop-map, false, filter, filter_all, filter_mapped, find, find_all, find_mapped, get_or, get_or_from_slice_get, GuestPage, IfSome, if◌then◌else◌, is_at, is_from}
+use Rattle.ksm_pages.proofs.Names.{is_of, is_some, Item, key_at, key_of, last_of, length, length-drop, length-filter, length-map, length-take-le, List, map, map-append, marked, Named, named_by}
+use Rattle.ksm_pages.proofs.Names.{nat_lt, nat_tests, nil_from_length, None, not, Option, option_map, page_of, pages_behind, pages_between, pairs_head, pairs_mapped, pairs_tail, refl, rules}
+use Rattle.ksm_pages.proofs.Names.{same_as_key, slice_get, slice_get-get_or, slice_get-map, slice_get_past, slice_get_within, Some, suc, sym, take, take-map, true, up_to, up_to_few, visited}
+use Rattle.ksm_pages.proofs.Names.{with_mark, with_named, without, zero, ℕ, ◌&&◌, ◌+◌, ◌-◌, ◌<◌, ◌^◌, ◌∙◌, ◌∷◌, ◌≡◌, ◌≤◌}
 use Rattle.ksm_pages.specs.Ordered.{AreAscending as AreInOrder}
 use Rattle.ksm_pages.proofs.Found.{length_with}
 use Rattle.ksm_pages.proofs.Options.{mapped_some}

@@ -1,5 +1,7 @@
 -- The rows once each entry was changed, or the next pass began.
-use Rattle.ksm_pages.proofs.Names.{[], ap, AreFiled, AreListed, arith, Bool, CalledAt, count_by, count_mapped, count_none, Entry, false, forgotten, get, get_or, Held, held_in, held_of, holds, IsRows, IsTally, List, Listing, map, map_mapped, merged_state, MutBor, Named, None, Not, on_row, Option, option_map, out_of_tree, PageState, refl, RetainsFrom, rows_of, rules, settled, settled_state, Slab, Some, sym, Tally, true, waiting_state, zero_state, ℕ, ◌+◌, ◌∙◌, ◌∷◌, ◌≡◌, ◌≤◌}
+use Rattle.ksm_pages.proofs.Names.{[], ap, AreFiled, AreListed, arith, Bool, CalledAt, count_by, count_mapped, count_none, Entry, false, forgotten, get, get_or, Held, held_in, held_of, holds, IsRows}
+use Rattle.ksm_pages.proofs.Names.{IsTally, List, Listing, map, map_mapped, merged_state, MutBor, Named, None, Not, on_row, Option, option_map, out_of_tree, PageState, refl, RetainsFrom, rows_of}
+use Rattle.ksm_pages.proofs.Names.{rules, settled, settled_state, Slab, Some, sym, Tally, true, waiting_state, zero_state, ℕ, ◌+◌, ◌∙◌, ◌∷◌, ◌≡◌, ◌≤◌}
 use Rattle.ksm_pages.proofs.Options.{mapped_some}
 use Rattle.ksm_pages.specs.declared.row.Kind.TheVariants as kinds
 use Rattle.ksm_pages.proofs.Filing.{all_stand, each_mapped}

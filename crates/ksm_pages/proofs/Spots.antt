@@ -1,5 +1,8 @@
 -- Listed pages in order: the pages of them, those that are swept out, and those that come behind a cursor.
-use Rattle.ksm_pages.proofs.Names.{[], after_cursor, All, All-map, ap, append-nil, AreInOrder, AreSmall, arith, Bool, cases_Bool, comes_before, Entry, false, filter, get, get_or, get_or_default, GuestPage, has_item, inl, inr, is_none, is_useless, IsInVain, IsPlace, length, List, list_any-append, Listed, low_spot, map-append, Named, nat_lt, nat_tests, None, not, not-true, Option, page_of, pages_of, refl, rules, same_page, same_page_eq, Slab, Some, Spot, subst, suc, true, ℕ, ◌%◌, ◌++◌, ◌<◌, ◌^◌, ◌||◌, ◌∙◌, ◌∷◌, ◌≡◌, ◌≤◌, ◌⊎◌}
+use Rattle.ksm_pages.proofs.Names.{[], after_cursor, All, All-map, ap, append-nil, AreInOrder, AreSmall, arith, Bool, cases_Bool, comes_before, Entry, false, filter, get, get_or, get_or_default}
+use Rattle.ksm_pages.proofs.Names.{GuestPage, has_item, inl, inr, is_none, is_useless, IsInVain, IsPlace, length, List, list_any-append, Listed, low_spot, map-append, Named, nat_lt, nat_tests, None}
+use Rattle.ksm_pages.proofs.Names.{not, not-true, Option, page_of, pages_of, refl, rules, same_page, same_page_eq, Slab, Some, Spot, subst, suc, true, ℕ, ◌%◌, ◌++◌, ◌<◌, ◌^◌, ◌||◌, ◌∙◌, ◌∷◌, ◌≡◌, ◌≤◌}
+use Rattle.ksm_pages.proofs.Names.{◌⊎◌}
 
 -- the page that is listed
 abbrev pub page_by : Listed → GuestPage

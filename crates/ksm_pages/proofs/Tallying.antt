@@ -1,5 +1,6 @@
 -- The tally of rows once one came, went or changed.
-use Rattle.ksm_pages.proofs.Names.{arith, Bool, CanMove, change_row, count_by, count_by-le-length, count_change_row, count_with_row, count_without_page, GuestPage, InPageOrder, IsMoved, IsTally, length, length-map, List, None, one_if, Private, Row, row_at, rules, Some, Tally, with_row, without_page, ℕ, ◌+◌, ◌<◌, ◌^◌, ◌≡◌, ◌≤◌}
+use Rattle.ksm_pages.proofs.Names.{arith, Bool, CanMove, change_row, count_by, count_by-le-length, count_change_row, count_with_row, count_without_page, GuestPage, InPageOrder, IsMoved, IsTally}
+use Rattle.ksm_pages.proofs.Names.{length, length-map, List, None, one_if, Private, Row, row_at, rules, Some, Tally, with_row, without_page, ℕ, ◌+◌, ◌<◌, ◌^◌, ◌≡◌, ◌≤◌}
 
 module _ {rows : List Row} (rise : InPageOrder rows) (page : GuestPage) {old : Row} (found : row_at page rows ≡ Some old) {tally : Tally} (later : Tally) (are : IsTally rows tally) where
   -- the row of a page went to another state

@@ -1,7 +1,11 @@
 -- What a visit finds of a row that it may change, and the pages once the row waits.
-use Rattle.ksm_pages.proofs.Names.{All, All-map, all_rows, all_zero, altered, ap, AreInTree, AreWaitersLed, arith, Best, best_dup, best_found, best_of, Bool, changed, Dup, dup_rows, DupRow, DupsState, Entry, false, find, Find, find_all, find_nothing, find_passes, Finds, FindsAt, found_at, get_or, GuestPage, has_content, HasRow, Held, held_at, held_of, holds, IfNone, if◌then◌else◌, in_group, in_tree_by, inl, inr, Inside, is_for_zero, IsAlone, IsFree, List, map_mapped, MatchOption, None, NoneHas, not, Option, option_and_then, option_map, out_of_tree, page_in_tree, PagesValue, PagesView, partner, Private, refl, Row, row_at, rows_of, RowsView, rules, same_page, same_page_eq, same_page_refl, same_Some, seen, shared_state, Some, subst, sym, tied_counted, tree_by, tree_of, true, true≢false, Waiting, waiting_in, waiting_state, ℕ, ◌&&◌, ◌==◌, ◌∙◌, ◌≡◌, ◌⊎◌}
+use Rattle.ksm_pages.proofs.Names.{All, All-map, all_rows, all_zero, altered, ap, AreInTree, AreWaitersLed, arith, Best, best_dup, best_found, best_of, Bool, changed, Dup, dup_rows, DupRow, DupsState}
+use Rattle.ksm_pages.proofs.Names.{Entry, false, Find, find, find_all, find_nothing, find_passes, Finds, FindsAt, found_at, get_or, GuestPage, has_content, HasRow, Held, held_at, held_of, holds}
+use Rattle.ksm_pages.proofs.Names.{IfNone, if◌then◌else◌, in_group, in_tree_by, inl, inr, Inside, is_for_zero, IsAlone, IsFree, List, map_mapped, MatchOption, None, NoneHas, Option, option_and_then}
+use Rattle.ksm_pages.proofs.Names.{option_map, out_of_tree, page_in_tree, PagesValue, PagesView, partner, Private, refl, Row, row_at, rows_of, RowsView, rules, same_page, same_page_eq, same_page_refl}
+use Rattle.ksm_pages.proofs.Names.{same_Some, seen, shared_state, Some, subst, sym, tied_counted, tree_by, tree_of, true, true≢false, Waiting, waiting_in, waiting_state, ℕ, ◌&&◌, ◌==◌, ◌∙◌, ◌≡◌, ◌⊎◌}
 use Rattle.ksm_pages.proofs.Options.{mapped_some, none_mapped}
-use Rattle.ksm_pages.proofs.Partners.{free_but, free_by, partner_is, tree_is}
+use Rattle.ksm_pages.proofs.Partners.{free_but, free_by, partner_is, tree_is, waits_at}
 use Rattle.ksm_pages.specs.declared.pages.Find.TheVariants as finds
 use Rattle.ksm_pages.specs.Held.{is_alone as is_alone_in, is_restless as is_restless_entry}
 use Rattle.ksm_pages.specs.Paged.{is_restless}
@@ -226,8 +230,7 @@ module _ {s : Inside} {p : PagesValue} {page : GuestPage} {e : Entry} (it : IsAs
 
   -- the partner of the row is the row to which the tree leads, where that waits and is another
   lonely_by : {o : Option GuestPage} → page_in_tree s.rows tree e.bytes ≡ o
-      → partner s.knobs (rows_of s.rows.held) row_of ≡ option_and_then (λ other. option_and_then (λ w.
-      if waiting_state w.state && not (same_page other page) then Some w else None) (row_at other (rows_of s.rows.held))) o
+      → partner s.knobs (rows_of s.rows.held) row_of ≡ option_and_then (waits_at (rows_of s.rows.held) page) o
   lonely_by at = rw (← to_tree at, ← at_row it) (partner_is s.knobs s.rows it.lawful.order it.lawful.by_node led found_by row_of)
 
   -- a row to which the tree leads, and which waits, is the partner

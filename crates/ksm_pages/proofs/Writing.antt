@@ -1,5 +1,9 @@
 -- What each change of one row, found under its key, leaves: rows still, and what is seen of them.
-use Rattle.ksm_pages.proofs.Names.{absent_kept, altered, ap, AreLed, AreListed, arith, Bool, CanMove, change_held, change_none, Entry, false, Fills, find, find_none, get, GuestPage, has_item, Held, held_at, held_in, held_of, held_under, holds, IfSome, inl, inr, is_in, is_of, is_restless, is_some, IsAddedTo, IsInVain, IsMoved, IsRows, IsUnder, key_in, length, length-map, List, Listing, marked, Named, named_of, None, option_map, pages_ordered, PageState, Private, refl, row_at, rows_of, RowsView, rules, same_page_refl, same_Some, shared_state, Slab, Some, state_of, StaysBegun, StaysLed, sym, Tally, true, true≢false, Updates-with_value, with_held, with_named, with_value, without_held, without_named, without_rises, ℕ, ◌<◌, ◌^◌, ◌∙◌, ◌≡◌, ◌≢◌, ◌≤◌, ◌⊎◌}
+use Rattle.ksm_pages.proofs.Names.{absent_kept, altered, ap, AreLed, AreListed, arith, Bool, CanMove, change_held, change_none, Entry, false, Fills, find, find_none, get, GuestPage, has_item, Held}
+use Rattle.ksm_pages.proofs.Names.{held_at, held_in, held_of, held_under, holds, IfSome, inl, inr, is_in, is_of, is_restless, is_some, IsAddedTo, IsInVain, IsMoved, IsRows, IsUnder, key_in, length}
+use Rattle.ksm_pages.proofs.Names.{length-map, List, Listing, marked, Named, named_of, None, option_map, pages_ordered, PageState, Private, refl, row_at, rows_of, RowsView, rules, same_page_refl}
+use Rattle.ksm_pages.proofs.Names.{same_Some, shared_state, Slab, Some, state_of, StaysBegun, StaysLed, sym, Tally, true, true≢false, Updates-with_value, with_held, with_named, with_value}
+use Rattle.ksm_pages.proofs.Names.{without_held, without_named, without_rises, ℕ, ◌<◌, ◌^◌, ◌∙◌, ◌≡◌, ◌≢◌, ◌≤◌, ◌⊎◌}
 use Rattle.ksm_pages.proofs.Options.{none_mapped}
 use Rattle.ksm_pages.specs.declared.row.Kind.TheVariants as kinds
 use Rattle.ksm_pages.specs.declared.rows.Rows.TheInside.{Inside}

@@ -1,5 +1,6 @@
 -- The unstable tree: to which row it leads from a tree and bytes (mm/ksm; how it is kept is own).
-use Rattle.std.specs.Prelude.{◌≡◌, ℕ, ◌+◌, ◌*◌, ◌/◌, ◌%◌, ◌^◌, Bool, true, false, length, nat_lt, slice_get, ◌&&◌, ◌||◌, ◌==◌, bytes_eq, is_some, not, List, [], ◌∷◌, find, Option, None, Some, if◌then◌else◌}
+use Rattle.std.specs.Prelude.{◌≡◌, ℕ, ◌+◌, ◌*◌, ◌/◌, ◌%◌, ◌^◌, Bool, true, false, length, nat_lt, slice_get, ◌&&◌, ◌||◌, ◌==◌, bytes_eq, is_some, not, List, [], ◌∷◌, find, Option, None, Some}
+use Rattle.std.specs.Prelude.{if◌then◌else◌}
 use Rattle.std.specs.List.{list_any}
 use Rattle.slab.specs.Slab.{Slab, Updates, get}
 use Rattle.ksm_tree.specs.Numbered.{number_of}

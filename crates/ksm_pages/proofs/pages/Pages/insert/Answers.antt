@@ -1,4 +1,4 @@
-use Rattle.ksm_pages.proofs.Names.{◌≡◌, frame_of, lies_on, with_held, with_row, fresh_row, Held, Not, on_ok_weaker, refl, rules, seen, Some}
+use Rattle.ksm_pages.proofs.Names.{frame_of, fresh_row, Held, lies_on, Not, on_ok_weaker, refl, rules, seen, Some, with_held, with_row, ◌≡◌}
 use Rattle.ksm_pages.proofs.Turning.{but_there, either_way, entered, lay_nowhere}
 use Rattle.ksm_pages.proofs.Changing.{nothing_held}
 use Rattle.ksm_pages.proofs.Leaving.{Comes, held_as}

@@ -6,7 +6,8 @@ use Rattle.ksm_pages.proofs.pages.Pages.unshare_on.Goals as goal
 came : (c : goal.After-change)
     → Comes c.self.inside c.change.new.self c.leave-left.new.dups (relaid c.args.spot.page unshared (Some c.args.frame) (seen c.args.self.now))
 came c =
-    relaid_on (known_left {s = c.self.inside} c.self.invariant c.self.view_is c.requires c.leave-left.ensures) _ (c.change.ensures.made (λ h. record h { row = unshared h.row; frame = Some c.args.frame }) (search rules)) unshared (λ x. (refl, refl)) (λ r. (refl, refl))
+    relaid_on (known_left {s = c.self.inside} c.self.invariant c.self.view_is c.requires c.leave-left.ensures) _
+    (c.change.ensures.made (λ h. record h { row = unshared h.row; frame = Some c.args.frame }) (search rules)) unshared (λ x. (refl, refl)) (λ r. (refl, refl))
     (λ lone. lone)
 
 pub invariant_of-self : goal.invariant_of-self
