@@ -6,20 +6,18 @@ use Rattle.ksm_pages.proofs.Options.{mapped_some}
 use Rattle.ksm_pages.specs.declared.row.Kind.TheVariants as kinds
 use Rattle.ksm_pages.proofs.Filing.{all_stand, each_mapped}
 
--- where each call of a retain keeps its value and changes it by g, all full slots are changed by g
-retained_all : {T F : Type 0} (step : F → ℕ → MutBor T → Bool → MutBor T → F → Type 0) (g : T → T) → ((f : F) (k : ℕ) (old : T) (keep : Bool) (new : T) (next : F) → CalledAt step f k old keep new next → (keep ≡ true) × (new ≡ g old))
-    → (f : F) (key : ℕ) (slots kept : List (Option T)) → RetainsFrom step f key slots kept → kept ≡ map (option_map g) slots
-retained_all step g says f key [] kept r = r
-retained_all step g says f key (None ∷ rest) kept (later, is, r) =
-    grind (arith, is, retained_all step g says f (key + 1) rest later r)
-retained_all step g says f key (Some old ∷ rest) kept (keep, new, next, called, later, is, r) =
-    grind (arith, is, says f key old keep new next called, retained_all step g says next (key + 1) rest later r)
+-- each call of a retain keeps its entry and changes it by g
+module _ {F : Type 0} (step : F → ℕ → MutBor Entry → Bool → MutBor Entry → F → Type 0) (g : Entry → Entry)
+    (says : (f : F) (k : ℕ) (old : Entry) (keep : Bool) (new : Entry) (next : F) → CalledAt step f k old keep new next → (keep ≡ true) × (new ≡ g old)) where
+  retained_all : (f : F) (key : ℕ) (slots kept : List (Option Entry)) → RetainsFrom step f key slots kept → kept ≡ map (option_map g) slots
+  retained_all f key [] kept r = r
+  retained_all f key (None ∷ rest) kept (later, is, r) = grind (arith, is, retained_all f (key + 1) rest later r)
+  retained_all f key (Some old ∷ rest) kept (keep, new, next, called, later, is, r) =
+      grind (arith, is, says f key old keep new next called, retained_all next (key + 1) rest later r)
 
--- where each call of a retain keeps its entry and changes it by g, each entry is changed by g
-pub retained_each : {F : Type 0} (step : F → ℕ → MutBor Entry → Bool → MutBor Entry → F → Type 0) (g : Entry → Entry)
-    → ((f : F) (k : ℕ) (old : Entry) (keep : Bool) (new : Entry) (next : F) → CalledAt step f k old keep new next → (keep ≡ true) × (new ≡ g old))
-    → (f : F) (slab later : Slab Entry) → RetainsFrom step f 0 slab.slots later.slots → (k : ℕ) → get later k ≡ option_map g (get slab k)
-retained_each step g says f slab later r = each_mapped slab later g (retained_all step g says f 0 slab.slots later.slots r)
+  -- so each entry is changed by g
+  pub retained_each : (f : F) (slab later : Slab Entry) → RetainsFrom step f 0 slab.slots later.slots → (k : ℕ) → get later k ≡ option_map g (get slab k)
+  retained_each f slab later r = each_mapped slab later g (retained_all f 0 slab.slots later.slots r)
 
 -- rows whose states are read alike before and after a change are counted alike
 counts_alike : (f : Held → Held) (p q : PageState → Bool) → ((h : Held) → p (f h).row.state ≡ q h.row.state) → (held : List Held)

@@ -73,9 +73,10 @@ module _ {s : Inside} {p : PagesValue} {page : GuestPage} {e : Entry} (it : IsAs
       ∙ sym (search (rules, best_found, tied_counted))
 
   -- no dup has the content of a row that is said to be alone
-  pub lone_none : is_alone_in e.in_tree ≡ true → NoneHas (tree_of s.knobs row) row.bytes s.dups.dups
-  lone_none is = all_rows (λ (d : DupRow). in_group (tree_of s.knobs row) row.bytes d ≡ false) s.dups.dups
-      (find_all (holds page) (IsLoneIn s) s.rows.held held it.found it.lawful.alone is)
+  pub lone_none : {tree : ℕ} → ((r : Row) → r.home ≡ e.home → tree ≡ tree_of s.knobs r) → is_alone_in e.in_tree ≡ true
+      → NoneHas tree row.bytes s.dups.dups
+  lone_none in_tree is = rw (in_tree row refl) (all_rows (λ (d : DupRow). in_group (tree_of s.knobs row) row.bytes d ≡ false) s.dups.dups
+      (find_all (holds page) (IsLoneIn s) s.rows.held held it.found it.lawful.alone is))
 
   -- where an asked row has a best dup, the visit finds that dup
   pub finds_dup : (b : Best) → Some b ≡ option_map found_at best → Finds (seen p) (seen (view_of s)) page (finds.Dup b)

@@ -7,8 +7,7 @@ use Rattle.ksm_pages.proofs.pages.Pages.glance.Goals.{After-wait}
 
 pub joins_none-requires : goal.joins_none-requires
 joins_none-requires c =
-    rw (c.tree_in-tree.ensures (held_of c.self.inside.rows.pass c.in-Some.entry.now).row refl)
-    (lone_none (asked c.self.inside c.self.invariant c.self.view_is c.in-Some.entry.now c.in-Some.ensures (grind arith)))
+    lone_none (asked c.self.inside c.self.invariant c.self.view_is c.in-Some.entry.now c.in-Some.ensures (grind arith)) c.tree_in-tree.ensures
 
 it : (c : After-wait) → IsAsked c.self.inside c.args.self.now c.args.spot.page c.in-Some.entry.now
 it c = asked c.self.inside c.self.invariant c.self.view_is c.in-Some.entry.now c.in-Some.ensures (grind arith)

@@ -1,4 +1,4 @@
-use Rattle.ksm_pages.proofs.Names.{ap, arith, changed, held_of, inl, inr, on_err, on_row, Private, refl, Row, rules, same_page_eq, seen, settled, Some, sym, true, ◌∙◌, ◌≡◌}
+use Rattle.ksm_pages.proofs.Names.{ap, arith, changed, inl, inr, on_err, on_row, Private, refl, Row, rules, same_page_eq, seen, settled, Some, sym, true, ◌∙◌, ◌≡◌}
 use Rattle.ksm_pages.proofs.Leaving.{Comes}
 use Rattle.ksm_pages.proofs.Turning.{own_left, rested}
 use Rattle.ksm_pages.proofs.Visiting.{alone, alone_seen, asked, entered_not, entered_then, entered_waits, enters, enters_for, enters_restless, finds_changed, finds_dup, finds_partner, finds_zero}
@@ -8,8 +8,7 @@ use Rattle.ksm_pages.proofs.pages.Pages.visit.Goals.{After-enter-arg-1, in-Some-
 
 pub group_with_best-group-requires : goal.group_with_best-group-requires
 group_with_best-group-requires c =
-    rw (c.tree_in-tree.ensures (held_of c.self.inside.rows.pass c.in-Some.entry.now).row refl)
-    (lone_none (asked c.self.inside c.self.invariant c.self.view_is c.in-Some.entry.now c.in-Some.ensures (grind arith)))
+    lone_none (asked c.self.inside c.self.invariant c.self.view_is c.in-Some.entry.now c.in-Some.ensures (grind arith)) c.tree_in-tree.ensures
 
 pub returns-in-Some-best-clause-found : goal.returns-in-Some-best-clause-found
 returns-in-Some-best-clause-found c =
