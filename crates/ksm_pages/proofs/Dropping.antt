@@ -1,9 +1,9 @@
 -- The pages once the stale dup at a place went, or the items of a dup went to another frame.
-use Rattle.ksm_pages.proofs.Names.{[], All, All-filter, All-head, All-tail, all_rows, ap, AreAlone, AreTied, arith, Bool, Dup, dup_at, dup_numbered, dup_rows, DupRow, each_has_number, elsewhere}
-use Rattle.ksm_pages.proofs.Names.{eq-eqb, eqb-true, false, filter, filter_all, find, find_alike, find_all, find_none, find_nothing, find_passes, frame_of, get_or, GuestPage, Held, held_at}
-use Rattle.ksm_pages.proofs.Names.{if◌then◌else◌, in_group, InPlaceOrder, is_item, is_live, is_some, is_stale, IsVacant, item_count, items_on, Knobs, length, List, list_any, lodging, lodgings_of}
-use Rattle.ksm_pages.proofs.Names.{Merged, merged_into, nat_tests, None, none_counted, none_found, not, one_of_each_place, Option, option_and_then, option_map, refl, Row, row_at, rows_of}
-use Rattle.ksm_pages.proofs.Names.{rows_without, set, slice_get, Some, stands_at, sym, tied_counted, tree_of, true, without_place, ℕ, ◌&&◌, ◌<◌, ◌==◌, ◌∙◌, ◌∷◌, ◌≡◌}
+use Rattle.ksm_pages.proofs.Names.{All, All-filter, all_rows, Any-from_list_any, ap, AreAlone, AreTied, arith, Bool, Dup, dup_at, dup_numbered, dup_rows, DupRow, each_has_number, elsewhere, eq-eqb}
+use Rattle.ksm_pages.proofs.Names.{eqb-true, false, filter, filter_all, find, find_alike, find_all, find_none, find_nothing, find_passes, frame_of, get_or, GuestPage, Held, held_at, if◌then◌else◌}
+use Rattle.ksm_pages.proofs.Names.{in_group, InPlaceOrder, is_item, is_live, is_some, is_stale, IsVacant, item_count, items_on, Knobs, length, List, list_any, lodging, lodgings_of, Merged}
+use Rattle.ksm_pages.proofs.Names.{merged_into, nat_tests, None, none_counted, none_found, not, one_of_each_place, Option, option_and_then, option_map, refl, Row, row_at, rows_of, rows_without, set}
+use Rattle.ksm_pages.proofs.Names.{slice_get, Some, stands_at, subst, sym, tied_counted, tree_of, true, without_place, ℕ, ◌&&◌, ◌<◌, ◌==◌, ◌∙◌, ◌≡◌}
 use Rattle.ksm_pages.proofs.Changing.{row_found}
 use Rattle.ksm_pages.proofs.Found.{find_kept}
 use Rattle.ksm_pages.proofs.Lodgings.{frame_by, seat}
@@ -81,9 +81,9 @@ frame_away frames place frame (Some e) away = grind (arith, nat_tests, get_set f
 
 -- a place where a dup stands is below the bound of all places
 pub any_below : (place n : ℕ) (dups : List DupRow) → All (λ d. d.place < n) dups → list_any (λ d. d.place == place) dups ≡ true → place < n
-any_below place n [] below there = cc
-any_below place n (d ∷ dups) below there =
-    grind (arith, nat_tests, All-head (λ e. e.place < n) d _ below, any_below place n dups (All-tail (λ e. e.place < n) d dups below))
+any_below place n dups below there =
+    let at = Any-from_list_any (λ d. d.place == place) dups there in
+    rw (← eqb-true at.1.place place at.4) (subst (λ (d : DupRow). d.place < n) at.3 (below at.0 at.1 at.2))
 
 module _ (dups : List DupRow) (rise : InPlaceOrder dups) (frames : List ℕ) (place frame : ℕ) (inside : place < length frames) where
   abbrev of : ℕ → Option ℕ

@@ -7,7 +7,7 @@ use Rattle.ksm_pages.proofs.Options.{mapped_some, none_mapped}
 use Rattle.ksm_pages.specs.declared.rows.Rows.TheInside.{Inside}
 use Rattle.ksm_pages.proofs.Found.{each_found, find_change, find_gone, find_gone_other, find_put, find_put_other}
 
-abbrev page_of : Named → GuestPage
+abbrev pub page_of : Named → GuestPage
 page_of n = n.page
 
 -- the row that a slab has under the key of a name

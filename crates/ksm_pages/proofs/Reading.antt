@@ -2,10 +2,7 @@
 use Rattle.ksm_pages.proofs.Names.{All, All-filter, ap, arith, Bool, count_by, count_mapped, filter_mapped, find, find_all, find_mapped, get, GuestPage, held_under, map, map_mapped, mergeable_pages}
 use Rattle.ksm_pages.proofs.Names.{Named, option_map, refl, Row, rows_of, Some, visited, ◌∙◌, ◌≡◌}
 use Rattle.ksm_pages.specs.declared.rows.Rows.TheInside.{Inside}
-use Rattle.ksm_pages.proofs.Filing.{all_held, all_stand, AreRows, page_under}
-
-abbrev page_of : Named → GuestPage
-page_of n = n.page
+use Rattle.ksm_pages.proofs.Filing.{all_held, all_stand, AreRows, page_of, page_under}
 
 module _ (s : Inside) (are : AreRows s) where
   abbrev row_by : Named → Row

@@ -81,20 +81,16 @@ module _ {s : Inside} {p : PagesValue} {page : GuestPage} {later : DupsState} {f
         (moved f turned (λ x. (alike x).0) to (λ r. (own r).0) (agree h alone) (own_not_merged _ (own h.row).1) keeps
         (grind (arith, alike h, own h.row, agree h alone, alone, lies s it.lawful page it.found it.seen_as)))
 
-    module _ (rows : RowsView) where
-      -- a page that has left and whose row is gone is seen no more, and lies on no frame
-      pub parted : Become s.rows rows (without_held page s.rows.held)
-          → Comes s rows later (record (seen p) {
-            rows = without_page page p.rows;
-            frame = lies_on page None (frame_of p.lodgings);
-          })
-      parted gone =
-          rw (← it.seen_as)
-          (comes s it.lawful rows gone (rows_without page _) out (rows_out _ _ _)
-          (ordered_without _ _ it.lawful.order)
-          (tied_dropped _ _ _ it.lawful.order there _ it.lawful.tied)
-          (All-filter _ (IsLoneIn s) s.rows.held it.lawful.alone)
-          (lodged_gone _ _ _))
+    -- a page that has left and whose row is gone is seen no more, and lies on no frame
+    pub parted : {rows : RowsView} → rows ≡ record s.rows { held = without_held page s.rows.held }
+        → Comes s rows later (record (seen p) { rows = without_page page p.rows; frame = lies_on page None (frame_of p.lodgings) })
+    parted {rows} gone =
+        rw (← it.seen_as)
+        (comes s it.lawful rows (held_as gone) (rows_without page _) out (rows_out _ _ _)
+        (ordered_without _ _ it.lawful.order)
+        (tied_dropped _ _ _ it.lawful.order there _ it.lawful.tied)
+        (All-filter _ (IsLoneIn s) s.rows.held it.lawful.alone)
+        (lodged_gone _ _ _))
 
 -- a page with a frame of its own is in no dup, and leaves nothing
 pub own_left : {s : Inside} {p : PagesValue} {page : GuestPage} → AreLawful s → view_of s ≡ p → IsAlone page p.rows

@@ -1,11 +1,10 @@
 use Rattle.ksm_pages.proofs.Names.{arith}
-use Rattle.ksm_pages.proofs.Leaving.{held_as}
 use Rattle.ksm_pages.proofs.Turning.{known_left, lay, parted}
 use Rattle.ksm_pages.proofs.pages.Pages.remove.Goals as goal
 
 pub invariant_of-self : goal.invariant_of-self
 invariant_of-self c =
-    (parted (known_left {s = c.self.inside} c.self.invariant c.self.view_is c.requires c.leave-left.ensures) c.remove.new.self (held_as c.remove.ensures)).lawful
+    (parted (known_left {s = c.self.inside} c.self.invariant c.self.view_is c.requires c.leave-left.ensures) c.remove.ensures).lawful
 
 pub returns-clause-left : goal.returns-clause-left
 returns-clause-left c = lay (known_left {s = c.self.inside} c.self.invariant c.self.view_is c.requires c.leave-left.ensures) c.deref.ensures.value
@@ -13,5 +12,5 @@ returns-clause-left c = lay (known_left {s = c.self.inside} c.self.invariant c.s
 pub returns-clause-gone : goal.returns-clause-gone
 returns-clause-gone c = grind (
   arith,
-  (parted (known_left {s = c.self.inside} c.self.invariant c.self.view_is c.requires c.leave-left.ensures) c.remove.new.self (held_as c.remove.ensures)).told_as,
+  (parted (known_left {s = c.self.inside} c.self.invariant c.self.view_is c.requires c.leave-left.ensures) c.remove.ensures).told_as,
 )
