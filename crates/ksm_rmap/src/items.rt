@@ -61,6 +61,7 @@ impl Items {
     }
 
     /// Removes a page, and answers whether it was there.
+    #[tactic(auto, using(crate::proofs::Keys::has_by_key))]
     pub fn remove(&mut self, page: GuestPage) -> bool
         ensures found { result ≡ has_item page self.old }
         ensures removed { self.new ≡ without_item page self.old }
@@ -78,6 +79,7 @@ impl Items {
     }
 
     /// Whether a page is there.
+    #[tactic(auto, using(crate::proofs::Keys::has_by_key))]
     pub fn contains(&self, page: GuestPage) -> bool
         ensures { result ≡ has_item page self.now }
     {

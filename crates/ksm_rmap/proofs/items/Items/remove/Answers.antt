@@ -12,7 +12,6 @@ use Rattle.ksm_order.proofs.Ordered.{absent_kept, none_found}
 use Rattle.ksm_order.proofs.Places.{remove_here}
 use Rattle.ksm_rmap.proofs.Pages.{pages_ordered, refilled}
 use Rattle.ksm_rmap.proofs.items.Items.remove.Goals as goal
-use Rattle.ksm_rmap.proofs.items.Items.remove.Goals.{After-stands_at-found}
 
 here : (c : goal.After-truncate) → IsHere (λ k. k) c.key_of-key.result c.self.inside.keys.items c.place_of-at.result
 here c = rw c.as_mut_slice-keys.ensures.value at (c.if-found.ensures.here refl)
@@ -26,9 +25,7 @@ gone c =
 
 -- so the key is taken out
 removed : (c : goal.After-truncate) → c.truncate.new.self.items ≡ without_key c.key_of-key.result c.self.inside.keys.items
-removed c =
-    gone c
-    ∙ remove_here c.self.invariant.ascending (here c) 0
+removed c = gone c ∙ remove_here c.self.invariant.ascending (here c) 0
 
 pub invariant_of-self : goal.invariant_of-self
 invariant_of-self c = record {
@@ -37,14 +34,8 @@ invariant_of-self c = record {
   few = omega (arith, ap length (gone c), length-remove c.self.inside.keys.items c.place_of-at.result (here c).within, c.self.invariant.few);
 }
 
-pub returns-then-found-clause-found : goal.returns-then-found-clause-found
-returns-then-found-clause-found c = grind (arith, has_by_key c.args.page c.key_of-key.ensures.few)
-
 pub returns-then-found-clause-removed : goal.returns-then-found-clause-removed
 returns-then-found-clause-removed c = grind (arith, removed c, without_by_key c.args.page c.key_of-key.ensures.few)
-
-pub returns-else-found-clause-found : goal.returns-else-found-clause-found
-returns-else-found-clause-found c = grind (arith, has_by_key c.args.page c.key_of-key.ensures.few)
 
 pub returns-else-found-clause-removed : goal.returns-else-found-clause-removed
 returns-else-found-clause-removed c =
