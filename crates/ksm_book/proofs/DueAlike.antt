@@ -14,8 +14,7 @@ use Rattle.ksm_book.proofs.Along.{place_of}
 pub all_has : (P : GuestPage → Type 0) (pages : List GuestPage) → All P pages → (q : GuestPage)
     → has_item q pages ≡ true → P q
 all_has P pages all q is =
-    let there = place_of q pages is in
-    subst P (get_or_from_slice_get pages there.0 q q there.1) (all there.0 q (slice_get_within pages there.0 q there.1))
+    grind (arith, place_of, get_or_from_slice_get, slice_get_within)
 
 -- each row of rows in order is found at its page
 pub at_own_page : (page : GuestPage) (rows : List Row) → InPageOrder rows

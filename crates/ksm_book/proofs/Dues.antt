@@ -55,8 +55,7 @@ first_found cursor order rise = by _ refl
 
     there : All (λ m. has_item m.page (pages_in order) ≡ true) order
     there k d lt =
-        let page = (get_or order k d).page in
-        any_named page order ∙ list_any_at (λ m. same_page m.page page) order k d lt (same_page_refl page)
+        grind (arith, any_named, list_any_at, same_page_refl)
 
     by : (o : Option Named) → find behind order ≡ o → FindsFirst cursor (pages_in order) (option_map (λ n. n.page) o)
     by None none = All-map (λ p. after_cursor cursor p ≡ false) (λ n. n.page) order (find_none behind order none)

@@ -216,5 +216,4 @@ module _ {v : PagesView} {k : KeeperView} {dup : DupRow} {node g : ℕ} (may : M
 pub taken_place : {v : PagesView} {k : KeeperView} {dup : DupRow} {node : ℕ} → MayMove v k dup node
     → list_any (λ d. d.place == dup.place) v.dups ≡ true
 taken_place {v} {dup = dup} may =
-    let at = found_in (λ d. d.place == dup.place && has_items v.rows d) v.dups may.live in
-    grind (arith, list_any_at)
+    grind (arith, found_in, list_any_at)

@@ -51,8 +51,7 @@ module _ {p : PagesView} {k : KeeperView} {cursor : Option GuestPage} {passes : 
   pub meets : {f : Find} → IsSound (state_of p cursor passes) × IsLaid p k → book p k cursor passes ≡ v → FindsStill v page f
       → Meets f p p k cursor passes v page
   meets {f} lawful same told =
-      let at = filled_by _ (subst (λ (w : BookView). FindsStill w page f) (sym same) told) in
-      record { is = same; sound = lawful.0; laid = lawful.1; row = at.0; found = at.1; so = at.2 }
+      grind (arith, filled_by, told)
 
   -- a row of which a visit found something is met with it
   pub finds_it : (f : Find) → (f ≡ finds.Gone → ⊥) → IsSound (state_of p cursor passes) × IsLaid p k → book p k cursor passes ≡ v
@@ -120,9 +119,7 @@ module _ {p : PagesView} {k : KeeperView} {cursor : Option GuestPage} {passes : 
 
     same_bytes : row.bytes ≡ item.bytes
     same_bytes =
-        let item_is = of_item (λ r. (number : ℕ) → r.state ≡ Merged number → (d : DupRow) × IsDupOf p.knobs p.dups r
-        number d) at.sound.items in
-        grind (arith, joins, live.merged, state_of_item dup.number item.state live.merged)
+        grind (arith, of_item, joins, state_of_item)
 
     few : item_count p.rows dup ≤ MOST_REFERENCES - 1
     few = omega (arith, joins.room)

@@ -93,9 +93,7 @@ module _ {p : PagesView} {k : KeeperView} {cursor : Option GuestPage} {passes : 
   pub move_moved : {l : KeeperView} {q : PagesView} (lies : Option ℕ) → (row.home == node) ≡ false → q ≡ relaid page (at_home_on node) lies p
       → Resettles (lying p k) (lying q l) page node row.bytes × IsLaid q l → Carries p k q l cursor passes (MovePage page node) (Ok Done)
   move_moved lies away goes got =
-      let alike = changed_alike page (at_home_on node) (moved node) p.rows row rise found (grind (arith, away)) in
-      let there : nat_le p.shape.nodes node ≡ false = grind (arith, less) in
-      grind (arith, found_page)
+      grind (arith, changed_alike, found_page)
 
 module _ {p : PagesView} {k : KeeperView} (h : IsLaid p k) (rise : InPageOrder p.rows) {page : GuestPage} {row : Row}
     (found : row_at page p.rows ≡ Some row) {left : Option ℕ} (was : left ≡ p.frame page) where

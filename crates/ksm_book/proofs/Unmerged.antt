@@ -102,8 +102,7 @@ pub record IsUnsharing (p q : PagesView) (k l : KeeperView) (guest : Option ℕ)
 -- at first none did
 pub unsharing_begins : (p : PagesView) (k : KeeperView) (guest : Option ℕ) → IsLaid p k → IsUnsharing p p k k guest 0 None
 unsharing_begins p k guest h =
-    let none = filter_none (passed (is_shared_of guest) None) p.rows (grind arith) in
-    grind (arith, along_none (of_guest guest) (left_by guest) p.rows)
+    grind (arith, filter_none, passed, along_none)
 
 module _ {p q : PagesView} {k l : KeeperView} {guest : Option ℕ} {count : ℕ} {last : Option GuestPage}
     (u : IsUnsharing p q k l guest count last) (rise : InPageOrder p.rows) where

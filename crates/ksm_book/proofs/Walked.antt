@@ -108,9 +108,7 @@ pub record IsWalking (visit : Visit) (last : Option GuestPage) (old now : BookVa
 
 none_walked : (visit : Visit) (s : Stage) → walked_to visit s.0.cursor s ≡ s
 none_walked visit s =
-    let pages = mergeable_pages s.0.rows in
-    ap (fold visit s) (filter_none (λ p. not (after_cursor s.0.cursor p)) (filter (after_cursor s.0.cursor) pages)
-    (grind (arith, filter_passes (after_cursor s.0.cursor) pages)))
+    grind (arith, filter_none, filter_passes)
 
 -- a walk begins at the book's cursor
 pub begins_walk : (visit : Visit) (v : BookValue) (reached : Option GuestPage) → reached ≡ v.state.cursor → (last : Option GuestPage) (quiet : Bool)
