@@ -10,12 +10,6 @@ use Rattle.ksm_book.proofs.Folded.{becomes, by_row, Goes, mergeable_kept, page_g
 use Rattle.ksm_base.specs.declared.row.PageState.TheVariants.{Private}
 use Rattle.ksm_book.proofs.Along.{place_of}
 
--- what is so of all of some pages is so of one that is there
-pub all_has : (P : GuestPage → Type 0) (pages : List GuestPage) → All P pages → (q : GuestPage)
-    → has_item q pages ≡ true → P q
-all_has P pages all q is =
-    grind (arith, place_of, get_or_from_slice_get, slice_get_within)
-
 -- each row of rows in order is found at its page
 pub at_own_page : (page : GuestPage) (rows : List Row) → InPageOrder rows
     → All (λ r. same_page page r.page ≡ true → row_at page rows ≡ Some r) rows

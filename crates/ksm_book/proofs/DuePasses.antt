@@ -1,10 +1,10 @@
 -- A pass over what is due comes to what the pass of the definitions comes to.
 use Rattle.ksm_book.proofs.Names.{after_cursor, ahead_before, ahead_up_to, All, ap, AreAscending, AreDue, arith, BookState, BookValue, Bool, Comes, comes_before, Deed, due_visited, each_at_page}
-use Rattle.ksm_book.proofs.Names.{false, filter, filter_all, FindsFirst, FindsNext, fold, fold-append, get_or, GuestPage, has_item, hidden_from, InPageOrder, IsSound, IsStill, length, List, map-id}
-use Rattle.ksm_book.proofs.Names.{mergeable_pages, None, one_before, Option, page, page_visited, pages_ahead, pages_visited, part_before, part_visited, pass_begun, refl, restless_at, same_page_eq}
-use Rattle.ksm_book.proofs.Names.{slice_get-get_or, slice_get_within, Some, Stage, StaysBefore, StaysStill, Stops, subst, suc, sym, take, take-suc, take_all, true, up_to, view_of, zero, ℕ, [], ◌∙◌}
-use Rattle.ksm_book.proofs.Names.{◌∷◌, ◌≡◌, ◌≤◌}
-use Rattle.ksm_book.proofs.DueAlike.{all_has, calm_stays, narrowed, narrowed_alike, one_due}
+use Rattle.ksm_book.proofs.Names.{false, filter, filter_all, FindsFirst, FindsNext, fold, fold-append, get_or, get_or_from_slice_get, GuestPage, has_item, hidden_from, InPageOrder, IsSound, IsStill}
+use Rattle.ksm_book.proofs.Names.{length, List, map-id, mergeable_pages, None, one_before, Option, page, page_visited, pages_ahead, pages_visited, part_before, part_visited, pass_begun, refl}
+use Rattle.ksm_book.proofs.Names.{restless_at, same_page_eq, slice_get-get_or, slice_get_within, Some, Stage, StaysBefore, StaysStill, Stops, subst, suc, sym, take, take-suc, take_all, true, up_to}
+use Rattle.ksm_book.proofs.Names.{view_of, zero, ℕ, [], ◌∙◌, ◌∷◌, ◌≡◌, ◌≤◌}
+use Rattle.ksm_book.proofs.DueAlike.{calm_stays, narrowed, narrowed_alike, one_due}
 use Rattle.ksm_book.proofs.DueKept.{still_undue, undue_rests}
 use Rattle.ksm_book.proofs.Along.{has_filter, place_of, place_splits}
 use Rattle.ksm_book.proofs.Reached.{agrees, begins, comes_by, comes_to, first}
@@ -99,7 +99,7 @@ module _ {old mid : BookValue} {last : Option GuestPage} (due : List GuestPage)
   pub rests_due : (test : GuestPage → Bool) → All (λ p. after_cursor last p ≡ true → test p ≡ false) due → (q : GuestPage)
       → after_cursor last q ≡ true → test q ≡ true → Rests due_visited mid.state q
   rests_due test none q after passes = undue_rests mid.state due w.goes.0 are q
-      (grind (arith, all_has (λ p. after_cursor last p ≡ true → test p ≡ false) due none q))
+      (grind (arith, place_of q due, get_or_from_slice_get, slice_get_within))
 
   -- where the first page that is due was not visited, and no row from there on waits any more, the pass stopped before it
   pub part_stops : (next new : BookValue) (page : GuestPage) → FindsFirst last due (Some page) → old.state.cursor ≡ None

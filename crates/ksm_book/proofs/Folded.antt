@@ -343,8 +343,7 @@ module _ (s : Stage) (sound : IsSound s.0) (page : GuestPage) (there : has_item 
 
   still_ahead : ahead_before page stopped.0 ≡ before_it
   still_ahead =
-      let going = pages_go before_it (begun s) (begun_sound s sound) in
-      grind (arith, pages_stay before_it (begun s))
+      grind (arith, pages_go, begun_sound, pages_stay)
 
   many : length (ahead_before page stopped.0) ≡ place
   many = grind (arith, still_ahead, first_is, length-take-le, slice_get_within)

@@ -29,7 +29,6 @@ module _ {page : GuestPage} {old now : BookValue} {last : Option GuestPage} (h :
   pub hiding_end : find (is_next None last) now.state.rows ≡ None → view_of now ≡ record (view_of old) { state = hidden_from page old.state }
   hiding_end ended = h.are ∙ ap (with_rows (view_of old)) (sym so_far.are ∙ along_end (grind arith) so_far ended)
 
-  -- the next page
   module _ (rise : InPageOrder old.state.rows) (at : GuestPage)
       (told : option_map (λ r. r.page) (find (is_next None last) now.state.rows) ≡ Some at) where
     hiding_next : (w : BookValue) → view_of w ≡ with_rows (view_of now) (change_row at (hide page) now.state.rows)

@@ -211,9 +211,3 @@ module _ {v : PagesView} {k : KeeperView} {dup : DupRow} {node g : ℕ} (may : M
           -- once the new frame is mounted and the items lie there, the dup has moved to a frame of the node
           pub has_remounted : HasRemounted v q k x dup node (Ok Done)
           has_remounted = grind (arith, laid_moved_dup, item_lies, known, may_mount, base, at_g, goes)
-
--- where a dup is to move from a place, a dup stands at that place
-pub taken_place : {v : PagesView} {k : KeeperView} {dup : DupRow} {node : ℕ} → MayMove v k dup node
-    → list_any (λ d. d.place == dup.place) v.dups ≡ true
-taken_place {v} {dup = dup} may =
-    grind (arith, found_in, list_any_at)

@@ -99,11 +99,6 @@ pub record IsUnsharing (p q : PagesView) (k l : KeeperView) (guest : Option ℕ)
   -- the numbers of the cursor's page fit
   pub fits : FitsPage last
 
--- at first none did
-pub unsharing_begins : (p : PagesView) (k : KeeperView) (guest : Option ℕ) → IsLaid p k → IsUnsharing p p k k guest 0 None
-unsharing_begins p k guest h =
-    grind (arith, filter_none, passed, along_none)
-
 module _ {p q : PagesView} {k l : KeeperView} {guest : Option ℕ} {count : ℕ} {last : Option GuestPage}
     (u : IsUnsharing p q k l guest count last) (rise : InPageOrder p.rows) where
   abbrev met : List Row
@@ -201,7 +196,6 @@ module _ (p : PagesView) {k : KeeperView} {cursor : Option GuestPage} {passes gu
   mergeable_carried {q} some h goes =
       (grind (arith, has_told p guest o told), rw goes (laid_mapped h _ (grind arith) (grind arith)))
 
--- a run of 2
 module _ {p m : PagesView} {k l : KeeperView} (cursor : Option GuestPage) (passes : ℕ) {count : ℕ} {stop : Option Fault}
     (u : Unshares p m k l None count stop) {knobs : Knobs} (same : knobs ≡ p.knobs) where
   abbrev b : BookState
@@ -217,7 +211,6 @@ module _ {p m : PagesView} {k l : KeeperView} (cursor : Option GuestPage) (passe
       → IsCarried (book p k cursor passes) (book q l cursor passes) (SetRun 2) (Ok (Unmerged count stop)) × IsLaid q l
   unshare_stops some {q} goes = (carried q _ (rw goes) (grind arith), rw goes (retuned (inl (grind arith)) u.laid))
 
-  -- it went through
   module _ (none : is_some stop ≡ false) where
     went : m.rows ≡ map (left_by None) p.rows
     went = grind arith

@@ -1,5 +1,6 @@
-use Rattle.ksm_book.proofs.Names.{arith}
-use Rattle.ksm_book.proofs.Remounts.{has_remounted, may_freeze, may_mount, stays, taken_place}
+use Rattle.ksm_book.proofs.Names.{arith, list_any_at}
+use Rattle.ksm_book.proofs.Moves.{found_in}
+use Rattle.ksm_book.proofs.Remounts.{has_remounted, may_freeze, may_mount, stays}
 use Rattle.ksm_book.proofs.Laying.{turned}
 use Rattle.ksm_book.proofs.moving.remount.Goals as goal
 
@@ -25,7 +26,7 @@ mount-requires-clause-may c =
     c.freeze.ensures.1 (c.freeze.ensures.2.0 c.if-not-freeze.false) c.base-items.ensures
 
 pub set_dup_frame-requires : goal.set_dup_frame-requires
-set_dup_frame-requires c = taken_place c.requires.may
+set_dup_frame-requires c = grind (arith, found_in, list_any_at, c.requires.may.live)
 
 pub returns : goal.returns
 returns c =

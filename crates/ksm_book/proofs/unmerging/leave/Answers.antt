@@ -17,11 +17,9 @@ pub returns-in_default-clause-turned : goal.returns-in_default-clause-turned
 returns-in_default-clause-turned c =
     search (rules, turned c.requires.laid c.in_default.ensures.provides)
 
--- the frame that the page left, if it left one
 left : (c : Joined-is_some-2) → c.if-is_some-2.left ≡ (seen c.args.pages.now).frame c.args.held.spot.page
 left c = elim c.if-is_some-2.branch [ then-is_some-2 w ↦ w.left-is ∙ w.let_go_on-left.ensures.left | else-is_some-2 w ↦ w.left-is ∙ w.unshare_on-left.ensures.left ]
 
--- the page has its new frame
 freed : (c : Joined-is_some-2) → seen c.if-is_some-2.pages ≡ relaid c.args.held.spot.page (left_by c.args.guest) (Some c.in-Some.frame) (seen c.args.pages.now)
 freed c = elim c.if-is_some-2.branch [
   | then-is_some-2 w ↦ rw (← left_some c.args.guest (sym c.is_some-2.ensures ∙ w.if-is_some-2.true)) (ap seen w.pages-is ∙ w.let_go_on-left.ensures.gone)

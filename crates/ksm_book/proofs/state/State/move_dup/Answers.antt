@@ -3,7 +3,6 @@ use Rattle.ksm_book.proofs.Singles.{carried_so, place_is, remount_carried}
 use Rattle.ksm_book.proofs.state.State.move_dup.Goals as goal
 use Rattle.ksm_book.proofs.state.State.move_dup.Goals.{Joined-else-knobs-eq0}
 
--- the dup may move to the node
 may : (c : Joined-else-knobs-eq0) → MayMove (seen c.self.inside.pages) c.self.inside.keeper c.in-Some.dup c.args.node
 may c =
     let s = c.self.inside in

@@ -4,7 +4,6 @@ use Rattle.ksm_book.proofs.DueKept.{more_due}
 use Rattle.ksm_book.proofs.state.State.note_store.Goals as goal
 use Rattle.ksm_book.proofs.state.State.note_store.Goals.{After-waits}
 
--- the rows are in order
 rise : (c : After-waits) → InPageOrder c.args.self.now.state.rows
 rise c = rw (← c.self.view_is) c.self.invariant.0.rows_rise
 

@@ -3,7 +3,6 @@ use Rattle.ksm_book.proofs.Singles.{carried_so, Does, come_found, HasCome, regis
 use Rattle.ksm_book.proofs.state.State.register.Goals as goal
 use Rattle.ksm_book.proofs.state.State.register.Goals.{In_ok-spot}
 
--- the page came
 new : (c : In_ok-spot) → HasCome (seen c.self.inside.pages) (seen c.insert.new.self) c.args.page c.args.node c.args.bytes.now
 new c = grind arith
 

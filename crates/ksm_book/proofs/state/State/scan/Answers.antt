@@ -34,7 +34,6 @@ returns-then-mergeable-eq0-clause-carried c =
     scanned v v _ 0 None (running ((goal.at.returns-then-mergeable-eq0-clause-carried c).After-mergeable))
     (grind arith) (λ from s before. before)
 
--- there are pages to visit
 some : (c : After-list_restless) → list_any (λ r. r.mergeable) c.args.self.now.state.rows ≡ true
 some c = any_some c.args.self.now.state.rows (grind (arith, c.self.view_is, some_pages))
 

@@ -3,7 +3,6 @@ use Rattle.ksm_book.proofs.DueFound.{other_alone, taken_comes, taken_leaves, tak
 use Rattle.ksm_book.proofs.state.State.take_over.Goals as goal
 use Rattle.ksm_book.proofs.state.State.take_over.Goals.{After-stop_waiting}
 
--- the other page waits no more
 freeing : (c : After-stop_waiting)
     → view_of c.stop_waiting.new.self ≡ with_rows (view_of c.args.self.now) (change_row c.args.other settled c.args.self.now.state.rows)
 freeing c = rw (← c.in-Some.ensures.spot) c.stop_waiting.ensures
