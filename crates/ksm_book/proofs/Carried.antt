@@ -68,5 +68,4 @@ shown_so v w _ _ is h = tt
 
 -- a command that was carried out leaves the keeper its table, gave the frames that it needed, and its log shows why it is answered so
 pub carried_out : {v w : BookView} {command : Command} {answer : Answer} → IsCarried v w command answer → CarriedOut v w command answer
-carried_out {v} {w} {command} {answer} h =
-    grind (arith, frames_given, shown_so)
+carried_out {v} {w} {command} {answer} h = grind (arith, frames_given, shown_so)

@@ -8,7 +8,6 @@ use Rattle.ksm_book.proofs.Names.{settled_calmer, slice_get_within, Some, sound_
 use Rattle.ksm_book.proofs.Names.{◌||◌, ◌∙◌, ◌≡◌}
 use Rattle.ksm_book.proofs.Folded.{becomes, by_row, Goes, mergeable_kept, page_goes}
 use Rattle.ksm_base.specs.declared.row.PageState.TheVariants.{Private}
-use Rattle.ksm_book.proofs.Along.{place_of}
 
 -- each row of rows in order is found at its page
 pub at_own_page : (page : GuestPage) (rows : List Row) → InPageOrder rows

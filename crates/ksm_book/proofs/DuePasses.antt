@@ -13,10 +13,7 @@ use Rattle.ksm_book.proofs.Walked.{before_it, is_ahead, IsVisit, IsWalking, rest
 
 -- the visit of a page that is due is one that a walk may make
 pub visits_due : IsVisit due_visited
-visits_due = record {
-  goes = λ b deed page sound. (one_due b sound deed page).0;
-  calm = λ b page calm deed. calm_stays (b, deed) page calm;
-}
+visits_due = grind (arith, one_due, calm_stays)
 
 -- a pass begins in a sound book
 module _ (b : BookState) (deed : Deed) (sound : IsSound b) (start : b.cursor ≡ None) where
@@ -33,12 +30,7 @@ module _ (b : BookState) (deed : Deed) (sound : IsSound b) (start : b.cursor ≡
   -- where those of the pages ahead that pass a test are the first n, only these wait where only pages that pass it do
   as_first : (t : GuestPage → Bool) (n : ℕ) → filter t all ≡ take n all → (c : BookState) → Goes b c
       → narrowed (λ q. has_item q (take n all)) c ≡ narrowed t c
-  as_first t n are c goes =
-      let mergeable : all ≡ mergeable_pages b.rows = rw start (every_page b.rows) in
-      narrowed_alike (λ q. has_item q (take n all)) c t (λ k d lt waits.
-      let page = (get_or c.rows k d).page in
-      let there = restless_mergeable page c.rows (grind (arith, each_at_page c.rows goes.0.rows_rise k d lt, goes.0.mergeable k d lt)) in
-      grind (arith, has_filter t page all, goes.1))
+  as_first t n are c goes = grind (arith, every_page, narrowed_alike, restless_mergeable, each_at_page, has_filter)
 
   -- the visits of the definitions do the same, but that no other pages wait
   first_alike : (n : ℕ) → n ≤ length all → Goes b (ours n).0

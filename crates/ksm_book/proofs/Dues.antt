@@ -1,6 +1,6 @@
 -- The pages that are due, as they are kept: which there are once one came or went, and the first behind a cursor.
 use Rattle.ksm_book.proofs.Names.{added, after_cursor, All, All-map, any-filter_same, any_found, append-nil, arith, Bool, comes_before, false, filter, find, find_all, find_none, find_passes}
-use Rattle.ksm_book.proofs.Names.{FindsFirst, found_first, get_or, GuestPage, has_item, is_some, length, List, list_any, list_any-append, list_any_at, map, Named, None, not, Option, option_map, page}
+use Rattle.ksm_book.proofs.Names.{FindsFirst, found_first, GuestPage, has_item, is_some, length, List, list_any, list_any-append, list_any_at, map, Named, None, not, Option, option_map, page}
 use Rattle.ksm_book.proofs.Names.{pages_of, refl, same_page, same_page_refl, Some, true, [], ◌&&◌, ◌++◌, ◌==◌, ◌||◌, ◌∙◌, ◌∷◌, ◌≡◌}
 use Rattle.ksm_pages.specs.declared.row.Spot.{Spot}
 use Rattle.ksm_pages.specs.Ordered.{AreAscending, is_of, with_named, without_named}
@@ -54,8 +54,7 @@ first_found cursor order rise = by _ refl
     behind n = after_cursor cursor n.page
 
     there : All (λ m. has_item m.page (pages_in order) ≡ true) order
-    there k d lt =
-        grind (arith, any_named, list_any_at, same_page_refl)
+    there k d lt = grind (arith, any_named, list_any_at, same_page_refl)
 
     by : (o : Option Named) → find behind order ≡ o → FindsFirst cursor (pages_in order) (option_map (λ n. n.page) o)
     by None none = All-map (λ p. after_cursor cursor p ≡ false) (λ n. n.page) order (find_none behind order none)

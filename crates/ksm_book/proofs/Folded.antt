@@ -342,8 +342,7 @@ module _ (s : Stage) (sound : IsSound s.0) (page : GuestPage) (there : has_item 
   first_is = (place_splits _ _ _ (ascending s sound) stands).0
 
   still_ahead : ahead_before page stopped.0 ≡ before_it
-  still_ahead =
-      grind (arith, pages_go, begun_sound, pages_stay)
+  still_ahead = grind (arith, pages_go, begun_sound, pages_stay)
 
   many : length (ahead_before page stopped.0) ≡ place
   many = grind (arith, still_ahead, first_is, length-take-le, slice_get_within)

@@ -33,8 +33,7 @@ module _ {page : GuestPage} {old now : BookValue} {last : Option GuestPage} (h :
       (told : option_map (λ r. r.page) (find (is_next None last) now.state.rows) ≡ Some at) where
     hiding_next : (w : BookValue) → view_of w ≡ with_rows (view_of now) (change_row at (hide page) now.state.rows)
         → Hides page old w (Some at)
-    hiding_next w hides =
-        grind (arith, along_next, so_far)
+    hiding_next w hides = grind (arith, along_next, so_far)
 
     -- a shared page, or one that comes before, is left as it is
     pub hiding_over : (row : Row) → row_at at now.state.rows ≡ Some row

@@ -1,9 +1,9 @@
 -- A dup moves to another frame, with all of its items: where its pages lie before and after it.
 use Rattle.ksm_book.proofs.Names.{Agrees, All, All-contains, arith, Bool, cases_eq, cond, Contains, count_alike, count_in, count_none, did, Done, DupFits, DupRow, each_has_number, eq-eqb, Err}
-use Rattle.ksm_book.proofs.Names.{find_all, find_passes, Finds, frame_at, Frames, frames_of, Free, Freeze, frozen, get_or-set_other, get_or-set_same, GuestPage, has_items, HasRemounted, inl, inr}
-use Rattle.ksm_book.proofs.Names.{instead, InUse, is_frame, IsInLife, IsLaid, IsLowestFree, IsServed, item_count, items_on, ItemsLieOn, KeeperView, Ledger, length-set, List, list_any, list_any_at}
+use Rattle.ksm_book.proofs.Names.{find_all, find_passes, Finds, frame_at, Frames, frames_of, Free, Freeze, frozen, get_or-set_other, get_or-set_same, GuestPage, HasRemounted, inl, inr}
+use Rattle.ksm_book.proofs.Names.{instead, InUse, is_frame, IsInLife, IsLaid, IsLowestFree, IsServed, item_count, items_on, ItemsLieOn, KeeperView, Ledger, length-set, List}
 use Rattle.ksm_book.proofs.Names.{MakesSteps, MayMount, MayMove, merged_into, mounting, named_at, ne_eqb, node_of, None, none_counted, Note, Ok, once_mounted, PagesView, place_frame, Placed, Publish}
-use Rattle.ksm_book.proofs.Names.{refl, Row, row_at, same_Some, set, Shape, Some, Stable, true, uses, with_frame, ℕ, ◌&&◌, ◌+◌, ◌<◌, ◌==◌, ◌≡◌, ◌≢◌, ◌≤◌}
+use Rattle.ksm_book.proofs.Names.{refl, Row, row_at, same_Some, set, Shape, Some, Stable, uses, with_frame, ℕ, ◌+◌, ◌<◌, ◌≡◌, ◌≢◌, ◌≤◌}
 use Rattle.ksm_book.proofs.ByPage.{found_page, same_frames}
 use Rattle.ksm_book.proofs.Keeping.{at_again, searched_placed, searched_spends, spent_kept}
 use Rattle.ksm_book.proofs.Laying.{kept}

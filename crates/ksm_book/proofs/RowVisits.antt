@@ -1,6 +1,6 @@
 -- The visit of a row, by what is found: what becomes of the book, and what is done to the frames.
 use Rattle.ksm_book.proofs.Names.{Add, All, All-contains_itself, arith, Best, best_dup, best_dup_has_room, BookValue, BookView, change_row, Contains, Did, Dup, DupRow, each_at_page, false, Find}
-use Rattle.ksm_book.proofs.Names.{find_all, find_passes, FindsAt, FindsStill, Frames, GuestPage, HasRoom, HasVisited, idle, IfSome, is_best, is_restless, IsDupOf, IsJoined, IsLaid, IsSound}
+use Rattle.ksm_book.proofs.Names.{find_all, find_passes, FindsAt, FindsStill, Frames, GuestPage, HasRoom, HasVisited, idle, IfSome, is_best, is_restless, IsJoined, IsLaid, IsSound}
 use Rattle.ksm_book.proofs.Names.{item_count, KeeperStep, KeeperView, leaving, lies_on, LiesWith, lying, MakesSteps, map, map_mapped, MatchOption, May, MayLeave, Merged, merged_into, merged_state}
 use Rattle.ksm_book.proofs.Names.{MOST_REFERENCES, None, Option, page_visited, PagesView, Performs, refl, Row, row_at, row_visited, row_visiting, settled, shared_state, Some, sound_row_visited}
 use Rattle.ksm_book.proofs.Names.{state_of, Sub, subst, sym, true, view_of, VisitsPage, Waiting, Zero, ℕ, [], ◌-◌, ◌∷◌, ◌≡◌, ◌≤◌}
@@ -50,8 +50,7 @@ module _ {p : PagesView} {k : KeeperView} {cursor : Option GuestPage} {passes : 
   -- a row of which a visit finds something, as callers see it, and changes nothing, is met with it
   pub meets : {f : Find} → IsSound (state_of p cursor passes) × IsLaid p k → book p k cursor passes ≡ v → FindsStill v page f
       → Meets f p p k cursor passes v page
-  meets {f} lawful same told =
-      grind (arith, filled_by, told)
+  meets {f} lawful same told = grind (arith, filled_by, told)
 
   -- a row of which a visit found something is met with it
   pub finds_it : (f : Find) → (f ≡ finds.Gone → ⊥) → IsSound (state_of p cursor passes) × IsLaid p k → book p k cursor passes ≡ v
@@ -118,8 +117,7 @@ module _ {p : PagesView} {k : KeeperView} {cursor : Option GuestPage} {passes : 
     joins = best_dup_has_room _ row dup at.sound told.1
 
     same_bytes : row.bytes ≡ item.bytes
-    same_bytes =
-        grind (arith, of_item, joins, state_of_item)
+    same_bytes = grind (arith, of_item, joins, state_of_item)
 
     few : item_count p.rows dup ≤ MOST_REFERENCES - 1
     few = omega (arith, joins.room)

@@ -3,7 +3,7 @@ use Rattle.ksm_book.specs.declared.state.State.TheInside.{Inside}
 use Rattle.ksm_book.proofs.Names.{absent_parts, All, Answer, ap, arith, at_home_on, BookState, BookValue, BookView, change_row, comes_before, Command, Done, Drop, DupRow, Err, false, filter}
 use Rattle.ksm_book.proofs.Names.{filter_passes, find_passes, find_put, FindsNone, frame_at, frames_of, fresh_row, GuestPage, HasNewFrame, HasRemounted, Held, holding, IfSome, inl, InPageOrder}
 use Rattle.ksm_book.proofs.Names.{IsCarried, IsHeld, IsLaid, IsReadable, IsSound, IsWritable, KeeperView, leaving, length, lies_on, LiesWith, List, live_dup_at, lying, MakesSteps, map_alike}
-use Rattle.ksm_book.proofs.Names.{map_fixed, MayLeave, MayMove, moved, MoveDup, MovePage, nat_le, NoFrame, None, Ok, Option, PAGE_WORDS, pages_ordered, PagesView, Provides, puts, refl, Register}
+use Rattle.ksm_book.proofs.Names.{map_fixed, MayLeave, MayMove, MoveDup, MovePage, NoFrame, None, Ok, Option, PAGE_WORDS, pages_ordered, PagesView, Provides, puts, refl, Register}
 use Rattle.ksm_book.proofs.Names.{relaid, Resettles, Row, row_at, same_page, same_page_refl, seen, shared_state, Some, sound_after, sound_settings, state_of, stepped, Store, stored, true, view_of}
 use Rattle.ksm_book.proofs.Names.{with_frame, with_row, without_between, without_page, ℕ, [], ◌<◌, ◌==◌, ◌∙◌, ◌∷◌, ◌≡◌, ◌≤◌}
 use Rattle.ksm_book.proofs.ByPage.{found_page, lies_again, lies_still, row_of_page}
@@ -92,8 +92,7 @@ module _ {p : PagesView} {k : KeeperView} {cursor : Option GuestPage} {passes : 
   -- `MovePage` is carried out, and all lies lawfully, where the page is resettled on another node and at home there
   pub move_moved : {l : KeeperView} {q : PagesView} (lies : Option ℕ) → (row.home == node) ≡ false → q ≡ relaid page (at_home_on node) lies p
       → Resettles (lying p k) (lying q l) page node row.bytes × IsLaid q l → Carries p k q l cursor passes (MovePage page node) (Ok Done)
-  move_moved lies away goes got =
-      grind (arith, changed_alike, found_page)
+  move_moved lies away goes got = grind (arith, changed_alike, found_page)
 
 module _ {p : PagesView} {k : KeeperView} (h : IsLaid p k) (rise : InPageOrder p.rows) {page : GuestPage} {row : Row}
     (found : row_at page p.rows ≡ Some row) {left : Option ℕ} (was : left ≡ p.frame page) where

@@ -1,6 +1,6 @@
 -- Pages that leave their dups, or the zero page, one after another; and the commands on all pages of a guest, or all.
 use Rattle.ksm_book.proofs.Names.{All, All-map, any_found, append-nil, arith, BookState, Bool, change_row, change_rows, count_by-le-length, count_more, Done, Err, false, Fault, filter}
-use Rattle.ksm_book.proofs.Names.{filter_none, find, find_all, find_passes, GuestPage, HasLeft, HasNewFrame, Held, inl, InPageOrder, is_next, is_of, is_shared_of, is_some, IsCarried, IsHeld, IsLaid}
+use Rattle.ksm_book.proofs.Names.{find, find_all, find_passes, GuestPage, HasLeft, HasNewFrame, Held, inl, InPageOrder, is_next, is_of, is_shared_of, is_some, IsCarried, IsHeld, IsLaid}
 use Rattle.ksm_book.proofs.Names.{KeeperView, Knobs, leaving, left_by, length, length-append, let_go, List, list_any, lying, MakesSteps, map, map_mapped, Mapped, MatchOption, MayNotLeave, Mergeable}
 use Rattle.ksm_book.proofs.Names.{mergeable_count, None, not, of_guest, Ok, Option, option_map, PagesView, Provides, refl, relaid, ResettlesEach, Row, row_at, same_page, same_Some, SetRun}
 use Rattle.ksm_book.proofs.Names.{shared_state, slice_get_past, Some, state_of, sym, take-append_seam, true, UnknownPage, Unmerge, Unmerged, unshare_stopped, unshared, Unshares, ℕ, []}
@@ -8,7 +8,7 @@ use Rattle.ksm_book.proofs.Names.{◌++◌, ◌+◌, ◌<◌, ◌∙◌, ◌∷�
 use Rattle.ksm_base.specs.declared.row.PageState.TheVariants.{Private}
 use Rattle.std.proofs.Math.Seq.{get_or-append_seam}
 use Rattle.std.proofs.lemmas.Option.{slice_get-get_or}
-use Rattle.ksm_book.proofs.Along.{along_end, along_next, along_none, along_stop, FitsPage, further, IsAlong, next_is, parted, passed, passed_all, position, there}
+use Rattle.ksm_book.proofs.Along.{along_end, along_next, along_stop, FitsPage, further, IsAlong, next_is, parted, passed, passed_all, position, there}
 use Rattle.ksm_book.proofs.ByPage.{found_page, row_of_page}
 use Rattle.ksm_book.proofs.Laying.{laid_changed, laid_mapped, resettled, retuned}
 use Rattle.ksm_book.proofs.Singles.{book, Carries, changed_alike, change_still}

@@ -107,8 +107,7 @@ pub record IsWalking (visit : Visit) (last : Option GuestPage) (old now : BookVa
       → up_to last p ≡ true
 
 none_walked : (visit : Visit) (s : Stage) → walked_to visit s.0.cursor s ≡ s
-none_walked visit s =
-    grind (arith, filter_none, filter_passes)
+none_walked visit s = grind (arith, filter_none, filter_passes)
 
 -- a walk begins at the book's cursor
 pub begins_walk : (visit : Visit) (v : BookValue) (reached : Option GuestPage) → reached ≡ v.state.cursor → (last : Option GuestPage) (quiet : Bool)
