@@ -9,7 +9,7 @@
 //! A page that looks for a dup to join walks along its chain, which mostly has one dup. Of a long chain most dups are
 //! full. So while there is a long one in a small table, the open places of all contents are kept, and such a page walks
 //! along these if they are fewer.
-ghost use Rattle.std.specs.Prelude.{◌≡◌, ℕ, All, List, ◌+◌, ◌^◌, ◌<◌, ◌≤◌, [], ◌∷◌, ◌&&◌, true, false, None, Some, count_by, filter, find, length, is_some, option_copied, option_map, slice_get};
+ghost use Rattle.std.specs.Prelude.{◌≡◌, ℕ, All, List, ◌+◌, ◌^◌, ◌<◌, ◌≤◌, [], ◌∷◌, ◌&&◌, true, false, None, Some, count_by, find, length, is_some, option_copied, option_map, slice_get};
 ghost use Rattle.std.specs.Prelude.{if◌then◌else◌, IfNone, IfOk, IsTrue, OnErr, OnOk};
 ghost use Rattle.ksm_tree.specs.Faults.{FailsForMemory};
 ghost use Rattle.ksm_base.specs.Counting.{in_chain, leads_group};

@@ -5,7 +5,7 @@
 //! written where no dup is, and a key that leads to a dup of another place leads nowhere.
 #![tactic(auto, using(crate::proofs::Shelved::steps))]
 
-ghost use Rattle.std.specs.Prelude.{◌≡◌, ◌<◌, ◌≤◌, true, false, None, Some, length, option_copied, option_map, replicate, if◌then◌else◌, is_some, slice_index_or, slice_set, IfOk, OnErr, OnOk};
+ghost use Rattle.std.specs.Prelude.{◌≡◌, ◌<◌, ◌≤◌, true, false, None, Some, length, option_copied, replicate, if◌then◌else◌, is_some, slice_index_or, slice_set, IfOk, OnErr, OnOk};
 ghost use Rattle.ksm_tree.specs.Faults.{FailsForMemory};
 ghost use Rattle.ksm_base.specs.declared.limits.TheConstants.{MOST_FRAMES, MOST_REFERENCES};
 ghost use Rattle.ksm_rmap.specs.Items.{has_item, with_item, without_item};
