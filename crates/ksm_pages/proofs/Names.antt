@@ -1,7 +1,7 @@
 -- The definitions, and the laws of the libraries and crates below, by their names, for proofs.
 pub use Rattle.ksm_base.proofs.Edits.{count_more, count_none, find_all, find_none, find_nothing, find_over, find_passes, none_counted}
-pub use Rattle.ksm_base.proofs.Orders.{above, all_with_dup, below, dups_parted, each_has_number, one_of_each_page, one_of_each_place, ordered_change, ordered_map, ordered_with, ordered_without}
-pub use Rattle.ksm_base.proofs.Orders.{pairs_append, pairs_head, pairs_tail}
+pub use Rattle.ksm_base.proofs.Orders.{above, all_with_dup, below, dups_parted, each_has_number, one_of_each_place, ordered_change, ordered_map, ordered_with, ordered_without, pairs_append}
+pub use Rattle.ksm_base.proofs.Orders.{pairs_head, pairs_tail}
 pub use Rattle.ksm_base.proofs.Pages.{before_irrefl, one_before, same_page_eq, same_page_refl, same_page_sym}
 pub use Rattle.ksm_base.proofs.RowCounts.{count_change_row, count_with_row, count_without_page, each_at_page, filter_all}
 pub use Rattle.ksm_base.proofs.Sums.{states-add}
@@ -35,7 +35,7 @@ pub use Rattle.ksm_pages.specs.Left.{IsLeft}
 pub use Rattle.ksm_pages.specs.Ordered.{AreAscending, is_of, marked, named_by, visited, with_named, without_named}
 pub use Rattle.ksm_pages.specs.Paged.{AreAlone, AreKept, at_home_on, changed, elsewhere, Finds, FindsAt, frame_of, frame_seen, Frames, HasRoom, HasRow, is_item, is_next, IsAlone, IsHeld, IsKnown}
 pub use Rattle.ksm_pages.specs.Paged.{IsVacant, items_on, lies_on, live_at, lodging, lodgings_of, MayPair, NoneHas, of_guest, on_its_own, page_beside, PagesValue, PagesView, paired, relaid, seen}
-pub use Rattle.ksm_pages.specs.Unstable.{AreLed, comes_to, digest, holder, is_led, Keeps, KeepsOthers, keys_at, meets, place, stands_as, stands_under, turned}
+pub use Rattle.ksm_pages.specs.Unstable.{AreLed, digest, holder, is_led, Keeps, KeepsOthers, keys_at, meets, place, stands_as, stands_under, turned}
 pub use Rattle.ksm_pages.specs.declared.named.Named.{Named}
 pub use Rattle.ksm_pages.specs.declared.pages.Find.{Find}
 pub use Rattle.ksm_pages.specs.declared.pages.Pages.TheInside.{Inside}
@@ -81,7 +81,7 @@ pub use Rattle.std.proofs.lemmas.Fn.{always_returns_same, filter_same}
 pub use Rattle.std.proofs.lemmas.Grind.{get_or-set_at}
 pub use Rattle.std.proofs.lemmas.List.{append-nil, append_assoc, drop-map, drop_all, drop_more, get_or-drop, get_or-take, get_or_default, length-append, length-drop, length-map, length-take}
 pub use Rattle.std.proofs.lemmas.List.{length-take-le, map-append, nil_from_length, set-get_or, take-append-drop, take-map}
-pub use Rattle.std.proofs.lemmas.List.Elements.{All-append, All-cons, All-drop, All-filter, All-head, All-map, All-tail, All-take, filter_passes}
+pub use Rattle.std.proofs.lemmas.List.Elements.{All-append, All-cons, All-drop, All-filter, All-map, All-take, filter_passes}
 pub use Rattle.std.proofs.lemmas.List.Folds.{Any-from_list_any, find-append, list_any-append, list_any_at, map_fixed}
 pub use Rattle.std.proofs.lemmas.List.Kept.{AllPairs-filter}
 pub use Rattle.std.proofs.lemmas.List.Sorted.{All-permutation, IsNonDecreasingBy-from_all_adjacent, IsNonDecreasingBy-from_sort_by_key, IsPermutation-map, list_any-IsPermutation}
