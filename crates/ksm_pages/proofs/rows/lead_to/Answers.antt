@@ -1,5 +1,5 @@
 use Rattle.ksm_pages.proofs.Names.{ap, arith, Entry, false, is_in, Keeps, meets, nat_tests, on_ok_weaker, same_Some, sym, tree_by, true, ◌∙◌, ◌≡◌}
-use Rattle.ksm_pages.proofs.Led.{led_entered, led_kept, led_written}
+use Rattle.ksm_pages.proofs.Led.{led_entered, led_written}
 use Rattle.ksm_pages.proofs.rows.lead_to.Goals as goal
 use Rattle.ksm_pages.proofs.rows.lead_to.Goals.{After-lead}
 
@@ -26,6 +26,3 @@ returns-clause-leads c =
     (grind (arith, nat_tests, number_is c, c.if-number-ge-GONE.false)) (kept c)
     (sym (λ i. meets c.lead.new.self ((c.tree_by-tree.ensures ∙ ap (λ (x : Entry). tree_by c.args.by_node x.home) it) i) (it i).bytes (number_is c i))
     ∙ leads)) c.lead.ensures.leads
-
-pub returns-clause-kept : goal.returns-clause-kept
-returns-clause-kept c = led_kept c.requires.led (kept c)
