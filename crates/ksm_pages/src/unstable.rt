@@ -200,8 +200,8 @@ impl UnstableTree {
         stands(entries, by_node, key, tree, bytes).then_some(key)
     }
 
-    /// A search from a tree and bytes, with which no row is in the tree, comes to a key, to which the tree did not lead.
-    /// The one fault is `Memory`, and then the tree leads where it did.
+    /// A search from a tree and bytes that no row in the tree has comes to a key, to which the tree did not lead. The
+    /// one fault is `Memory`, and then the tree leads where it did.
     #[inline(always)]
     pub fn lead(
         &mut self,
