@@ -122,7 +122,7 @@ module _ {b : BookState} {page other : GuestPage} (sound : IsSound b) (at : Take
 module _ (v m w : BookValue) {page other : GuestPage} (sound : IsSound v.state) (at : TakesOver v.state page other)
     (freeing : view_of m ≡ with_rows (view_of v) (change_row other settled v.state.rows)) where
   frees : Comes v m (λ s. (record s.0 { rows = change_row other settled s.0.rows }, s.1))
-  frees = changed_comes v m (λ b. record b { rows = change_row other settled b.rows }) freeing
+  frees = grind (arith, changed_comes)
 
   -- where the page was visited then, that is the visit of what is due
   pub taken_comes : Comes m w (λ s. page_visited s page) → Comes v w (λ s. due_visited s page)

@@ -122,5 +122,4 @@ due_walks mid new reached page all sound found comes still was = rw (comes_to mi
 
 -- as a walk begins before all pages, those that scans visit are due
 pub due_begins : (b : BookState) → InPageOrder b.rows → AreDue b (filter (after_cursor None) (mergeable_pages b.rows))
-due_begins b rise k d lt restless out =
-    absurd (grind (arith, has_filter, restless_mergeable (get_or b.rows k d).page b.rows, each_at_page b.rows rise k d lt))
+due_begins b rise k d lt restless out = grind (arith, has_filter, restless_mergeable, each_at_page, rise)

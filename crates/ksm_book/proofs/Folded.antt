@@ -246,7 +246,7 @@ nowhere_is b most ahead ends =
     first (page ∷ pages) ahead ends = grind arith
 
 settled_ahead : (b : BookState) → pages_ahead (with_none_waiting b) ≡ pages_ahead b
-settled_ahead b = ap (filter (after_cursor b.cursor)) (mergeable_kept settled (λ r. (refl, refl)) b.rows)
+settled_ahead b = grind (arith, mergeable_kept)
 
 -- as a pass begins the pages ahead are the same
 pub begun_ahead : (b : BookState) → pages_ahead (pass_begun b) ≡ pages_ahead b

@@ -196,8 +196,7 @@ module _ {p : PagesView} {k : KeeperView} {cursor : Option GuestPage} {passes : 
   pub shared_visited : (v w : BookValue) {f : Find} {q : PagesView} {page : GuestPage}
       (at : Meets f p q k cursor passes (view_of v) page) → is_restless at.row ≡ true → q ≡ p
       → VisitsPage (book q k cursor passes) (view_of w) page → HasVisited v w (λ s. page_visited s page) false
-  shared_visited v w at restless same did =
-      record { comes = λ from s before. grind (arith, restless, made_then); still = λ quiet. absurd cc }
+  shared_visited v w at restless same did = grind (arith, made_then)
 
   -- whatever a visit found, the book is sound then, and its rows and dups lie lawfully
   module _ {q : PagesView} (page : GuestPage) (lawful : IsSound (state_of p cursor passes) × IsLaid p k) where

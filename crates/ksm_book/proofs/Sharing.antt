@@ -230,7 +230,7 @@ module _ {p q : PagesView} {k l : KeeperView} {count : ℕ} (h : Drops p q k l c
 
   -- of those with items none goes
   live : filter (has_items p.rows) (filter (elsewhere place) q.dups) ≡ filter (has_items p.rows) q.dups
-  live = inside_of _ _ q.dups (λ n d lt. grind (arith, drop_vacant n d lt, h.pages))
+  live = grind (arith, inside_of, drop_vacant)
 
   -- it is the first of those still stale
   next : filter (is_stale p.rows) q.dups ≡ stale.0 ∷ filter (is_stale p.rows) (filter (elsewhere place) q.dups)
