@@ -106,13 +106,10 @@ pub record IsWalking (visit : Visit) (last : Option GuestPage) (old now : BookVa
   pub within : (p : GuestPage) → after_cursor old.state.cursor p ≡ true → after_cursor reached p ≡ false
       → up_to last p ≡ true
 
-none_walked : (visit : Visit) (s : Stage) → walked_to visit s.0.cursor s ≡ s
-none_walked visit s = grind (arith, filter_none, filter_passes)
-
 -- a walk begins at the book's cursor
 pub begins_walk : (visit : Visit) (v : BookValue) (reached : Option GuestPage) → reached ≡ v.state.cursor → (last : Option GuestPage) (quiet : Bool)
     → IsSound v.state → IsWalking visit last v v reached quiet
-begins_walk visit v reached at last quiet sound = grind (arith, none_walked visit)
+begins_walk visit v reached at last quiet sound = grind (arith, filter_none, filter_passes)
 
 module _ {visit : Visit} (is : IsVisit visit) {last : Option GuestPage} {old mid : BookValue} {reached : Option GuestPage} {quiet : Bool}
     (w : IsWalking visit last old mid reached quiet) where
