@@ -22,11 +22,6 @@ served_as : (sh : Shape) (k k' : Ledger) (dups dups' : List DupRow) (r : Row) (o
 served_as sh k k' dups dups' r None on h = h
 served_as sh k k' dups dups' r (Some f) on h = on f refl h
 
--- a row that is not Zero and is served has a frame that serves it
-pub framed : (sh : Shape) (k : Ledger) (dups : List DupRow) (r : Row) (o : Option ℕ) → zero_state r.state ≡ false → IsServed sh k dups r o
-    → (f : ℕ) × (o ≡ Some f) × Serves sh k dups r f
-framed sh k dups r o other h = grind arith
-
 abbrev At : Shape → Ledger → List DupRow → Frames → Row → Type 0
 At sh k dups frame r = IsServed sh k dups r (frame r.page)
 

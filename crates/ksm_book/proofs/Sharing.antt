@@ -7,7 +7,7 @@ use Rattle.ksm_book.proofs.Names.{Merged, merged_into, merged_state, MOST_FRAMES
 use Rattle.ksm_book.proofs.Names.{ordered_filter, PageState, PagesView, pairs_tail, Performs, place_frame, Placed, Private, pruning, Publish, refl, relaid, Row, row_at, RowFits, set-get_or, Shape}
 use Rattle.ksm_book.proofs.Names.{shared_state, Some, spent, spent_on, Stable, suc, sum_by-le, sym, true, with_dup, Withdraw, withdrawing, ℕ, [], ◌*◌, ◌+◌, ◌-◌, ◌<◌, ◌==◌, ◌^◌, ◌∙◌, ◌∷◌, ◌≡◌, ◌≢◌}
 use Rattle.ksm_book.proofs.Names.{◌≤◌}
-use Rattle.ksm_book.proofs.Moves.{base_is_items, emptied, framed, published, Serves, stale_is_loose, withdrawn}
+use Rattle.ksm_book.proofs.Moves.{base_is_items, emptied, published, Serves, stale_is_loose, withdrawn}
 use Rattle.ksm_book.proofs.Laying.{laid_left, lies_changed, may_leave, serves_at}
 use Rattle.ksm_book.proofs.Keeping.{spent_kept, spent_set}
 use Rattle.ksm_book.proofs.Noted.{noted}
@@ -158,7 +158,7 @@ module _ {sh : Shape} {across : ℕ} {k : Ledger} {rows : List Row} {frame : Fra
       let row = first.0 in
       let into = find_passes (λ r. merged_into e.number r.state) rows row first.1 in
       let served = find_all _ (λ r. IsServed sh k dups r (frame r.page)) _ row first.1 p.each_row in
-      grind (arith, framed, state_of_item)
+      grind (arith, state_of_item)
 
   -- two dups with items stand on frames that differ, where the dups are in the order of their places
   pub frames_apart : InPlaceOrder dups → (n m : ℕ) (d : DupRow) → n < m → m < length dups → Lives k dups sh rows frame (get_or dups n d) → Lives k dups sh rows frame (get_or dups m d)
