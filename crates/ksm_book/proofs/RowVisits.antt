@@ -6,7 +6,7 @@ use Rattle.ksm_book.proofs.Names.{MOST_REFERENCES, None, Option, page_visited, P
 use Rattle.ksm_book.proofs.Names.{state_of, Sub, subst, sym, true, view_of, VisitsPage, Waiting, Zero, ℕ, [], ◌-◌, ◌∷◌, ◌≡◌, ◌≤◌}
 use Rattle.ksm_book.proofs.ByPage.{found_page, row_of_page}
 use Rattle.ksm_book.proofs.Made.{made_one, made_then}
-use Rattle.ksm_book.proofs.Sharing.{laid_joined, may_join as join_may, may_part, state_of_item, Lives, lives}
+use Rattle.ksm_book.proofs.Sharing.{laid_joined, may_join as join_may, may_part, Lives, lives}
 use Rattle.ksm_book.proofs.Singles.{book}
 use Rattle.ksm_pages.specs.declared.pages.Find.TheVariants as finds
 use Rattle.ksm_base.specs.declared.row.PageState.TheVariants.{Private}
@@ -117,7 +117,7 @@ module _ {p : PagesView} {k : KeeperView} {cursor : Option GuestPage} {passes : 
     joins = best_dup_has_room _ row dup at.sound told.1
 
     same_bytes : row.bytes ≡ item.bytes
-    same_bytes = grind (arith, of_item, joins, state_of_item)
+    same_bytes = grind (arith, of_item, joins)
 
     few : item_count p.rows dup ≤ MOST_REFERENCES - 1
     few = omega (arith, joins.room)

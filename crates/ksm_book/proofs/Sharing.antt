@@ -14,10 +14,6 @@ use Rattle.ksm_book.proofs.Noted.{noted}
 use Rattle.ksm_book.proofs.Made.{first_made, none_made, step_made, made_none, made_one, made_then}
 use Rattle.std.proofs.lemmas.Bool.{eq-eqb}
 
--- the state of an item of a dup is Merged with the dup's number
-pub state_of_item : (n : ℕ) (s : PageState) → merged_into n s ≡ true → s ≡ Merged n
-state_of_item n s e = grind arith
-
 -- where a test counts one element at least, a search for it finds one
 pub first_found : {X : Type 0} (t : X → Bool) (xs : List X) → 1 ≤ count_by t xs → (x : X) × (find t xs ≡ Some x)
 first_found t xs some = by _ refl
@@ -158,7 +154,7 @@ module _ {sh : Shape} {across : ℕ} {k : Ledger} {rows : List Row} {frame : Fra
       let row = first.0 in
       let into = find_passes (λ r. merged_into e.number r.state) rows row first.1 in
       let served = find_all _ (λ r. IsServed sh k dups r (frame r.page)) _ row first.1 p.each_row in
-      grind (arith, state_of_item)
+      grind arith
 
   -- two dups with items stand on frames that differ, where the dups are in the order of their places
   pub frames_apart : InPlaceOrder dups → (n m : ℕ) (d : DupRow) → n < m → m < length dups → Lives k dups sh rows frame (get_or dups n d) → Lives k dups sh rows frame (get_or dups m d)
