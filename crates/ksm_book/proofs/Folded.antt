@@ -98,10 +98,6 @@ by_row P page rows calm some = by _ refl
       | inr stays ↦ calm (ap restless_row found ∙ stays)
     ]
 
--- two steps that change nothing but which rows wait change no more together
-pub still_on : (first second third : Stage) → IsStill first second → IsStill second third → IsStill first third
-still_on first second third f g = grind arith
-
 -- a deed and then no step is that deed alone
 pub then_idle : (deed : Deed) → then_doing deed (idle deed.frame) ≡ deed
 then_idle deed = grind (arith, append-nil deed.steps)

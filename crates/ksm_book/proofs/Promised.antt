@@ -6,7 +6,7 @@ use Rattle.ksm_book.proofs.Names.{inl, inr, is_frame, is_in_use, is_stale, IsDis
 use Rattle.ksm_book.proofs.Names.{LieOn, List, lt-ltb, map, Merged, merged_into, None, none_counted, not, own_frames, pairs_append, pairs_mapped, place_frame, Placed, Private, Row, row_at}
 use Rattle.ksm_book.proofs.Names.{shared_state, Some, Stable, StandsOn, subst, suc, true, uses, ℕ, [], ◌++◌, ◌<◌, ◌==◌, ◌∙◌, ◌∷◌, ◌≡◌, ◌≢◌, ◌≤◌}
 use Rattle.ksm_book.proofs.Moves.{base_is_items, found_in, stale_is_loose}
-use Rattle.ksm_book.proofs.Sharing.{empty_from_most, frames_apart, Lives, lives, first_found, none_stale}
+use Rattle.ksm_book.proofs.Sharing.{empty_from_most, Lives, lives, first_found, none_stale}
 
 -- what passes a test is among those that pass, and so is what is made of it
 passing : {X : Type 0} (f : X → ℕ) (test : X → Bool) (xs : List X) {x : X} → Contains xs x → test x ≡ true
@@ -72,7 +72,7 @@ module _ (b : BookState) (k : Ledger) (s : IsSound b) (frame : Frames) (p : Plac
   shown_distinct =
       let Apart : DupRow → DupRow → Type 0 = λ d e. Live d → Live e → place_frame k d.place ≢ place_frame k e.place in
       pairs_mapped Apart (λ f g. f ≢ g) Live (λ d. place_frame k d.place) (λ d e live other apart. apart live other) (filter (has_items b.rows) b.dups)
-      live_kept (AllPairs-filter Apart _ _ (λ i j d before lt. frames_apart p s.dups_rise i j d before lt))
+      live_kept (AllPairs-filter Apart _ _ (λ i j d before lt live other same. grind (arith, s.dups_rise i j d before lt)))
 
   all_distinct : AllPairs (λ f g. f ≢ g) (own ++ shown)
   all_distinct = pairs_append (λ f g. f ≢ g) own shown own_distinct shown_distinct (λ i f lt j g l same.

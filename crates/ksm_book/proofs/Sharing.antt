@@ -156,11 +156,6 @@ module _ {sh : Shape} {across : ℕ} {k : Ledger} {rows : List Row} {frame : Fra
       let served = find_all _ (λ r. IsServed sh k dups r (frame r.page)) _ row first.1 p.each_row in
       grind arith
 
-  -- two dups with items stand on frames that differ, where the dups are in the order of their places
-  pub frames_apart : InPlaceOrder dups → (n m : ℕ) (d : DupRow) → n < m → m < length dups → Lives k dups sh rows frame (get_or dups n d) → Lives k dups sh rows frame (get_or dups m d)
-      → place_frame k (get_or dups n d).place ≢ place_frame k (get_or dups m d).place
-  frames_apart rise n m d before lt a b same = grind arith
-
 -- from p on there are at most as many places taken as dups
 pub empty_from_most : (p : ℕ) (dups : List DupRow) → empty_from p dups ≤ p + length dups
 empty_from_most p [] = omega arith

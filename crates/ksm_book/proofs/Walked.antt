@@ -5,7 +5,7 @@ use Rattle.ksm_book.proofs.Names.{IsSound, IsStill, List, mergeable_pages, not, 
 use Rattle.ksm_book.proofs.Names.{slice_get_within, Some, Stage, StaysStill, subst, suc, sym, take, take-suc, true, true≢false, up_to, ℕ, [], ◌&&◌, ◌-◌, ◌<◌, ◌∙◌, ◌∷◌, ◌≡◌}
 use Rattle.ksm_book.proofs.Along.{Before, FitsPage, after_later, has_filter, place_of, place_splits, position}
 use Rattle.ksm_book.proofs.Reached.{Agree, agrees, comes_to}
-use Rattle.ksm_book.proofs.Folded.{ascending_ahead, by_row, Goes, page_goes, restless_mergeable, still_on}
+use Rattle.ksm_book.proofs.Folded.{ascending_ahead, by_row, Goes, page_goes, restless_mergeable}
 
 -- the visit of a page, with what it does beside
 abbrev pub Visit : Type 0
@@ -154,7 +154,7 @@ module _ {visit : Visit} (is : IsVisit visit) {last : Option GuestPage} {old mid
           comes = λ from s before.
               subst (Reached from new) (sym (step.same from s before)) (visited.comes from _ (w.comes from s before));
           still = λ both from s before. let parts = and_parts quiet calm both in subst (IsStill s) (sym (step.same from s before))
-              (still_on s _ _ (w.still parts.0 from s before) (visited.still parts.1 from _ (w.comes from s before)));
+              (grind (arith, w.still parts.0 from s before, visited.still parts.1 from _ (w.comes from s before)));
           behind = λ p after. w.behind p (after_later reached page p behind after);
           within = λ p _ out. grind (arith, up_to);
         }
