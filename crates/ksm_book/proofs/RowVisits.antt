@@ -137,13 +137,10 @@ module _ {p : PagesView} {k : KeeperView} {cursor : Option GuestPage} {passes : 
     abbrev change : Row → Row
     change r = record r { state = Merged best.number }
 
-    state_is : Merged best.number ≡ item.state
-    state_is = grind arith
-
     -- once a reference came to the dup's frame, the joining page's own frame, if it has one, may be left
     pub may_sub : (w : KeeperView) → MakesSteps k w (Add g ∷ []) → IfSome (p.frame page) (MayLeave w)
     may_sub = may_part at.laid at.sound.rows_rise page row item at.found found_item g there item_merged change
-        (λ r. refl) state_is same_bytes
+        (λ r. refl) (grind arith) same_bytes
 
     module _ (lone : ℕ) (left : p.frame page ≡ Some lone) {w l : KeeperView} (comes : MakesSteps k w (Add g ∷ []))
         (leaves : MakesSteps w l (Sub lone ∷ [])) (q : PagesView)
@@ -161,7 +158,7 @@ module _ {p : PagesView} {k : KeeperView} {cursor : Option GuestPage} {passes : 
           leads at q l at.so.0
           (rw q_is
           (laid_joined at.laid at.sound.rows_rise _ row _ at.found found_item g there
-          item_merged _ (λ r. refl) state_is same_bytes l steps))
+          item_merged _ (λ r. refl) (grind arith) same_bytes l steps))
           (grind (arith, q_is, page_is at, told, at.so))
           (grind (arith, page_is at, live.first, there, steps, q_is, told, at.so))
 
