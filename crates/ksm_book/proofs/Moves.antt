@@ -4,7 +4,7 @@ use Rattle.ksm_book.proofs.Names.{Contains-append_right, Contains-get_or, contai
 use Rattle.ksm_book.proofs.Names.{FitsBase, frame_at, Frames, frames_of, GenerationFits, get_or, get_or-set_other, get_or-set_same, GuestPage, holding, in_hand, inl, InPageOrder, inr, is_frame}
 use Rattle.ksm_book.proofs.Names.{IsInLife, IsServed, item_count, Ledger, length, length-set, lies_on, List, lt-ltb, map, Merged, merged_into, named_anew, named_at, nat_lt, None, not, Note, Option}
 use Rattle.ksm_book.proofs.Names.{ordered_change, PAGE_WORDS, place_frame, Placed, Private, refl, Row, row_at, RowFits, same_page, same_page_refl, set, Shape, shared_state, shown, Some, Stable}
-use Rattle.ksm_book.proofs.Names.{stored, suc, sym, uses, with_dup, with_frame, with_row, without_page, Zero, zero_state, ℕ, ◌+◌, ◌/◌, ◌<◌, ◌∙◌, ◌∷◌, ◌≡◌, ◌≢◌}
+use Rattle.ksm_book.proofs.Names.{stored, suc, sym, uses, with_dup, with_frame, with_row, without_page, Zero, ℕ, ◌+◌, ◌/◌, ◌<◌, ◌∙◌, ◌∷◌, ◌≡◌, ◌≢◌}
 use Rattle.ksm_book.proofs.Noted.{at_it, at_other, noted}
 use Rattle.ksm_book.proofs.ByPage.{all_changed_row, at_changed, change_twice, found_page, lies_again, lies_still, row_of_page, uses_changed, uses_come, uses_gone, uses_mapped, uses_some}
 

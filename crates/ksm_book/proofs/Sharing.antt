@@ -4,8 +4,8 @@ use Rattle.ksm_book.proofs.Names.{elsewhere, empty_from, eq-eqb, eqb-true, false
 use Rattle.ksm_book.proofs.Names.{frames_at_most, frames_of, get_or, get_or-set_same, get_or_default, GuestPage, has_items, IfSome, inl, InPageOrder, InPlaceOrder, inr, is_stale, IsInLife, IsLaid}
 use Rattle.ksm_book.proofs.Names.{IsLoose, IsServed, IsVacant, item_count, KeeperView, leaving, Ledger, length, length-filter, LiesWith, List, list_any, Lower, lying, MakesSteps, May, MayLeave}
 use Rattle.ksm_book.proofs.Names.{Merged, merged_into, merged_state, MOST_FRAMES, MOST_LIVES, MOST_REFERENCES, named_anew, named_at, None, none_found, Note, one_of_each_place, Option, option_map}
-use Rattle.ksm_book.proofs.Names.{ordered_filter, PageState, PagesView, pairs_tail, Performs, place_frame, Placed, Private, pruning, Publish, refl, relaid, Row, row_at, RowFits, set-get_or, Shape}
-use Rattle.ksm_book.proofs.Names.{shared_state, Some, spent, spent_on, Stable, suc, sum_by-le, sym, true, with_dup, Withdraw, withdrawing, ℕ, [], ◌*◌, ◌+◌, ◌-◌, ◌<◌, ◌==◌, ◌^◌, ◌∙◌, ◌∷◌, ◌≡◌, ◌≢◌}
+use Rattle.ksm_book.proofs.Names.{ordered_filter, PagesView, pairs_tail, Performs, place_frame, Placed, Private, pruning, Publish, refl, relaid, Row, row_at, RowFits, set-get_or, Shape}
+use Rattle.ksm_book.proofs.Names.{shared_state, Some, spent, spent_on, Stable, suc, sum_by-le, sym, true, with_dup, Withdraw, withdrawing, ℕ, [], ◌*◌, ◌+◌, ◌-◌, ◌<◌, ◌==◌, ◌^◌, ◌∙◌, ◌∷◌, ◌≡◌}
 use Rattle.ksm_book.proofs.Names.{◌≤◌}
 use Rattle.ksm_book.proofs.Moves.{base_is_items, emptied, published, Serves, stale_is_loose, withdrawn}
 use Rattle.ksm_book.proofs.Laying.{laid_left, lies_changed, may_leave, serves_at}
