@@ -13,8 +13,8 @@ use crate::row::Spot;
 use ksm_base::{Fault, GuestPage, PageBytes};
 
 impl Pages {
-    /// Adds a page that has no row, at home on a node; which frame is its own is told next, by `lay`. Refused for memory
-    /// alone, it changes nothing.
+    /// Adds a page that has no row, at home on a node; which frame is its own is told next, by `lay`. Refused for
+    /// memory alone, it changes nothing.
     pub fn insert(&mut self, page: GuestPage, node: u32, bytes: &PageBytes) -> Result<Spot, Fault>
         requires { row_at page self.old.rows ≡ None }
         ensures spot { IfOk result (λ spot. spot.page ≡ page) }
@@ -31,8 +31,8 @@ impl Pages {
         self.rows.insert(page, node, *bytes, 0)
     }
 
-    /// The page gets a frame of its own in the stead of what it had, and these bytes. Gives the frame where it lay, if it
-    /// had one.
+    /// The page gets a frame of its own in the stead of what it had, and these bytes. Gives the frame where it lay, if
+    /// it had one.
     #[inline(always)]
     pub fn store_on(&mut self, spot: Spot, frame: u32, bytes: &PageBytes) -> Option<u32>
         requires { IsKnown spot.page self.old.rows }
@@ -122,8 +122,8 @@ impl Pages {
         left
     }
 
-    /// The page gets a frame of its own in the stead of what it had, and is not unchanged. Gives the frame where it lay,
-    /// if it had one.
+    /// The page gets a frame of its own in the stead of what it had, and is not unchanged. Gives the frame where it
+    /// lay, if it had one.
     pub fn unshare_on(&mut self, spot: Spot, frame: u32) -> Option<u32>
         requires { IsKnown spot.page self.old.rows }
         ensures left { result ≡ (seen self.old).frame spot.page }

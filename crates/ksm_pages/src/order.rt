@@ -150,7 +150,8 @@ impl<P: Part> Order<P> {
         self.pages.set_mark(key_of(page), mergeable);
     }
 
-    /// Whether a page is the one at a place among those that a scan visits. Then those behind that place come behind it.
+    /// Whether a page is known to be the one at a place among those that a scan visits. Then those behind that place come
+    /// behind it.
     #[inline(always)]
     fn is_at(&self, page: GuestPage, place: usize) -> bool
         ensures within { IsTrue result → place < length (visited self.now) }

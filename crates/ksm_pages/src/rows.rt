@@ -450,8 +450,8 @@ impl Rows {
         }
     }
 
-    /// The row has a frame of its own in the stead of what it had, and these bytes. Where its bytes were others, it is not
-    /// unchanged.
+    /// The row has a frame of its own in the stead of what it had, and these bytes. Where its bytes were others, it is
+    /// not unchanged.
     #[inline(always)]
     pub fn store_on(&mut self, spot: Spot, frame: u32, bytes: &PageBytes)
         ensures { self.new ≡ altered spot.page (copied frame bytes.now) self.old }

@@ -21,8 +21,8 @@ const MOST: u32 = 1 << 31;
 pub struct Keys {
     keys: Guesses,
     last_slot: u32,
-    /// How far the slots of a page lie apart in two guests that follow each other: by the golden section of all, so that
-    /// the first pages of few guests do not meet.
+    /// How far the slots of a page lie apart in two guests that follow each other: by the golden section of all, so
+    /// that the first pages of few guests do not meet.
     stride: u32,
 }
 
@@ -75,8 +75,8 @@ impl Keys {
         self.keys.set(slot, key);
     }
 
-    // The table gets twice as many slots, with the keys of all entries. Where memory is refused, nothing is guessed until
-    // a row is added.
+    // The table gets twice as many slots, with the keys of all entries. Where memory is refused, nothing is guessed
+    // until a row is added.
     #[inline(never)]
     fn widen(&mut self, alloc: Global, entries: &Slab<Entry>) {
         let slots = self.last_slot.saturating_mul(2).saturating_add(2);
