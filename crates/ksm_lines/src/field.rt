@@ -14,7 +14,6 @@ ghost use Rattle.ksm_lines.specs.declared.part.Part.TheVariants as parts;
 use crate::knob::{Knob, Shown, knob_named, shown_named};
 use crate::line::LineFault;
 use ksm_base::{GuestPage, PAGE_WORDS, PageBytes};
-use std::array;
 use std::simd::prelude::*;
 
 /// How many digits a page is written in.

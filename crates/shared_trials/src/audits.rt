@@ -5,7 +5,7 @@ ghost use Rattle.ksm_base.specs.Values.{frames_of};
 
 use frame_table::{Pass, Why};
 use ksm_audit::{AuditFault, Gate, OpenGate, PlacePermit, Report, Row, audit};
-use ksm_base::{Command, Fault, GuestPage, PAGE_WORDS, PageBytes, Reply, Shape};
+use ksm_base::{Command, Fault, GuestPage, PAGE_WORDS, PageBytes, Shape};
 use ksm_shared::{Ksm, Naming, Parts, Share};
 use std::alloc::Global;
 use std::marker::Brand;
