@@ -1,7 +1,7 @@
 -- Listed pages that are put among others in order.
-use Rattle.ksm_pages.proofs.Names.{[], All, All-append, All-drop, All-permutation, All-take, AllWithin, ap, AreInOrder, AreSmall, arith, drop, get_or, get_or-drop, get_or-take, get_or_default, GuestPage}
-use Rattle.ksm_pages.proofs.Names.{has_item, HasGap, insert, IsNonDecreasingBy, IsPermutation, IsPermutation-map, IsPlace, IsPutAmong, length, length-drop, length-take, List, list_any-IsPermutation, Listed}
-use Rattle.ksm_pages.proofs.Names.{pages_of, pairs_append, same_page, suc, sym, take, take-append-drop, take-suc, ℕ, ◌++◌, ◌+◌, ◌<◌, ◌^◌, ◌||◌, ◌∙◌, ◌∷◌, ◌≡◌, ◌≤◌}
+use Rattle.ksm_pages.proofs.Names.{[], All, All-append, All-drop, All-permutation, All-take, AllWithin, ap, AreInOrder, AreSmall, arith, drop, get_or, get_or-drop, get_or-take, get_or_default}
+use Rattle.ksm_pages.proofs.Names.{GuestPage, has_item, HasGap, insert, IsNonDecreasingBy, IsPermutation, IsPermutation-map, IsPlace, IsPutAmong, length, length-drop, length-take, List}
+use Rattle.ksm_pages.proofs.Names.{list_any-IsPermutation, Listed, pages_of, pairs_append, same_page, suc, sym, take, take-append-drop, take-suc, ℕ, ◌++◌, ◌+◌, ◌<◌, ◌^◌, ◌||◌, ◌∙◌, ◌∷◌, ◌≡◌, ◌≤◌}
 use Rattle.ksm_pages.proofs.Spots.{appended_has, page_by, Up}
 
 -- a page is among those that are listed in whatever order they stand

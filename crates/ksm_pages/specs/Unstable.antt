@@ -74,6 +74,7 @@ comes_to key None other = is_some (if_passes (λ k. k == key) other)
 comes_to key (Some keys) other =
     list_any (λ k. k == key) keys || (not (list_any (λ k. k == NO_KEY) keys) && is_some (if_passes (λ k. k == key) other))
 
+-- the same in the table and the map of a tree
 abbrev pub meets : UnstableTree → ℕ → List ℕ → ℕ → Bool
 meets u tree bytes key = comes_to key (keys_at u tree bytes) (number_of tree bytes u.others.entries)
 

@@ -1,4 +1,5 @@
-use Rattle.ksm_pages.proofs.Names.{AreLed, arith, FnOnceReturnsAtMut, held_at, held_of, inl, inr, is_restless, IsAddedTo, IsMade, IsRows, Listing, marked, refl, rules, Some, true, with_value, ◌≡◌, ◌⊎◌}
+use Rattle.ksm_pages.proofs.Names.{AreLed, arith, FnOnceReturnsAtMut, held_at, held_of, inl, inr, is_restless, IsAddedTo, IsMade, IsRows, Listing, marked, refl, rules, Some, true, with_value, ◌≡◌}
+use Rattle.ksm_pages.proofs.Names.{◌⊎◌}
 use Rattle.ksm_pages.proofs.Writing.{can_be, kept_mark, led_so, row_there, still, viewed}
 use Rattle.ksm_pages.proofs.Filing.{held_nowhere, view_of}
 use Rattle.ksm_pages.proofs.rows.Rows.change.Goals as goal
