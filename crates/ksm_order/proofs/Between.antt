@@ -108,5 +108,5 @@ mark_here {key} {xs} {at} rise here d mark =
     let it = get_or xs at d in
     grind (arith, set_split xs at (record it { marked = mark }) here.within, ap (with_mark key mark) (cut_here rise here d), mark_between key mark (take at xs) (it ∷ []) (drop (at + 1) xs) (before_here rise here d) (behind_here rise here d), here.is d, nat_tests)
 
--- where all are marked, the one at a place among the marked is the one at that place
-pub ruleset nth_steps = (all_marked, slice_get-get_or, slice_get_past)
+-- what stands at a place, and what is found and marked there
+pub ruleset steps = (all_marked, from_cut, mark_here, mark_none, slice_get-get_or, slice_get_past)

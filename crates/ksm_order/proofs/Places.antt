@@ -103,7 +103,3 @@ pub with_rises : {X : Type 0} (key_of : X → ℕ) (x : X) (xs : List X) → All
     → AllPairs (λ y z. key_of y < key_of z) (filter (low key_of (key_of x)) xs ++ x ∷ filter (high key_of (key_of x)) xs)
 with_rises key_of x xs rise i j d less lt =
     ltb-true _ _ (with_rises_by numbers_ordered key_of (key_of x) x xs refl (λ k l e lower le. grind (arith, nat_tests, rise k l e)) i j d less lt)
-
--- where keys ascend, they do not fall
-pub in_order : {X : Type 0} (key_of : X → ℕ) (xs : List X) → AllPairs (λ x y. key_of x < key_of y) xs → AreInOrder key_of xs
-in_order key_of xs rise i j d less lt = grind (arith, rise i j d)

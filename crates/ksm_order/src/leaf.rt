@@ -1,4 +1,6 @@
 //! The lowest height: items side by side.
+#![tactic(auto, using(crate::proofs::Between::steps))]
+
 ghost use Rattle.std.specs.Prelude.{◌≡◌, ◌≤◌, ◌<◌, None, IfNone, IfSome, find, length};
 ghost use Rattle.ksm_order.specs.Listed.{AreAscending, begins_behind, is_at, is_from, key_at, many, marked, up_to};
 ghost use Rattle.ksm_order.specs.Places.{IsHere, IsPlace};
@@ -224,7 +226,6 @@ impl Part for Leaf {
         count_marked(&items[..at])
     }
 
-    #[tactic(auto, using(crate::proofs::Between::nth_steps))]
     fn nth(&self, place: usize) -> Option<u64> {
         let items = self.items.as_slice();
         if self.count < items.len() {
