@@ -14,9 +14,8 @@ use Rattle.std.proofs.lemmas.List.Sums.{sum_by-remove}
 use Rattle.ksm_order.specs.declared.item.Item.{Item}
 use Rattle.ksm_order.specs.Listed.{AreAscending, AreBefore, AreBehind, AreParts, begins_behind, is_at, IsCounted, IsCut, IsPartOf, many, with_item, with_mark, without}
 use Rattle.ksm_order.proofs.Places.{with_rises}
-use Rattle.ksm_order.proofs.Between.{many-append, mark_between, with_between}
+use Rattle.ksm_order.proofs.Parts.{ahead_of, behind_of, cut, front, halves_rise, many-append, mark_between, rest, with_between}
 use Rattle.ksm_order.proofs.Ordered.{numbers_ordered, without_between}
-use Rattle.ksm_order.proofs.Parts.{ahead_of, behind_of, cut, front, halves_rise, rest}
 
 -- a test as a number is 1 where it passes and 0 where it does not
 pub byte_of : (b : Bool) → from_bool b ≡ cond b 1 0

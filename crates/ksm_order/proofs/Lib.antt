@@ -1,4 +1,3 @@
-pub mod Between
 pub mod Parts
 pub mod Changes
 pub mod Moved

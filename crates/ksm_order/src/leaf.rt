@@ -1,5 +1,5 @@
 //! The lowest height: items side by side.
-#![tactic(auto, using(crate::proofs::Between::steps))]
+#![tactic(auto, using(crate::proofs::Parts::leaf_steps))]
 
 ghost use Rattle.std.specs.Prelude.{◌≡◌, ◌≤◌, ◌<◌, None, IfNone, IfSome, find, length};
 ghost use Rattle.ksm_order.specs.Listed.{AreAscending, begins_behind, is_at, is_from, key_at, many, marked, up_to};

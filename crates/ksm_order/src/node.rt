@@ -195,19 +195,6 @@ fn make_room<P: Part>(parts: &mut Vec<P>, at: usize, key: u64) -> Result<usize, 
     Ok(if behind { at } else { at + 1 })
 }
 
-/// Puts an item whose key is not there into the part of its key.
-fn put_in<P: Part>(parts: &mut Vec<P>, at: usize, item: Item) -> Result<(), AllocError>
-    requires parts { AreParts P.items parts.old.items }
-    requires place { IsPartOf P.items item.key parts.old.items at }
-    requires absent { find (is_at item.key) (flat_map P.items parts.old.items) ≡ None }
-    ensures parts { AreParts P.items parts.new.items }
-    ensures added { OnOk result (flat_map P.items parts.new.items ≡ with_item item (flat_map P.items parts.old.items)) }
-    ensures kept { OnErr result (flat_map P.items parts.new.items ≡ flat_map P.items parts.old.items) }
-{
-    parts[at].insert(item)?;
-    Ok(())
-}
-
 /// Puts an item whose key is not there at its place.
 fn put<P: Part>(
     parts: &mut Vec<P>,
@@ -228,7 +215,8 @@ fn put<P: Part>(
     let at = part_of(parts.as_slice(), *last, item.key);
     let into = make_room(parts, at, item.key)?;
     *last = into;
-    put_in(parts, into, item)
+    parts[into].insert(item)?;
+    Ok(())
 }
 
 /// Takes the item of a key out of a part, and answers how many items fewer are marked.
@@ -309,7 +297,7 @@ impl<P: Part> Part for Node<P> {
         Ok(node)
     }
 
-    #[tactic(auto, using(crate::proofs::Between::many_with, crate::proofs::Changes::byte_of))]
+    #[tactic(auto, using(crate::proofs::Parts::many_with, crate::proofs::Changes::byte_of))]
     fn insert(&mut self, item: Item) -> Result<(), AllocError> {
         // No memory holds more items than can be counted.
         let Some(count) = self.count.checked_add(usize::from(item.marked)) else {
