@@ -2,7 +2,7 @@
 #![tactic(auto, using(crate::proofs::Parts::leaf_steps))]
 
 ghost use Rattle.std.specs.Prelude.{◌≡◌, ◌≤◌, ◌<◌, None, IfNone, IfSome, find, length};
-ghost use Rattle.ksm_order.specs.Listed.{AreAscending, begins_behind, is_at, is_from, key_at, many, marked, up_to};
+ghost use Rattle.ksm_order.specs.Listed.{AreAscending, begins_behind, is_at, key_at, many, marked, up_to};
 ghost use Rattle.ksm_order.specs.Places.{IsHere, IsPlace};
 
 use crate::item::Item;
@@ -75,30 +75,6 @@ fn position(items: &[Item], guess: usize, key: u64) -> Option<usize>
     let at = place_by(items, guess, key);
     if stands_at(items, at, key) {
         Some(at)
-    } else {
-        None
-    }
-}
-
-/// The item of a key.
-fn find_in(items: &[Item], guess: usize, key: u64) -> Option<Item>
-    requires { AreAscending items.now }
-    ensures { result ≡ find (is_at key) items.now }
-{
-    match position(items, guess, key) {
-        Some(at) => Some(items[at]),
-        None => None,
-    }
-}
-
-/// The first item whose key is not below a key.
-fn first_from(items: &[Item], guess: usize, key: u64) -> Option<Item>
-    requires { AreAscending items.now }
-    ensures { result ≡ find (is_from key) items.now }
-{
-    let at = place_by(items, guess, key);
-    if at < items.len() {
-        Some(items[at])
     } else {
         None
     }
@@ -209,11 +185,21 @@ impl Part for Leaf {
     }
 
     fn find(&self, key: u64) -> Option<Item> {
-        find_in(self.items.as_slice(), self.next, key)
+        let items = self.items.as_slice();
+        match position(items, self.next, key) {
+            Some(at) => Some(items[at]),
+            None => None,
+        }
     }
 
     fn first_from(&self, key: u64) -> Option<Item> {
-        first_from(self.items.as_slice(), self.next, key)
+        let items = self.items.as_slice();
+        let at = place_by(items, self.next, key);
+        if at < items.len() {
+            Some(items[at])
+        } else {
+            None
+        }
     }
 
     fn up_to(&self, key: u64) -> usize {

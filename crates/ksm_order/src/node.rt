@@ -3,7 +3,7 @@
 
 ghost use Rattle.std.specs.Prelude.{◌≡◌, ◌+◌, ◌^◌, ◌<◌, ◌≤◌, [], None, IfOk, IsTrue, OnErr, OnOk, drop, find};
 ghost use Rattle.std.specs.Prelude.{flat_map, length, take};
-ghost use Rattle.ksm_order.specs.Listed.{AreBefore, AreBehind, AreParts, IsPartOf, is_at, is_from, key_at, many, marked, up_to};
+ghost use Rattle.ksm_order.specs.Listed.{AreBefore, AreBehind, AreParts, IsPartOf, is_at, key_at, many, marked, up_to};
 ghost use Rattle.ksm_order.specs.Listed.{with_item, with_mark, without};
 
 use crate::item::Item;
@@ -144,34 +144,6 @@ fn up_to_in<P: Part>(parts: &[P], guess: usize, count: usize, key: u64) -> usize
     }
     let at = part_of(parts, guess, key);
     count_marked(&parts[..at]) + parts[at].up_to(key)
-}
-
-/// The item of a key.
-fn find_in<P: Part>(parts: &[P], guess: usize, key: u64) -> Option<Item>
-    requires { AreParts P.items parts.now }
-    ensures { result ≡ find (is_at key) (flat_map P.items parts.now) }
-{
-    if parts.is_empty() {
-        return None;
-    }
-    let at = part_of(parts, guess, key);
-    parts[at].find(key)
-}
-
-/// The first item whose key is not below a key.
-fn first_from_in<P: Part>(parts: &[P], guess: usize, key: u64) -> Option<Item>
-    requires { AreParts P.items parts.now }
-    ensures { result ≡ find (is_from key) (flat_map P.items parts.now) }
-{
-    if parts.is_empty() {
-        return None;
-    }
-    let at = part_of(parts, guess, key);
-    match parts[at].first_from(key) {
-        Some(item) => Some(item),
-        None if at + 1 < parts.len() => parts[at + 1].first_from(key),
-        None => None,
-    }
 }
 
 /// Cuts the part of a key in two where it is full, and answers which part is the key's then.
@@ -353,11 +325,25 @@ impl<P: Part> Part for Node<P> {
     }
 
     fn find(&self, key: u64) -> Option<Item> {
-        find_in(self.parts.as_slice(), self.last, key)
+        let parts = self.parts.as_slice();
+        if parts.is_empty() {
+            return None;
+        }
+        let at = part_of(parts, self.last, key);
+        parts[at].find(key)
     }
 
     fn first_from(&self, key: u64) -> Option<Item> {
-        first_from_in(self.parts.as_slice(), self.last, key)
+        let parts = self.parts.as_slice();
+        if parts.is_empty() {
+            return None;
+        }
+        let at = part_of(parts, self.last, key);
+        match parts[at].first_from(key) {
+            Some(item) => Some(item),
+            None if at + 1 < parts.len() => parts[at + 1].first_from(key),
+            None => None,
+        }
     }
 
     fn up_to(&self, key: u64) -> usize {
