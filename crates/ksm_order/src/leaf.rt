@@ -33,21 +33,6 @@ impl Model for Leaf {
     ghost invariant = { λ l. IsCounted l.items.items l.count };
 }
 
-/// Where the item of a key stands, or would, if from the first on no key is left out.
-#[inline(always)]
-fn in_a_row(items: &[Item], key: u64) -> Option<usize>
-    requires { AreAscending items.now }
-    ensures { IfSome result (IsPlace (λ x. x.key) key items.now) }
-{
-    let first = items.first()?;
-    let at = key.saturating_sub(first.key) as usize;
-    if is_place(items, at, key) {
-        Some(at)
-    } else {
-        None
-    }
-}
-
 /// How many items come before a key. The guess is tried first.
 #[inline(always)]
 fn place_by(items: &[Item], guess: usize, key: u64) -> usize
@@ -57,11 +42,14 @@ fn place_by(items: &[Item], guess: usize, key: u64) -> usize
     if is_place(items, guess, key) {
         return guess;
     }
-    // Keys mostly follow one another.
-    match in_a_row(items, key) {
-        Some(at) => at,
-        None => place_of(items, key),
+    // Keys mostly follow one another: from the first on none is left out.
+    if let Some(first) = items.first() {
+        let at = key.saturating_sub(first.key) as usize;
+        if is_place(items, at, key) {
+            return at;
+        }
     }
+    place_of(items, key)
 }
 
 /// Where the item of a key stands.
