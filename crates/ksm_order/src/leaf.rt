@@ -75,32 +75,8 @@ fn count_marked(items: &[Item]) -> usize
     items.iter().filter(|item| item.marked).count()
 }
 
-/// The key of the marked item at a place among the marked.
-fn nth(items: &[Item], place: usize) -> Option<u64>
-    ensures { result ≡ key_at (marked items.now) place }
-{
-    match items.iter().filter(|item| item.marked).nth(place) {
-        Some(item) => Some(item.key),
-        None => None,
-    }
-}
-
 // A leaf of so many items is cut in two before one more comes in.
 const LONGEST: usize = 64;
-
-/// Where a full leaf is cut for an item of a key.
-fn cut_for(items: &[Item], key: u64) -> usize
-    requires { 64 ≤ length items.now }
-    ensures some { 0 < result }
-    ensures within { result < length items.now }
-{
-    let len = items.len();
-    if items[len - 1].key < key {
-        len - 1
-    } else {
-        len / 2
-    }
-}
 
 impl Part for Leaf {
     ghost items = { λ l. l };
@@ -149,10 +125,15 @@ impl Part for Leaf {
     }
 
     fn spill(&mut self, key: u64) -> Result<Option<Leaf>, AllocError> {
-        if self.items.len() < LONGEST {
+        let len = self.items.len();
+        if len < LONGEST {
             return Ok(None);
         }
-        let at = cut_for(self.items.as_slice(), key);
+        let at = if self.items[len - 1].key < key {
+            len - 1
+        } else {
+            len / 2
+        };
         let items = self.items.split_off(at)?;
         let count = count_marked(items.as_slice());
         self.count -= count;
@@ -203,7 +184,10 @@ impl Part for Leaf {
     fn nth(&self, place: usize) -> Option<u64> {
         let items = self.items.as_slice();
         if self.count < items.len() {
-            return nth(items, place);
+            return match items.iter().filter(|item| item.marked).nth(place) {
+                Some(item) => Some(item.key),
+                None => None,
+            };
         }
         if place < items.len() {
             Some(items[place].key)

@@ -118,21 +118,6 @@ fn count_marked<P: Part>(parts: &[P]) -> usize
     count
 }
 
-/// The key of the marked item at a place among the marked.
-fn nth<P: Part>(parts: &[P], place: usize) -> Option<u64>
-    ensures { result ≡ key_at (marked (flat_map P.items parts.now)) place }
-{
-    let mut left = place;
-    for part in parts {
-        let here = part.count();
-        if left < here {
-            return part.nth(left);
-        }
-        left -= here;
-    }
-    None
-}
-
 /// How many marked items come before a key, of parts with so many marked items.
 fn up_to_in<P: Part>(parts: &[P], guess: usize, count: usize, key: u64) -> usize
     requires parts { AreParts P.items parts.now }
@@ -246,20 +231,6 @@ fn mark_in<P: Part>(parts: &mut Vec<P>, last: &mut usize, key: u64, mark: bool) 
 // A node of so many parts is cut in two before one more comes in.
 const WIDEST: usize = 32;
 
-/// Where a full node is cut for an item of a key.
-fn cut_for<P: Part>(parts: &[P], key: u64) -> usize
-    requires { 32 ≤ length parts.now }
-    ensures some { 0 < result }
-    ensures within { result < length parts.now }
-{
-    let len = parts.len();
-    if parts[len - 1].begins_behind(key) {
-        len / 2
-    } else {
-        len - 1
-    }
-}
-
 impl<P: Part> Part for Node<P> {
     ghost items = { λ n. n };
 
@@ -300,10 +271,15 @@ impl<P: Part> Part for Node<P> {
     }
 
     fn spill(&mut self, key: u64) -> Result<Option<Node<P>>, AllocError> {
-        if self.parts.len() < WIDEST {
+        let len = self.parts.len();
+        if len < WIDEST {
             return Ok(None);
         }
-        let at = cut_for(self.parts.as_slice(), key);
+        let at = if self.parts[len - 1].begins_behind(key) {
+            len / 2
+        } else {
+            len - 1
+        };
         let parts = self.parts.split_off(at)?;
         let count = count_marked(parts.as_slice());
         self.count -= count;
@@ -351,6 +327,15 @@ impl<P: Part> Part for Node<P> {
     }
 
     fn nth(&self, place: usize) -> Option<u64> {
-        nth(self.parts.as_slice(), place)
+        let parts = self.parts.as_slice();
+        let mut left = place;
+        for part in parts {
+            let here = part.count();
+            if left < here {
+                return part.nth(left);
+            }
+            left -= here;
+        }
+        None
     }
 }

@@ -4,20 +4,20 @@ use Rattle.ksm_order.proofs.node.NodePart.spill.Goals as goal
 
 pub count_marked-count-requires : goal.count_marked-count-requires
 count_marked-count-requires g c =
-    grind (arith, c.in_ok-parts.ensures.tail, parts_cut c.self.invariant c.cut_for-at.result)
+    grind (arith, c.in_ok-parts.ensures.tail, parts_cut c.self.invariant c.if-begins_behind.at)
 
 pub overflow_sub-self : goal.overflow_sub-self
 overflow_sub-self g c =
-    grind (arith, c.in_ok-parts.ensures.tail, parts_cut c.self.invariant c.cut_for-at.result)
+    grind (arith, c.in_ok-parts.ensures.tail, parts_cut c.self.invariant c.if-begins_behind.at)
 
 pub invariant_of-result : goal.invariant_of-result
 invariant_of-result g c =
-    grind (arith, c.in_ok-parts.ensures.tail, parts_cut c.self.invariant c.cut_for-at.result)
+    grind (arith, c.in_ok-parts.ensures.tail, parts_cut c.self.invariant c.if-begins_behind.at)
 
 pub invariant_of-self-2 : goal.invariant_of-self-2
 invariant_of-self-2 g c =
-    grind (arith, c.in_ok-parts.ensures.tail, c.in_ok-parts.ensures.items, parts_cut c.self.invariant c.cut_for-at.result)
+    grind (arith, c.in_ok-parts.ensures.tail, c.in_ok-parts.ensures.items, parts_cut c.self.invariant c.if-begins_behind.at)
 
 pub returns-clause-cut : goal.returns-clause-cut
 returns-clause-cut g c =
-    grind (arith, c.in_ok-parts.ensures.items, c.in_ok-parts.ensures.tail, items_cut c.self.invariant c.cut_for-at.result)
+    grind (arith, c.in_ok-parts.ensures.items, c.in_ok-parts.ensures.tail, items_cut c.self.invariant c.if-begins_behind.at)
