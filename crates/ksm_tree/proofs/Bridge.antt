@@ -1,6 +1,6 @@
 -- Tests over dups with items are the book's tests over rows, where the items are counted.
-use Rattle.ksm_tree.proofs.Names.{All, AreCounted, arith, best_dup, best_of, Bool, Choice, choice_of, count_by, Dup, DupRow, DupsState, find, has_items, is_best, is_live, is_some, is_stale}
-use Rattle.ksm_tree.proofs.Names.{item_count, Knobs, length, List, list_all, new_place, option_map, place_in, refl, Row, rows_of, Some, stands_at, suc, tree_of, true, ℕ, [], ◌&&◌, ◌<◌, ◌==◌, ◌∷◌, ◌≡◌}
+use Rattle.ksm_tree.proofs.Names.{[], All, AreCounted, arith, best_dup, best_of, Bool, Choice, choice_of, count_by, Dup, DupRow, DupsState, find, has_items, is_best, is_live, is_some, is_stale}
+use Rattle.ksm_tree.proofs.Names.{item_count, Knobs, length, List, list_all, new_place, option_map, place_in, refl, Row, rows_of, Some, stands_at, suc, tree_of, true, ℕ, ◌&&◌, ◌<◌, ◌==◌, ◌∷◌, ◌≡◌}
 use Rattle.ksm_tree.proofs.Alike.{count_mapped, find_mapped}
 use Rattle.ksm_base.specs.Rows.{is_stale as is_stale_row}
 use Rattle.ksm_base.specs.Visit.{is_best as is_best_row}

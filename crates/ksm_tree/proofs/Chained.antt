@@ -1,15 +1,142 @@
 -- The dups in their groups: what is found there, and how that stays right with a change of items, with a dup that goes, and with a new one.
-use Rattle.ksm_tree.proofs.Names.{absent_kept, nat_tests, numbers_ordered, sym, suc, true, place_of, All, All-filter, ap, AreChained, AreTotals, arith, Bool, chain_in, change_at, change_items, Dup}
-use Rattle.ksm_tree.proofs.Names.{dup_at, dup_of, DupRow, dups_seen, DupsState, false, filter, find, find_none, find_nothing, filter_passes, get, Group, group_places, Groups, GuestPage, has_number}
-use Rattle.ksm_tree.proofs.Names.{if◌then◌else◌, in_group, InPlaceOrder, IsCountedAnew, IsMoved, length, List, MOST_FRAMES, nat_lt, None, not, number_in, Option, pairs_head, pairs_tail, refl, rows_of}
-use Rattle.ksm_tree.proofs.Names.{rules, SameChains, SlotsState, Some, stands_at, subst, Tells, with_dup, with_new, with_place, without, without_place, ℕ, [], ◌&&◌, ◌+◌, ◌<◌, ◌==◌, ◌∙◌, ◌∷◌, ◌≡◌, ◌≤◌}
-use Rattle.ksm_tree.proofs.Alike.{chosen, find_alike, map_alike}
+use Rattle.ksm_tree.proofs.Names.{[], absent_kept, All, All-filter, ap, AreChained, AreTotals, arith, Bool, bytes_eq-Decides, cases_Bool, chain_in, chained_of, chains_of, change_at, change_items}
+use Rattle.ksm_tree.proofs.Names.{count-append, count_by, count_by-le-length, count_more, count_none, Dup, dup_at, dup_of, DupRow, dups_seen, DupsState, false, filter, filter_passes, find, find_none}
+use Rattle.ksm_tree.proofs.Names.{find_nothing, get, get_or, Group, group_places, group_size, Groups, GuestPage, has_number, if◌then◌else◌, in_chain, in_group, inl, InPlaceOrder, inr, IsCountedAnew}
+use Rattle.ksm_tree.proofs.Names.{IsMoved, IsRegrouped, leads_group, length, length-filter, length-map, List, list_all, list_all-append, list_all-from_AllPass, MOST_FRAMES, nat_le, nat_lt, nat_tests}
+use Rattle.ksm_tree.proofs.Names.{None, not, number_in, numbers_ordered, Option, pairs_head, pairs_tail, place_of, refl, rows_of, rules, same_group, SameChains, SlotsState, Some, stands_at, subst}
+use Rattle.ksm_tree.proofs.Names.{suc, sym, Tells, Totals, true, with_dup, with_new, with_place, without, without_place, zero, ℕ, ◌&&◌, ◌++◌, ◌+◌, ◌<◌, ◌==◌, ◌||◌, ◌∙◌, ◌∷◌, ◌≡◌, ◌≤◌}
+use Rattle.ksm_tree.proofs.Alike.{chosen, count_alike, find_alike, map_alike}
 use Rattle.ksm_tree.proofs.OneSlot.{found_stands}
-use Rattle.ksm_tree.proofs.Grouped.{IsMore, more_there, more_with, places_size, totals_less, totals_more, totals_tell}
 use Rattle.ksm_tree.proofs.Rows.{group_joined, group_passed, own_group, self_group}
 use Rattle.ksm_base.proofs.Edits.{none_counted}
-use Rattle.ksm_base.proofs.Orders.{all_with_dup, dups_with, Lower, ordered_filter}
+use Rattle.ksm_base.proofs.Orders.{all_with_dup, dups_parted as rows_parted, dups_with, Lower, ordered_filter}
 use Rattle.ksm_tree.proofs.Changes.{all_rows, alone, one_dup, row_found, rows_new, rows_same, rows_without}
+use Rattle.ksm_order.proofs.Ordered.{found_parts}
+
+-- rows count as others do with one row more
+pub record IsMore (r : DupRow) (less more : List DupRow) : Type 0 where
+  pub counts : (p : DupRow → Bool) → count_by p more ≡ (if p r then 1 else 0) + count_by p less
+  pub all : (p : DupRow → Bool) → list_all p more ≡ (p r && list_all p less)
+
+-- a row between those below a place and those above it is one row more than those at other places
+pub more_with : (p : ℕ) (rows : List DupRow) (r : DupRow) → InPlaceOrder rows → IsMore r (filter (λ e. not (e.place == p)) rows) (filter (λ e. nat_lt e.place p) rows ++ r ∷ filter (λ e. nat_lt p e.place) rows)
+more_with p rows r rise = rw (rows_parted p rows rise) (grind (arith, count-append, count_more, list_all-append))
+
+-- the row at a place is one row more than those at other places
+pub more_there : (p : ℕ) (rows : List DupRow) (e : DupRow) → InPlaceOrder rows → find (λ r. r.place == p) rows ≡ Some e → IsMore e (filter (λ r. not (r.place == p)) rows) rows
+more_there p rows e rise found =
+    subst (IsMore e (filter (λ r. not (r.place == p)) rows))
+    (sym (found_parts numbers_ordered (λ (r : DupRow). r.place) p rows e (λ i j d less lt. grind (arith, nat_tests, (rise i j d less lt).0)) found))
+    (more_with p rows e rise)
+
+-- a test that is one value where another test passes, and elsewhere a third one, is counted in two parts
+count_split : (s p q : DupRow → Bool) (b : Bool) (rows : List DupRow) → All (λ d. (p d ≡ (if s d then b else q d)) × ((s d && q d) ≡ false)) rows
+    → count_by p rows ≡ (if b then count_by s rows else 0) + count_by q rows
+count_split s p q b [] each = grind arith
+count_split s p q b (r ∷ rows) each =
+    grind (arith, count_more, each 0 r, count_split s p q b rows (λ k e lt. each (suc k) e (omega arith)))
+
+-- a dup that is the first of a chain
+abbrev leads : List DupRow → DupRow → Bool
+leads rows d = in_chain rows d && leads_group rows d
+
+-- the totals of rows
+abbrev totals_of : List DupRow → Totals
+totals_of rows = record { chains = count_by (leads rows) rows; dups = count_by (in_chain rows) rows; longest = 0 }
+
+module _ (t : ℕ) (b : List ℕ) where
+  abbrev of_it : DupRow → Bool
+  of_it d = in_group t b d
+
+  -- a dup of the group has just the group's dups beside it
+  group_own : (d e : DupRow) → of_it d ≡ true → same_group d e ≡ of_it e
+  group_own d e inside = grind (arith, bytes_eq-Decides)
+
+  -- how many dups the group has
+  abbrev size : List DupRow → ℕ
+  size rows = count_by of_it rows
+
+  -- a group has as many places as dups
+  pub places_size : (rows : List DupRow) → length (group_places t b rows) ≡ size rows
+  places_size rows = length-map (filter of_it rows) _ ∙ length-filter _ rows
+
+  -- how many dups of other groups pass a test
+  abbrev apart : (DupRow → Bool) → List DupRow → ℕ
+  apart p rows = count_by (λ d. not (of_it d) && p d) rows
+
+  own_size : (rows : List DupRow) (d : DupRow) → of_it d ≡ true → group_size rows d ≡ size rows
+  own_size rows d inside = grind (arith, count_alike, group_own)
+
+  -- of a group one dup leads
+  one_leads : (rows : List DupRow) → InPlaceOrder rows → count_by (λ d. of_it d && leads_group rows d) rows ≡ (if size rows == 0 then 0 else 1)
+  one_leads [] rise = refl
+  one_leads (r ∷ rows) rise =
+      let first = pairs_head Lower r rows rise in
+      let leader = λ (d : DupRow). of_it d && leads_group (r ∷ rows) d in
+      let also = count_more leader r rows in
+      elim (cases_Bool (of_it r)) [
+        | inl inside ↦
+            let none = count_none leader rows (λ k d lt. grind (arith, (first k d lt).0, group_own (get_or rows k d) r)) in
+            grind (arith, count_more of_it, list_all-from_AllPass (λ e. not (same_group r e) || nat_le r.place e.place) rows (λ k d lt. grind (arith, (first k d lt).0)))
+        | inr outside ↦
+            let alike = count_alike leader (λ d. of_it d && leads_group rows d) rows (λ k e lt. grind (arith, group_own (get_or rows k e) r)) in
+            grind (arith, count_more of_it, one_leads rows (pairs_tail Lower r rows rise))
+      ]
+
+  -- the dups in chains are those of a group, if it is a chain, and those of the other groups
+  dups_parted : (rows : List DupRow) → count_by (in_chain rows) rows ≡ chained_of (size rows) + apart (in_chain rows) rows
+  dups_parted rows = count_split of_it _ _ (nat_lt 1 (size rows)) rows
+      (λ k e lt. grind (arith, own_size rows (get_or rows k e)))
+
+  -- the chains are that of a group, if it is one, and those of the other groups
+  chains_parted : (rows : List DupRow) → InPlaceOrder rows → count_by (leads rows) rows ≡ chains_of (size rows) + apart (leads rows) rows
+  chains_parted rows rise =
+      let parts = count_split (λ d. of_it d && leads_group rows d) (leads rows) (λ d. not (of_it d) && leads rows d)
+      (nat_lt 1 (size rows)) rows
+      (λ k e lt. grind (arith, own_size rows (get_or rows k e))) in
+      grind (arith, parts, one_leads rows rise)
+
+  -- one row more in the group
+  module _ {r : DupRow} {less more : List DupRow} (h : IsMore r less more) (inside : of_it r ≡ true) (rise : InPlaceOrder less) (more_rise : InPlaceOrder more) where
+    same_size : (d : DupRow) → of_it d ≡ false → group_size more d ≡ group_size less d
+    same_size d outside = grind (arith, (bytes_eq-Decides r.bytes b).0)
+
+    -- one row more in the group changes nothing of how many dups of other groups are in chains or lead them
+    apart_kept : (apart (in_chain more) more ≡ apart (in_chain less) less) × (apart (leads more) more ≡ apart (leads less) less)
+    apart_kept = grind (arith, count_alike, same_size)
+
+    -- the totals of rows change as the group does that has one row more
+    regrouped : IsRegrouped (length (group_places t b less)) (length (group_places t b more)) (totals_of less) (totals_of more)
+    regrouped = rw (places_size less, places_size more)
+        (omega (arith, apart_kept, chains_parted less rise, chains_parted more more_rise, dups_parted less, dups_parted more))
+
+    pub totals_more : {u v : Totals} → IsRegrouped (length (group_places t b less)) (length (group_places t b more)) u v → AreTotals less u → AreTotals more v
+    totals_more change are = omega (arith, regrouped)
+
+    pub totals_less : {u v : Totals} → IsRegrouped (length (group_places t b more)) (length (group_places t b less)) u v → AreTotals more u → AreTotals less v
+    totals_less change are = omega (arith, regrouped)
+
+-- a row's place is no less than how many rows stand before it
+place_most : (rows : List DupRow) → InPlaceOrder rows → (k : ℕ) (d : DupRow) → k < length rows → k ≤ (get_or rows k d).place
+place_most rows rise zero d lt = omega arith
+place_most rows rise (suc k) d lt = grind (arith, place_most rows rise k d (omega arith), rise k (suc k) d)
+
+rows_fit : (p : ℕ) (rows : List DupRow) → All (λ r. r.place < p) rows → InPlaceOrder rows → length rows ≤ p
+rows_fit p [] below rise = omega arith
+rows_fit p (r ∷ rows) below rise =
+    omega (arith, below (length rows) r (omega arith), place_most (r ∷ rows) rise (length rows) r (omega arith))
+
+-- the totals have room for each group as it is
+pub totals_tell : (t : ℕ) (b : List ℕ) (p : ℕ) {rows : List DupRow} {totals : Totals} → p ≤ MOST_FRAMES → All (λ r. r.place < p) rows → InPlaceOrder rows → AreTotals rows totals → Tells (length (group_places t b rows)) totals
+totals_tell t b p {rows} {totals} few below rise are =
+    rw (places_size t b rows) (omega (
+      arith,
+      count_by-le-length (leads rows) rows,
+      count_by-le-length (in_chain rows) rows,
+      chains_parted t b _ rise,
+      dups_parted t b rows,
+      rows_fit p rows below rise,
+    ))
 
 -- where no dup of a group stands at the place, the places of the group stay without that place
 group_unlike : (p t : ℕ) (b : List ℕ) (dups : List Dup) → All (λ d. (stands_at p d && in_group t b d.row) ≡ false) dups → without p (group_places t b (rows_of dups)) ≡ group_places t b (rows_of dups)

@@ -3,17 +3,14 @@ pub mod Alike
 pub mod Bridge
 pub mod Chained
 pub mod Changes
-pub mod Grouped
 pub mod Joining
 pub mod NumberBits
 pub mod Numbering
 pub mod Numbers
 pub mod OneSlot
-pub mod Opened
 pub mod Rows
 pub mod Shelved
 pub mod Standing
 pub mod Tied
 pub mod Ties
-pub mod Waits
 pub mod Where

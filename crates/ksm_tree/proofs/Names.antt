@@ -21,19 +21,16 @@ pub use Rattle.ksm_rmap.specs.Items.{has_item, with_item, without_item}
 pub use Rattle.ksm_tree.specs.Bridge.{AreCounted, AreTied, let_out, place_in}
 pub use Rattle.ksm_tree.specs.Chains.{AreChained, dups_seen, group_places, in_group}
 pub use Rattle.ksm_tree.specs.Choosing.{ArePlacesToJoin, best_of, candidate_of, choice_of, empty_place, found_at, is_best, is_no_worse, may_join}
-pub use Rattle.ksm_tree.specs.CountedSets.{IsMarked, MayBeMarked}
-pub use Rattle.ksm_tree.specs.Counts.{is_open, places_where}
+pub use Rattle.ksm_tree.specs.Slots.{ArePlaced, AreSlots, change_at, change_items_of, change_slot, count_in, has_room, holds, IsMarked, IsSetOf, kept_at, MayBeMarked, present, ShelfState, slots_by}
+pub use Rattle.ksm_tree.specs.Places.{is_open, places_where, with_place, without}
 pub use Rattle.ksm_tree.specs.Dups.{change_items, dup_at, dup_of, DupsState, has_number, is_live, is_stale, items_in, place_of, places_open, rows_of, stands_at, with_new, without_place}
-pub use Rattle.ksm_tree.specs.Grouping.{AreGroups, content_in, has_place, places_in}
+pub use Rattle.ksm_tree.specs.Numbered.{AreGroups, content_in, content_of, content_order, has_place, IsUnused, number_of, Numbers, places_in}
 pub use Rattle.ksm_tree.specs.Groups.{chain_in, is_used_in, number_in, IsCountedAnew, IsMoved, IsSwept, SameChains, SameNumbers, under}
 pub use Rattle.ksm_tree.specs.NumberSets.{FindsLeast, has, HasNoBit, HasNone, IsLeast, IsLowestBit, IsSummed, Marks}
-pub use Rattle.ksm_tree.specs.Numbered.{content_of, content_order, IsUnused, number_of, Numbers}
-pub use Rattle.ksm_tree.specs.Places.{with_place, without}
-pub use Rattle.ksm_tree.specs.Shelf.{change_items_of, change_slot, has_room, kept_at, ShelfState, slots_by}
-pub use Rattle.ksm_tree.specs.Slots.{ArePlaced, AreSlots, change_at, count_in, holds, IsSetOf, present, slots_seen, SlotsState}
+pub use Rattle.ksm_tree.specs.Slots.{slots_seen, SlotsState}
 pub use Rattle.ksm_tree.specs.Totals.{AreTotals, chained_of, chains_of, IsRegrouped, Tells}
 pub use Rattle.ksm_tree.specs.Waits.{waiting_page, waiting_pages}
-pub use Rattle.ksm_tree.specs.declared.choice.Choice.{Choice}
+pub use Rattle.ksm_tree.specs.declared.dup.Choice.{Choice}
 pub use Rattle.ksm_tree.specs.declared.content.Content.{Content}
 pub use Rattle.ksm_tree.specs.declared.counted_set.CountedSet.{CountedSet}
 pub use Rattle.ksm_tree.specs.declared.dup.Dup.{Dup}

@@ -1,12 +1,12 @@
 -- What a change of one slot does to the dups and to the places whose slots pass a test.
-use Rattle.ksm_tree.proofs.Names.{place_of, absent_kept, All, ArePlaced, AreSlots, arith, Bool, change_at, change_items_of, change_slot, count_by-le-length, count_in, CountedSet, Dup, dup_at}
-use Rattle.ksm_tree.proofs.Names.{empty_from, empty_place, eqb-true, false, filter_all, filter_none, find, find_nothing, find_passes, get_or, get_or-le-sum_by, get_or-map, get_or-set_other}
-use Rattle.ksm_tree.proofs.Names.{get_or-set_same, get_or_past, GuestPage, has_item, HasNone, holds, is_none, is_some, is_stale, IsMarked, IsSetOf, items_in, length, length-append, length-map}
-use Rattle.ksm_tree.proofs.Names.{length-set, List, map, map-set, FindsLeast, MayBeMarked, MOST_FRAMES, None, none_found, Option, option_map, pages_ordered, present, refl, rows_of, set, set-get_or}
-use Rattle.ksm_tree.proofs.Names.{ShelfState, slots_seen, SlotsState, Some, stands_at, suc, sum_by-set, true, with_item, with_new, without_item, without_place, zero, ℕ, [], ◌+◌, ◌<◌, ◌==◌, ◌∷◌, ◌≡◌}
-use Rattle.ksm_tree.proofs.Names.{◌≤◌}
+use Rattle.ksm_tree.proofs.Names.{[], absent_kept, All, ArePlaced, AreSlots, arith, Bool, change_at, change_items_of, change_slot, cond, count_by, count_by-le-length, count_in, count_more, CountedSet}
+use Rattle.ksm_tree.proofs.Names.{Dup, dup_at, empty_from, empty_place, eqb-true, false, filter_all, filter_none, find, find_nothing, find_passes, FindsLeast, get_or, get_or-le-sum_by, get_or-map}
+use Rattle.ksm_tree.proofs.Names.{get_or-replicate, get_or-set_other, get_or-set_same, get_or_past, GuestPage, has, has_item, HasNone, holds, is_live, is_none, is_open, is_some, is_stale, IsMarked}
+use Rattle.ksm_tree.proofs.Names.{IsSetOf, items_in, length, length-map, length-replicate, length-set, List, map, map-set, MayBeMarked, MOST_FRAMES, None, none_found, Option, option_map}
+use Rattle.ksm_tree.proofs.Names.{pages_ordered, place_of, places_open, places_where, present, refl, replicate, rows_of, set, set-get_or, ShelfState, slots_seen, SlotsState, Some, stands_at, suc}
+use Rattle.ksm_tree.proofs.Names.{sum_by-set, true, with_new, without_item, without_place, zero, ℕ, ◌*◌, ◌+◌, ◌<◌, ◌==◌, ◌∷◌, ◌≡◌, ◌≤◌}
 use Rattle.ksm_tree.proofs.Alike.{change_none}
-use Rattle.std.proofs.lemmas.List.{nil_from_length}
+use Rattle.std.proofs.lemmas.List.Folds.{sum_by-replicate}
 
 -- the set once a slot is put, and its place marked as the slot passes
 set_marked : {test : Option Dup → Bool} {slots : List (Option Dup)} {p : ℕ} (s : Option Dup) {old new : CountedSet} → p < length slots → IsMarked old new p (test s) → IsSetOf test slots old → IsSetOf test (set slots p s) new
@@ -158,5 +158,26 @@ same_items page (Some d) absent =
 pub slots_same : (p : ℕ) (page : GuestPage) (slots : Slots) → has_item page (items_in (get_or slots p None)) ≡ false → change_slot p (without_item page) slots ≡ slots
 slots_same p page slots absent = grind (arith, same_items, set-get_or)
 
+-- in empty slots no dup is present, each stands at its place, and no place has an item
+pub none_slots : (k n : ℕ) → (present (replicate n None) ≡ []) × ArePlaced k (replicate n None) × (replicate n 0 ≡ map count_in (replicate n None))
+none_slots k zero = (refl, tt, refl)
+none_slots k (suc n) = grind (arith, none_slots (suc k) n)
+
+-- a set that has all of so many places, or none, is that of the empty slots that pass a test
+pub none_set : {test : Option Dup → Bool} (n : ℕ) {places : CountedSet} → n ≤ 64 * length places.set → ((p : ℕ) → p < n → has places.set p ≡ test None) → places.count ≡ n * cond (test None) 1 0 → IsSetOf test (replicate n None) places
+none_set n wide each count = grind (arith, length-replicate, get_or-replicate, sum_by-replicate)
+
+-- the open places of slots are those of the open dups in them
+pub open_seen : (limit k : ℕ) (slots : List (Option Dup)) → ArePlaced k slots → places_where (is_open limit) k (map count_in slots) ≡ places_open limit (present slots)
+open_seen limit k [] placed = refl
+open_seen limit k (s ∷ slots) placed = grind (arith, open_seen limit (suc k) slots placed.1)
+
+-- each slot is empty, or its dup is stale or has items, and as many slots have a stale dup as there are stale dups
+pub three_kinds : (slots : List (Option Dup)) → (count_by is_none slots + count_by (holds is_stale) slots + count_by is_live (present slots) ≡ length slots)
+    × (count_by (holds is_stale) slots ≡ count_by is_stale (present slots))
+three_kinds [] = (refl, refl)
+three_kinds (s ∷ slots) =
+    grind (arith, count_more is_none s slots, count_more (holds is_stale) s slots, count_more is_live, count_more is_stale, three_kinds slots)
+
 -- what the slots say of the dups that are seen
-pub ruleset steps = (first_empty, first_stale, length-map, length-set, may_be_marked, seen_count, seen_slot, seen_within, slot_emptied, slot_put, slot_changed)
+pub ruleset steps = (first_empty, first_stale, length-map, length-set, may_be_marked, open_seen, seen_count, seen_slot, seen_within, slot_emptied, slot_put, slot_changed, three_kinds)

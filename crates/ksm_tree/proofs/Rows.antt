@@ -1,5 +1,5 @@
 -- Dup rows in the order of their places: whose group a row is of, and what a new row changes of the places of a group.
-use Rattle.ksm_tree.proofs.Names.{filter-append, map-append, arith, bytes_eq, bytes_eq-Decides, DupRow, false, group_places, in_group, InPlaceOrder, List, nat_lt, not, true, with_dup, with_place}
+use Rattle.ksm_tree.proofs.Names.{arith, bytes_eq, bytes_eq-Decides, DupRow, false, filter-append, group_places, in_group, InPlaceOrder, List, map-append, nat_lt, not, true, with_dup, with_place}
 use Rattle.ksm_tree.proofs.Names.{without, ℕ, ◌&&◌, ◌==◌, ◌≡◌}
 use Rattle.ksm_tree.proofs.Alike.{chosen}
 use Rattle.ksm_base.proofs.Orders.{dups_parted}

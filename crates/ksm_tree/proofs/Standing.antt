@@ -1,7 +1,7 @@
 -- What a change of one group makes of the chains, and which contents are in use.
-use Rattle.ksm_tree.proofs.Names.{ap, AreGroups, arith, BTreeMap, bytes_eq, bytes_eq-Decides, chain_in, Content, content_in, content_of, content_order, false, get, Group, Groups, has_place}
+use Rattle.ksm_tree.proofs.Names.{[], ap, AreGroups, arith, BTreeMap, bytes_eq, bytes_eq-Decides, chain_in, Content, content_in, content_of, content_order, false, get, Group, Groups, has_place}
 use Rattle.ksm_tree.proofs.Names.{if◌then◌else◌, is_some, is_used_in, IsSwept, IsUnused, List, None, number_in, number_of, Numbers, Option, places_in, SameNumbers, Slab, Some, sym, true, under}
-use Rattle.ksm_tree.proofs.Names.{Updates, Updates-with_value, with_value, ℕ, [], ◌&&◌, ◌==◌, ◌≡◌}
+use Rattle.ksm_tree.proofs.Names.{Updates, Updates-with_value, with_value, ℕ, ◌&&◌, ◌==◌, ◌≡◌}
 use Rattle.slab.specs.Slab.{Updates as Fills}
 use Rattle.ksm_tree.proofs.Numbering.{same_content, told_equal}
 use Rattle.ksm_tree.proofs.Rows.{eq_bytes}

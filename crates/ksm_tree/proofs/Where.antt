@@ -1,7 +1,7 @@
 -- The places at which a test is passed: what a change at one place does to them.
 use Rattle.std.proofs.lemmas.List.{length-take}
-use Rattle.ksm_tree.proofs.Names.{nat_lt, get_or_default, length-set, add-one, All, arith, Bool, false, filter_all, filter_none, get_or, if◌then◌else◌, length, List, nat_tests, places_where, refl}
-use Rattle.ksm_tree.proofs.Names.{set, suc, take, with_place, without, zero, ℕ, [], ◌+◌, ◌<◌, ◌∷◌, ◌≡◌, ◌≤◌}
+use Rattle.ksm_tree.proofs.Names.{[], add-one, All, arith, Bool, false, filter_all, filter_none, get_or, get_or_default, if◌then◌else◌, length, length-set, List, nat_lt, nat_tests, places_where, refl}
+use Rattle.ksm_tree.proofs.Names.{is_open, set, suc, take, with_place, without, zero, ℕ, ◌+◌, ◌<◌, ◌∷◌, ◌≡◌, ◌≤◌}
 
 module _ {X : Type 0} (test : X → Bool) where
   where_above : (k : ℕ) (xs : List X) → All (λ p. k ≤ p) (places_where test k xs)
@@ -43,5 +43,10 @@ module _ {X : Type 0} (test : X → Bool) where
   where_next d k p (suc i) (y ∷ xs) is within =
       grind (arith, nat_tests, add-one i, add-one (suc i), where_next d (suc k) p i xs (omega arith) (omega arith))
 
+-- by the limit 0 no place is open
+pub none_kept : (k : ℕ) (counts : List ℕ) → places_where (is_open 0) k counts ≡ []
+none_kept k [] = refl
+none_kept k (n ∷ counts) = grind (arith, none_kept (suc k) counts)
+
 -- the places that pass, as one element changes, and among the first elements
-pub ruleset steps = (get_or_default, length-set, length-take, where_room, where_same, where_set, where_short)
+pub ruleset steps = (get_or_default, length-set, length-take, none_kept, where_room, where_same, where_set, where_short)

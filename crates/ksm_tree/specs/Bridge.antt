@@ -6,8 +6,8 @@ use Rattle.ksm_base.specs.declared.row.PageState.TheVariants.{Merged}
 use Rattle.ksm_base.specs.declared.row.Row.{Row}
 use Rattle.ksm_base.specs.Reading.{items_of}
 use Rattle.ksm_base.specs.Rows.{item_count}
-use Rattle.ksm_tree.specs.declared.choice.Choice.{Choice}
-use Rattle.ksm_tree.specs.declared.choice.Choice.TheVariants.{Empty, Stale}
+use Rattle.ksm_tree.specs.declared.dup.Choice.{Choice}
+use Rattle.ksm_tree.specs.declared.dup.Choice.TheVariants.{Empty, Stale}
 use Rattle.ksm_rmap.specs.Items.{without_item}
 use Rattle.ksm_tree.specs.declared.dup.Dup.{Dup}
 use Rattle.ksm_tree.specs.Dups.{change_items}

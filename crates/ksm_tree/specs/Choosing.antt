@@ -4,8 +4,8 @@ use Rattle.std.specs.Prelude.{Bool, bytes_eq, false, find, if◌then◌else◌, 
 use Rattle.std.specs.List.{list_all}
 use Rattle.ksm_base.specs.declared.row.DupRow.{DupRow}
 use Rattle.ksm_base.specs.Visit.{empty_from}
-use Rattle.ksm_tree.specs.declared.choice.Choice.{Choice}
-use Rattle.ksm_tree.specs.declared.choice.Choice.TheVariants.{Empty, Stale}
+use Rattle.ksm_tree.specs.declared.dup.Choice.{Choice}
+use Rattle.ksm_tree.specs.declared.dup.Choice.TheVariants.{Empty, Stale}
 use Rattle.ksm_tree.specs.declared.dup.Dup.{Dup}
 use Rattle.ksm_tree.specs.declared.dup.Best.{Best}
 use Rattle.ksm_tree.specs.Dups.{DupsState, is_stale, places_open, rows_of}

@@ -4,7 +4,7 @@ use Rattle.ksm_base.specs.declared.page.GuestPage.{GuestPage}
 use Rattle.ksm_base.specs.declared.row.DupRow.{DupRow}
 use Rattle.ksm_base.specs.Rows.{InPlaceOrder, same_page}
 use Rattle.ksm_tree.specs.declared.dup.Dup.{Dup}
-use Rattle.ksm_tree.specs.Counts.{is_open}
+use Rattle.ksm_tree.specs.Places.{is_open}
 use Rattle.ksm_tree.specs.Numbered.{Numbers}
 
 -- how many places there are, the dups in the order of their places, the number of the dup that is made next,

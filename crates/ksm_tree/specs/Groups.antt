@@ -5,9 +5,7 @@ use Rattle.smallvec.specs.SmallVec.{HasRoomFor}
 use Rattle.std.specs.Option.{ForSome}
 use Rattle.ksm_tree.specs.declared.groups.Groups.{Groups}
 use Rattle.ksm_tree.specs.declared.groups.TheConstants.{MOST_SPARE}
-use Rattle.ksm_tree.specs.Grouping.{places_in}
-use Rattle.ksm_tree.specs.Numbered.{number_of}
-use Rattle.ksm_tree.specs.Reserve.{KeepsReserve}
+use Rattle.ksm_tree.specs.Numbered.{KeepsReserve, number_of, places_in}
 use Rattle.ksm_tree.specs.Totals.{IsRegrouped, Tells}
 
 -- what stands under a number, where there is one

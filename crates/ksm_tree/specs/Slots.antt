@@ -1,13 +1,54 @@
--- The dups by place: a slot for each place, and the places whose slots pass a test. (own)
+-- The dups by place: a slot for each place, under a key that is compared before it is believed, and the places whose
+-- slots pass a test. (own)
 use Rattle.std.specs.Option.{IfSome, is_none}
-use Rattle.std.specs.Prelude.{Bool, count_by, false, filter_map, get_or, if◌then◌else◌, length, List, map, None, Option, Some, suc, ℕ, [], ◌*◌, ◌<◌, ◌∷◌, ◌≡◌, ◌≤◌}
+use Rattle.std.specs.Prelude.{[], Bool, cond, count_by, false, filter_map, get_or, if◌then◌else◌, length, List, map, nat_lt, None, Option, option_map, slice_index, slice_index_or, slice_set, Some}
+use Rattle.std.specs.Prelude.{suc, true, ℕ, ◌&&◌, ◌*◌, ◌+◌, ◌<◌, ◌^◌, ◌∷◌, ◌≡◌, ◌≤◌}
 use Rattle.ksm_base.specs.declared.limits.TheConstants.{MOST_FRAMES}
 use Rattle.ksm_base.specs.declared.page.GuestPage.{GuestPage}
 use Rattle.ksm_tree.specs.declared.dup.Dup.{Dup}
 use Rattle.ksm_tree.specs.declared.counted_set.CountedSet.{CountedSet}
 use Rattle.ksm_tree.specs.Dups.{is_stale, items_in, stands_at}
-use Rattle.ksm_tree.specs.NumberSets.{has}
-use Rattle.ksm_tree.specs.Shelf.{ShelfState}
+use Rattle.ksm_tree.specs.NumberSets.{has, Marks}
+use Rattle.std.specs.List.{range_with_len}
+use Rattle.slab.specs.Slab.{get, Slab, slab_len}
+use Rattle.ksm_tree.specs.declared.shelf.Kept.{Kept}
+
+-- what each place holds, and whether room for one more dup is taken
+pub record ShelfState : Type 0 where
+  pub slots : List (Option Dup)
+  pub ready : Bool
+
+-- the dup under a key, if it stands at a place
+abbrev pub kept_at : ℕ → Option Kept → Option Dup
+kept_at place None = None
+kept_at place (Some kept) = if stands_at place kept.dup then Some kept.dup else None
+
+-- what the places hold, each by its key
+abbrev pub slots_by : List ℕ → Slab Kept → List (Option Dup)
+slots_by keys dups = map (λ place. kept_at place (get dups (slice_index keys place))) (range_with_len 0 (length keys))
+
+-- one more dup needs no memory, and its key has room in 32 bits
+abbrev pub has_room : Slab Kept → Bool
+has_room dups = nat_lt (slab_len dups) dups.capacity && nat_lt dups.vacant_key (2 ^ 32)
+
+abbrev pub change_items_of : (List GuestPage → List GuestPage) → Dup → Dup
+change_items_of change d = record d { items = change d.items }
+
+-- the slots with a change made to the items of the dup at a place
+abbrev pub change_slot : ℕ → (List GuestPage → List GuestPage) → List (Option Dup) → List (Option Dup)
+change_slot place change slots =
+    slice_set slots place (option_map (change_items_of change) (slice_index_or slots place None))
+
+-- the place has its bit, and the count has room for it, and is not 0 where it is in the set
+pub record MayBeMarked (places : CountedSet) (place : ℕ) : Type 0 where
+  pub room : place < 64 * length places.set
+  pub few : places.count ≤ MOST_FRAMES
+  pub counted : has places.set place ≡ true → 1 ≤ places.count
+
+-- the place is in the set after it, or is not; the other places are as they were, and the count follows
+pub record IsMarked (old new : CountedSet) (place : ℕ) (marked : Bool) : Type 0 where
+  pub set : Marks old.set new.set place marked
+  pub count : new.count + cond (has old.set place) 1 0 ≡ old.count + cond marked 1 0
 
 -- how many places there are, the dups in the order of their places, and whether room for one more is taken
 pub record SlotsState : Type 0 where

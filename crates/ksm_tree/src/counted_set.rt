@@ -1,5 +1,5 @@
 //! A set of numbers, with how many of the places that there are it has.
-ghost use Rattle.ksm_tree.specs.CountedSets.{IsMarked, MayBeMarked};
+ghost use Rattle.ksm_tree.specs.Slots.{IsMarked, MayBeMarked};
 
 use crate::number_set::NumberSet;
 

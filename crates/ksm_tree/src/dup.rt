@@ -15,3 +15,12 @@ pub struct Best {
     pub number: u64,
     pub place: u32,
 }
+
+/// Where a new dup goes. It is chosen before anything changes, since a stale dup may have to go first.
+#[derive(Clone, Copy, Debug, PartialEq, Eq)]
+pub enum Choice {
+    /// At this place, which no dup has.
+    Empty(u32),
+    /// At this place, whose stale dup goes.
+    Stale(u32),
+}

@@ -20,13 +20,11 @@ ghost use Rattle.ksm_tree.specs.Chains.{AreChained, group_places, in_group, is_i
 ghost use Rattle.ksm_tree.specs.Choosing.{ArePlacesToJoin, best_of, candidate_of, choice_of, found_at};
 ghost use Rattle.ksm_tree.specs.Dups.{AreDups, MayBecomeDup, change_items, dup_at, dup_of, is_live, is_stale, items_in, items_of, place_of, rows_of, stands_at, with_new, without_place};
 ghost use Rattle.ksm_tree.specs.Groups.{HasRoomAt, IsCounted, SameNumbers};
-ghost use Rattle.ksm_tree.specs.Numbered.{IsUnused, number_of};
-ghost use Rattle.ksm_tree.specs.Reserve.{KeepsReserve};
+ghost use Rattle.ksm_tree.specs.Numbered.{IsUnused, KeepsReserve, number_of};
 ghost use Rattle.ksm_tree.specs.declared.groups.TheConstants.{MOST_SPARE};
 
-use crate::choice::Choice;
 use crate::content::same_bytes;
-use crate::dup::{Best, Dup};
+use crate::dup::{Best, Choice, Dup};
 use crate::groups::{Groups, NO_NUMBER};
 use crate::item_counts::none_open;
 use crate::slots::Slots;
@@ -229,10 +227,7 @@ impl Dups {
         first: GuestPage,
         second: GuestPage,
     ) -> Result<u64, Fault>
-        requires place { place < self.old.places }
-        requires free { find (λ d. stands_at place d && is_live d) self.old.dups ≡ None }
-        requires apart { same_page first second ≡ false }
-        requires number { self.old.next + 1 < 2 ^ 64 }
+        requires { MayBecomeDup self.old place first second }
         ensures number { IfOk result (λ number. number ≡ self.old.next) }
         ensures made { OnOk result (self.new ≡ record self.old {
           dups = with_new (record {

@@ -12,7 +12,7 @@
 ghost use Rattle.std.specs.Prelude.{◌≡◌, ◌≢◌, ◌⊎◌, ℕ, ◌+◌, ◌≤◌, List, [], Some, IfOk, IfSome, IsTrue, OnOk, false, is_some, length, true, option_copied};
 ghost use Rattle.slab.specs.Slab.{get};
 ghost use Rattle.ksm_tree.specs.Faults.{FailsForMemory};
-ghost use Rattle.ksm_tree.specs.Grouping.{AreGroups, has_place, places_in};
+ghost use Rattle.ksm_tree.specs.Numbered.{AreGroups, has_place, places_in};
 ghost use Rattle.ksm_tree.specs.Places.{with_place, without};
 ghost use Rattle.ksm_base.specs.declared.limits.TheConstants.{MOST_FRAMES as most_frames};
 ghost use Rattle.ksm_tree.specs.declared.groups.TheConstants.{MOST_SPARE as most_spare};

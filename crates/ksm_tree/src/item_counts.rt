@@ -4,13 +4,13 @@
 //! The counts stand by themselves, four bytes each, so a walk along a chain reads no dup but one that may be joined.
 //! The open places are kept only while they are asked for: a store to a merged page may open or close one, and where
 //! all chains are short that costs more than it saves.
-#![tactic(auto, using(crate::proofs::Where::steps, crate::proofs::Opened::none_kept))]
+#![tactic(auto, using(crate::proofs::Where::steps))]
 
 ghost use Rattle.std.specs.Prelude.{◌≡◌, ℕ, ◌<◌, ◌≤◌, All, IfOk, IfSome, length, not, replicate, slice_index, slice_set};
 ghost use Rattle.std.specs.List.{list_all};
 ghost use Rattle.ksm_tree.specs.Faults.{FailsForMemory};
 ghost use Rattle.ksm_base.specs.declared.limits.TheConstants.{MOST_FRAMES};
-ghost use Rattle.ksm_tree.specs.Counts.{is_open as is_open_count, places_where};
+ghost use Rattle.ksm_tree.specs.Places.{is_open as is_open_count, places_where};
 
 use crate::dups::FEW_PLACES;
 use crate::places::Places;
@@ -30,7 +30,7 @@ pub struct Counts {
 
 impl Model for Counts {
     ghost use Rattle.std.specs.Prelude.{ℕ, List};
-    ghost use Rattle.ksm_tree.specs.Counts.{AreCounts};
+    ghost use Rattle.ksm_tree.specs.Places.{AreCounts};
 
     ghost Value = { List ℕ };
 

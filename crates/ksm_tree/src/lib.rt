@@ -2,7 +2,6 @@
 #![tactic(auto)]
 
 mod bits;
-mod choice;
 mod content;
 mod counted_set;
 mod dup;
@@ -18,9 +17,8 @@ mod slots;
 mod totals;
 mod waiting;
 
-pub use choice::Choice;
 pub use content::{Content, same_bytes};
-pub use dup::Best;
+pub use dup::{Best, Choice};
 pub use dups::{Dups, NO_PLACE};
 pub use groups::NO_NUMBER;
 pub use guesses::Guesses;

@@ -10,8 +10,7 @@ ghost use Rattle.ksm_tree.specs.Faults.{FailsForMemory};
 ghost use Rattle.ksm_base.specs.declared.limits.TheConstants.{MOST_FRAMES, MOST_REFERENCES};
 ghost use Rattle.ksm_rmap.specs.Items.{has_item, with_item, without_item};
 ghost use Rattle.ksm_tree.specs.Dups.{dup_of, items_in};
-ghost use Rattle.ksm_tree.specs.Shelf.{change_slot};
-ghost use Rattle.ksm_tree.specs.Slots.{present};
+ghost use Rattle.ksm_tree.specs.Slots.{change_slot, present};
 
 use crate::dup::Dup;
 use crate::groups::NO_NUMBER;
@@ -43,7 +42,7 @@ impl Drop for Shelf {
 }
 
 impl Model for Shelf {
-    ghost use Rattle.ksm_tree.specs.Shelf.{ShelfState, has_room, slots_by};
+    ghost use Rattle.ksm_tree.specs.Slots.{ShelfState, has_room, slots_by};
 
     ghost Value = { ShelfState };
 

@@ -1,5 +1,5 @@
 //! The dups by their places, a slot for each: a place leads to its dup in two steps, and an empty one takes few bytes.
-#![tactic(auto, using(crate::proofs::OneSlot::steps, crate::proofs::Opened::open_seen, crate::proofs::Opened::three_kinds))]
+#![tactic(auto, using(crate::proofs::OneSlot::steps))]
 
 ghost use Rattle.std.specs.Prelude.{◌≡◌, ℕ, ◌<◌, ◌≤◌, [], true, false, None, Some, count_by, find, length, option_copied, is_some, slice_index_or, IfOk, IfSome, OnErr, OnOk};
 ghost use Rattle.ksm_tree.specs.Faults.{FailsForMemory};

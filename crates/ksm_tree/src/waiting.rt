@@ -1,5 +1,5 @@
 //! The unstable tree, for users of this library. The book's own is in `ksm_pages`, which has each page's row.
-#![tactic(auto, using(crate::proofs::Waits::steps))]
+#![tactic(auto, using(crate::proofs::Numbering::steps))]
 
 ghost use Rattle.std.specs.Prelude.{◌≡◌, [], None, Some, IfOk, OnErr, is_some, true};
 ghost use Rattle.std.specs.Option.{unwrap_or};

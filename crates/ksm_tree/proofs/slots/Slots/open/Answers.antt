@@ -1,5 +1,5 @@
 use Rattle.ksm_tree.proofs.Names.{length-replicate, arith, ◌∙◌}
-use Rattle.ksm_tree.proofs.Opened.{none_set, none_slots}
+use Rattle.ksm_tree.proofs.OneSlot.{none_set, none_slots}
 use Rattle.ksm_tree.proofs.slots.Slots.open.Goals as goal
 
 pub invariant_of-result : goal.invariant_of-result
