@@ -22,5 +22,4 @@ pub mod Partners
 pub mod Visiting
 pub mod Paired
 pub mod Sorting
-pub mod Asked
 pub mod Leading

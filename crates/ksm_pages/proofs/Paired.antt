@@ -1,10 +1,10 @@
 -- The pages once two of them became the items of a new dup.
 use Rattle.ksm_pages.proofs.Names.{[], above, All, All-filter, All-map, all_with_dup, ap, ap₂, AreAlone, AreDups, AreInTree, AreKept, AreWaitersLed, arith, below, change_held, change_row, change_rows}
 use Rattle.ksm_pages.proofs.Names.{cond_both, dup_numbered, dup_rows, DupRow, dups_parted, DupsState, Entry, eq_bytes, false, filter, find, find-append, find_all, find_nothing, find_over, frame_of}
-use Rattle.ksm_pages.proofs.Names.{Frames, get_or, GuestPage, has_content, Held, held_at, held_of, holds, in_group, InPageOrder, InPlaceOrder, Inside, is_in, is_live, length, length-set, lies_on}
-use Rattle.ksm_pages.proofs.Names.{List, lodging, lodgings_of, map_mapped, MatchOption, MayPair, Merged, merged_into, nat_tests, None, not, Option, option_and_then, option_map, ordered_change}
-use Rattle.ksm_pages.proofs.Names.{page_in_tree, PagesValue, paired, refl, Row, row_at, rows_new, rows_of, RowsView, rules, same_page, same_page_eq, same_page_refl, seen, set, shares, slice_get, Some}
-use Rattle.ksm_pages.proofs.Names.{stands_at, subst, sym, tied_made, tree_of, true, waiting_state, with_dup, with_item, with_new, ℕ, ◌&&◌, ◌+◌, ◌<◌, ◌==◌, ◌||◌, ◌∙◌, ◌∷◌, ◌≡◌}
+use Rattle.ksm_pages.proofs.Names.{Frames, get_or, GuestPage, Held, held_at, held_of, holds, in_group, InPageOrder, InPlaceOrder, Inside, is_in, is_live, length, length-set, lies_on, List, lodging}
+use Rattle.ksm_pages.proofs.Names.{lodgings_of, map_mapped, MatchOption, MayPair, Merged, merged_into, nat_tests, None, not, Option, option_and_then, option_map, ordered_change, page_in_tree}
+use Rattle.ksm_pages.proofs.Names.{PagesValue, paired, refl, Row, row_at, rows_new, rows_of, RowsView, rules, same_page, same_page_eq, same_page_refl, seen, set, shares, slice_get, Some, stands_at}
+use Rattle.ksm_pages.proofs.Names.{subst, sym, tied_made, tree_of, true, waiting_state, with_dup, with_item, with_new, ℕ, ◌&&◌, ◌+◌, ◌<◌, ◌==◌, ◌||◌, ◌∙◌, ◌∷◌, ◌≡◌}
 use Rattle.std.specs.Vec.{with_item as with_frame}
 use Rattle.ksm_base.proofs.Orders.{elsewhere}
 use Rattle.ksm_pages.proofs.Changing.{row_told, rows_changed}
@@ -25,16 +25,15 @@ module _ (dups : List DupRow) (dup : DupRow) (frames : List ℕ) (frame : ℕ) w
   abbrev lies_at : DupRow → Option ℕ
   lies_at d = slice_get (set frames dup.place frame) d.place
 
-  new_found : All (λ d. d.number < dup.number) dups → dup_numbered dup.number (with_dup dup dups) ≡ Some dup
-  new_found fresh =
+  -- a new dup has the frame that is written at its place
+  pub lodged_new : All (λ d. d.number < dup.number) dups → dup.place < length frames → of_now dup.number ≡ Some frame
+  lodged_new fresh inside =
       let lower = filter (below dup.place) dups in
       let less = All-filter (below dup.place) (λ d. d.number < dup.number) dups fresh in
       let none = find_nothing (λ d. d.number == dup.number) lower (λ k d lt. grind (arith, less k d lt)) in
-      grind (arith, find-append (λ d. d.number == dup.number) lower (dup ∷ filter (above dup.place) dups))
-
-  -- a new dup has the frame that is written at its place
-  pub lodged_new : All (λ d. d.number < dup.number) dups → dup.place < length frames → of_now dup.number ≡ Some frame
-  lodged_new fresh inside = ap (option_and_then lies_at) (new_found fresh) ∙ (grind (arith, nat_tests, get_set frames dup.place dup.place frame, inside))
+      let found : dup_numbered dup.number (with_dup dup dups) ≡ Some dup =
+      grind (arith, none, find-append (λ d. d.number == dup.number) lower (dup ∷ filter (above dup.place) dups)) in
+      ap (option_and_then lies_at) found ∙ (grind (arith, nat_tests, get_set frames dup.place dup.place frame, inside))
 
   -- a dup that stands elsewhere keeps its frame where one is written for a new dup
   pub lodged_kept : InPlaceOrder dups → (n : ℕ) → (n == dup.number) ≡ false
@@ -198,36 +197,19 @@ module _ {s : Inside} {p : PagesValue} {place : ℕ} {first second : GuestPage} 
     abbrev dups_now : List DupRow
     dups_now = with_dup dup (dup_rows s.dups.dups)
 
-    first_led : (tree_of s.knobs a.row ≡ tree) × (a.row.bytes ≡ b.row.bytes) × (is_in a.in_tree ≡ true)
-    first_led =
-        let parts = waits_parts s.knobs b.row a.row may.waits in (
-          parts.2 ∙ sym (in_tree b.row refl),
-          parts.3,
-          find_all (holds first) (λ h. waiting_state h.row.state ≡ true → is_in h.in_tree ≡ true) _ a it.found led parts.0,
-        )
-
-    -- the tree leads from the content of the dup to the first page
-    to_first : page_in_tree s.rows tree b.row.bytes ≡ Some a.row.page
-    to_first =
-        ap₂ (page_in_tree s.rows) (sym first_led.0) (sym first_led.1)
-        ∙ held_led s.knobs s.rows are.by_node there first it.found first_led.2
-
-    -- another row that is alone is not of the content of the dup
-    not_of_dup : (h : Held) → is_in h.in_tree ≡ true → holds a.row.page h ≡ false
-        → (has_content s.rows.by_node tree b.row.bytes h ≡ true → page_in_tree s.rows tree b.row.bytes ≡ Some h.row.page)
-        → in_group (tree_of s.knobs h.row) h.row.bytes dup ≡ false
-    not_of_dup h in_it other of_content =
-        grind (arith, nat_tests, tree_is s.knobs are.by_node h.row, eq_bytes b.row.bytes h.row.bytes, to_first, same_page_refl h.row.page)
-
-    half_alone : AreAlone s.knobs half dups_now
-    half_alone = All-map (IsLone s.knobs dups_now) _ s.rows.held (λ k d lt.
-        let h = get_or s.rows.held k d in
-        cond_both _ _ _ (IsLone s.knobs dups_now) (λ _. shared_lone s.knobs dups_now (Merged s.dups.next) h)
-        (λ apart alone. all_with_dup (λ r. in_group (tree_of s.knobs h.row) h.row.bytes r ≡ false) dup _
-        (not_of_dup h (grind (arith, alone)) apart (each_led s.rows there tree b.row.bytes k d lt)) (are.alone k d lt alone)))
-
     now_alone : AreAlone s.knobs rows.held (dup_rows later.dups)
     now_alone =
+        let parts = waits_parts s.knobs b.row a.row may.waits in
+        let in_it = find_all (holds first) (λ h. waiting_state h.row.state ≡ true → is_in h.in_tree ≡ true) _ a it.found led parts.0 in
+        let to_first : page_in_tree s.rows tree b.row.bytes ≡ Some a.row.page =
+        ap₂ (page_in_tree s.rows) (in_tree b.row refl ∙ sym parts.2) (sym parts.3) ∙ held_led s.knobs s.rows are.by_node there first it.found in_it in
+        let half_alone : AreAlone s.knobs half dups_now = All-map (IsLone s.knobs dups_now) _ s.rows.held (λ k d lt.
+        let h = get_or s.rows.held k d in
+        cond_both (holds a.row.page h) (into h) h (IsLone s.knobs dups_now) (λ _. shared_lone s.knobs dups_now (Merged s.dups.next) h)
+        (λ apart alone. all_with_dup (λ r. in_group (tree_of s.knobs h.row) h.row.bytes r ≡ false) dup _
+        (grind (arith, nat_tests, alone, apart, each_led s.rows there tree b.row.bytes k d lt, tree_is s.knobs are.by_node h.row,
+          eq_bytes b.row.bytes h.row.bytes, to_first, same_page_refl h.row.page))
+        (are.alone k d lt alone))) in
         rw (now_held, now_rows)
         (lone_changed s.knobs dups_now b.row.page into half half_order found_second
         (λ _. shared_lone s.knobs dups_now (Merged s.dups.next) b) half_alone)
@@ -251,32 +233,24 @@ module _ {s : Inside} {p : PagesValue} {place : ℕ} {first second : GuestPage} 
     abbrev lay : Frames
     lay = frame_of (lodgings_of (of_dup s) s.rows.held)
 
-    new_frame : of_new s.dups.next ≡ Some frame
-    new_frame = rw now_rows (lodged_new _ _ _ _ lawful.numbers_below (rw are.room may.inside))
-
-    others : frame_of (lodgings_of of_new s.rows.held) ≡ lay
-    others =
-        lodged_alike _ (λ page r n there merged.
-        let unlike = ap (merged_into s.dups.next) (sym merged)
-        ∙ find_all _ (λ x. merged_into s.dups.next x.state ≡ false) _ _ there may.fresh in
-        rw now_rows (lodged_kept _ _ _ frame lawful.in_place_order n unlike (not_vacant _ _ page may.vacant there merged)))
-
     now_lie : frame_of (lodgings_of of_new rows.held) ≡ lies_on b.row.page (lay a.row.page) lay
     now_lie =
+        let new_frame : of_new s.dups.next ≡ Some frame = rw now_rows (lodged_new _ _ _ _ lawful.numbers_below (rw are.room may.inside)) in
+        let others : frame_of (lodgings_of of_new s.rows.held) ≡ lay = lodged_alike _ (λ page r n there merged.
+        let unlike = ap (merged_into s.dups.next) (sym merged) ∙ find_all _ (λ x. merged_into s.dups.next x.state ≡ false) _ _ there may.fresh in
+        rw now_rows (lodged_kept _ _ _ frame lawful.in_place_order n unlike (not_vacant _ _ page may.vacant there merged))) in
         let two = lodged_changed b.row.page into (λ h. refl) of_new half found_second in
         let one_moved = lodged_changed a.row.page into (λ h. refl) of_new s.rows.held found_first in
         grind (arith, now_held, two, one_moved, others, new_frame, frame_by (of_dup s) s.rows.held a.row.page, found_first, own_first, lies_same a.row.page {frames = lay})
-
-    told : seen (view_of (record s { rows = rows; dups = later; frames = with_frame s.frames place frame }))
-        ≡ paired place a.row b.row (seen (view_of s))
-    told =
-        let changed = both_rows ∙ ap (change_row b.row.page item) half_rows
-        ∙ both_changed _ _ _ (λ r. refl) differ _ in
-        let dups = now_rows ∙ ap (λ t. with_dup (record dup { tree = t }) (dup_rows s.dups.dups)) (in_tree b.row refl) in
-        λ i. record (seen (view_of s)) { rows = changed i; frame = now_lie i; dups = dups i; next = (is_made i).next }
 
     -- once two pages became the items of a new dup, the pages are seen as paired on the first one's frame
     pub told_paired : let now = seen (view_of (record s { rows = rows; dups = later; frames = with_frame s.frames place frame })) in
         IsOfBoth (λ r t. now ≡ paired place r t (seen p)) (row_at first p.rows) (row_at second p.rows)
     told_paired =
-        rw (row_seen s it.seen_as _ it.found) (rw (row_seen s it.seen_as _ it.also) (told ∙ ap (λ v. paired place a.row b.row (seen v)) it.seen_as))
+        let told = paired place a.row b.row (seen (view_of s)) in
+        let changed : rows_of rows.held ≡ told.rows =
+        both_rows ∙ ap (change_row b.row.page item) half_rows ∙ both_changed _ _ _ (λ r. refl) differ _ in
+        let dups : dup_rows later.dups ≡ told.dups = now_rows ∙ ap (λ t. with_dup (record dup { tree = t }) (dup_rows s.dups.dups)) (in_tree b.row refl) in
+        rw (row_seen s it.seen_as _ it.found) (rw (row_seen s it.seen_as _ it.also)
+        ((λ i. record (seen (view_of s)) { rows = changed i; frame = now_lie i; dups = dups i; next = (is_made i).next })
+        ∙ ap (λ v. paired place a.row b.row (seen v)) it.seen_as))

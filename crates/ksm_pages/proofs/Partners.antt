@@ -1,13 +1,13 @@
--- The row to which the unstable tree leads from the tree and bytes of a row, the row's partner, and the page that waits beside a merged row.
+-- The row to which the unstable tree leads from the tree and bytes of a row, and the row's partner.
 use Rattle.ksm_pages.proofs.Names.{All, All-map, altered, ap₂, AreInTree, AreWaitersLed, arith, Bool, bytes_eq-Decides, each_at_page, Entry, false, find_all, find_none, find_passes, get_or, GuestPage}
-use Rattle.ksm_pages.proofs.Names.{has_content, Held, held_at, held_of, holds, if◌then◌else◌, InPageOrder, Inside, is_in, IsFree, Knobs, List, merged_state, nat_tests, None, not, Option}
-use Rattle.ksm_pages.proofs.Names.{option_and_then, option_map, out_of_tree, page_beside, page_in_tree, PagesValue, partner, refl, Row, row_at, rows_of, RowsView, same_page, same_page_eq}
-use Rattle.ksm_pages.proofs.Names.{same_page_refl, Some, sym, tree_by, tree_of, true, waiting_state, waits_for, ℕ, ◌&&◌, ◌==◌, ◌∙◌, ◌≡◌, ◌⊎◌}
+use Rattle.ksm_pages.proofs.Names.{has_content, Held, held_at, held_of, holds, if◌then◌else◌, InPageOrder, Inside, is_in, IsFree, Knobs, List, MatchOption, nat_tests, None, not, Option}
+use Rattle.ksm_pages.proofs.Names.{option_and_then, option_map, out_of_tree, page_in_tree, PagesValue, partner, refl, Row, row_at, rows_of, RowsView, same_page, same_page_eq, same_page_refl, Some}
+use Rattle.ksm_pages.proofs.Names.{sym, tree_by, tree_of, true, waiting_state, waits_for, ℕ, ◌&&◌, ◌==◌, ◌∙◌, ◌≡◌, ◌⊎◌}
 use Rattle.ksm_pages.proofs.Changing.{row_told}
 use Rattle.ksm_pages.proofs.Lone.{each_held}
 use Rattle.ksm_pages.proofs.Options.{mapped_some}
 use Rattle.ksm_pages.specs.declared.row.Kind.TheVariants as kinds
-use Rattle.ksm_pages.proofs.Leaving.{AreLawful, of_page, row_seen, row_there, view_of}
+use Rattle.ksm_pages.proofs.Leaving.{AreLawful, of_page, view_of}
 
 -- a row that waits for another waits, is of another page, and has the same content
 pub waits_parts : (knobs : Knobs) (row w : Row) → waits_for knobs row w ≡ true
@@ -18,6 +18,14 @@ waits_parts knobs row w is = grind (arith, nat_tests, bytes_eq-Decides w.bytes r
 abbrev pub waits_at : List Row → GuestPage → GuestPage → Option Row
 waits_at rows own page =
     option_and_then (λ w. if waiting_state w.state && not (same_page page own) then Some w else None) (row_at page rows)
+
+-- a row that waits there is of that page
+pub waits_page : (rows : List Row) (own page : GuestPage) (b : Bool)
+    → MatchOption (row_at page rows) (b ≡ false) (λ r. b ≡ waiting_state r.state) → (same_page page own ≡ true → b ≡ false)
+    → option_map (λ w. w.page) (waits_at rows own page) ≡ (if b then Some page else None)
+waits_page rows own page b told apart =
+    let of_page = λ (w : Row) (at : row_at page rows ≡ Some w). same_page_eq w.page page (find_passes (λ r. same_page r.page page) rows w at) in
+    grind (arith, of_page)
 
 -- the tree of a row with a home
 pub tree_is : (knobs : Knobs) {by_node : Bool} → by_node ≡ not (knobs.merge_across_nodes == 1) → (row : Row)
@@ -34,21 +42,16 @@ module _ (v : RowsView) (found : AreInTree v) where
       grind (arith, nat_tests, bytes_eq-Decides h.row.bytes bytes) in
       sym (ap₂ (page_in_tree v) content.0 content.1) ∙ found k d lt (grind arith)
 
-  -- where the tree leads from the content of a page's row to none, or to that page, it leads to no other row
-  pub free_by : (page : GuestPage) (h : Held)
-      → (page_in_tree v (tree_by v.by_node h.row.home) h.row.bytes ≡ None)
-      ⊎ (page_in_tree v (tree_by v.by_node h.row.home) h.row.bytes ≡ Some page)
-      → IsFree v page h
-  free_by page h is k d lt other =
-      grind (arith, each_led (tree_by v.by_node h.row.home) h.row.bytes k d lt, is, same_page_refl)
+  module _ (page : GuestPage) (h : Held) {tree : ℕ} (of_home : tree_by v.by_node h.row.home ≡ tree) where
+    -- where the tree leads from the content of a page's row to none, or to that page, it leads to no other row
+    pub free_by : (page_in_tree v tree h.row.bytes ≡ None) ⊎ (page_in_tree v tree h.row.bytes ≡ Some page) → IsFree v page h
+    free_by is k d lt other = grind (arith, of_home, each_led tree h.row.bytes k d lt, is, same_page_refl)
 
-  -- where it leads to a row that it leads to no more, it leads to none
-  pub free_but : (page other : GuestPage) (h : Held) → page_in_tree v (tree_by v.by_node h.row.home) h.row.bytes ≡ Some other
-      → IsFree (altered other out_of_tree v) page h
-  free_but page other h is =
-      let tree = tree_by v.by_node h.row.home in
-      All-map (λ g. holds page g ≡ false → has_content v.by_node tree h.row.bytes g ≡ false) _ v.held (λ k d lt apart.
-      grind (arith, each_led tree h.row.bytes k d lt, is, same_page_refl (get_or v.held k d).row.page))
+    -- where it leads to a row that it leads to no more, it leads to none
+    pub free_but : {other : GuestPage} → page_in_tree v tree h.row.bytes ≡ Some other → IsFree (altered other out_of_tree v) page h
+    free_but is =
+        All-map (λ g. holds page g ≡ false → has_content v.by_node (tree_by v.by_node h.row.home) h.row.bytes g ≡ false) _ v.held (λ k d lt apart.
+        grind (arith, of_home, each_led tree h.row.bytes k d lt, is, same_page_refl (get_or v.held k d).row.page))
 
 module _ (knobs : Knobs) (v : RowsView) (rise : InPageOrder (rows_of v.held))
     (by : v.by_node ≡ not (knobs.merge_across_nodes == 1))
@@ -67,14 +70,12 @@ module _ (knobs : Knobs) (v : RowsView) (rise : InPageOrder (rows_of v.held))
       each_led v found _ _ k d lt has)
 
   -- a partner is the row to which the tree leads
-  pub partner_led : {w : Row} → partner knobs rows row ≡ Some w
+  partner_led : {w : Row} → partner knobs rows row ≡ Some w
       → (led_to ≡ Some w.page) × (row_at w.page rows ≡ Some w) × (waits_for knobs row w ≡ true)
   partner_led {w} is =
-      let waits = find_passes (waits_for knobs row) rows w is in (
-        find_all (waits_for knobs row) (λ r. waits_for knobs row r ≡ true → led_to ≡ Some r.page) rows w is each_waiter waits,
-        find_all (waits_for knobs row) (λ r. row_at r.page rows ≡ Some r) rows w is (each_at_page rows rise),
-        waits,
-      )
+      let led_there = find_all (waits_for knobs row) (λ r. waits_for knobs row r ≡ true → led_to ≡ Some r.page) rows w is each_waiter in
+      let there = find_all (waits_for knobs row) (λ r. row_at r.page rows ≡ Some r) rows w is (each_at_page rows rise) in
+      grind (arith, find_passes (waits_for knobs row) rows w is, led_there, there)
 
   -- a row of the page to which the tree leads has the content of the row
   content : {page : GuestPage} {w : Row} → led_to ≡ Some page → row_at page rows ≡ Some w
@@ -87,7 +88,7 @@ module _ (knobs : Knobs) (v : RowsView) (rise : InPageOrder (rows_of v.held))
       grind (arith, find_passes has v.held h.0 h.1, is_row, h.2, tree_is knobs by h.0.row)
 
   -- the partner of the row is the row to which the tree leads, where that waits and is another
-  pub partner_is : partner knobs rows row ≡ option_and_then (waits_at rows row.page) led_to
+  partner_is : partner knobs rows row ≡ option_and_then (waits_at rows row.page) led_to
   partner_is = go _ refl
     where
       go : (o : Option Row) → partner knobs rows row ≡ o → o ≡ option_and_then (waits_at rows row.page) led_to
@@ -105,51 +106,11 @@ held_led knobs v by found page {h} at is =
     (find_all (holds page) (λ x. is_in x.in_tree ≡ true → page_in_tree v (tree_by v.by_node x.row.home) x.row.bytes ≡ Some x.row.page)
     v.held h at found is)
 
-module _ (s : Inside) (are : AreLawful s) (p : PagesValue) (seen_as : view_of s ≡ p) (page : GuestPage) (e : Entry)
-    (found : held_at page s.rows.held ≡ Some (held_of s.rows.pass e)) where
-  abbrev row : Row
-  row = (held_of s.rows.pass e).row
-
-  abbrev beside : Option GuestPage
-  beside = page_beside p.knobs p.rows (row_at page p.rows)
-
-  -- what waits beside the page is what does beside its row
-  seen_beside : beside ≡ (if merged_state row.state then option_map (λ r. r.page) (partner s.knobs (rows_of s.rows.held) row) else None)
-  seen_beside = grind (arith, row_seen)
-
-  -- a page, if it waits
-  abbrev if_waiting : GuestPage → Option GuestPage
-  if_waiting other = option_and_then (λ w. if waiting_state w.state then Some other else None) (row_at other p.rows)
-
-  -- beside one that is merged that page waits to which the tree leads from its content, where that waits
-  pub merged_beside : AreWaitersLed s.rows.held → AreInTree s.rows
-      → e.kind ≡ kinds.Merged → {tree : ℕ} → ((r : Row) → r.home ≡ e.home → tree ≡ tree_of s.knobs r)
-      → beside ≡ option_and_then if_waiting (page_in_tree s.rows tree e.bytes)
-  merged_beside led found_by is {tree} in_tree = go _ refl
-    where
-      by : partner s.knobs (rows_of s.rows.held) row ≡ option_and_then (waits_at (rows_of s.rows.held) row.page) (page_in_tree s.rows tree e.bytes)
-      by = rw (in_tree row refl) (partner_is s.knobs s.rows are.order are.by_node led found_by row)
-
-      here : row_at page (rows_of s.rows.held) ≡ Some row
-      here = row_there s are page found
-
-      go : (o : Option GuestPage) → page_in_tree s.rows tree e.bytes ≡ o → beside ≡ option_and_then if_waiting o
-      go None none = grind (arith, seen_beside, by, none)
-      go (Some other) at = more _ refl
-        where
-          more : (q : Option Row) → row_at other (rows_of s.rows.held) ≡ q → beside ≡ if_waiting other
-          more None none = grind (arith, seen_beside, by, at, none, seen_as)
-          more (Some w) there =
-              grind (
-                arith,
-                seen_beside,
-                by,
-                at,
-                there,
-                here,
-                seen_as,
-                same_page_eq other row.page,
-                of_page s are page found,
-                find_passes (λ r. same_page r.page other) (rows_of s.rows.held) w there,
-                same_page_eq w.page other,
-              )
+-- the partner of a page's row is the row to which the tree of its home leads from its bytes, where that waits and is another
+pub partner_by : (s : Inside) → AreLawful s → {p : PagesValue} → view_of s ≡ p → (page : GuestPage) (e : Entry)
+    → held_at page s.rows.held ≡ Some (held_of s.rows.pass e) → AreWaitersLed s.rows.held → AreInTree s.rows
+    → {tree : ℕ} → ((r : Row) → r.home ≡ e.home → tree ≡ tree_of s.knobs r)
+    → partner p.knobs p.rows (held_of s.rows.pass e).row ≡ option_and_then (waits_at (rows_of s.rows.held) page) (page_in_tree s.rows tree e.bytes)
+partner_by s are seen_as page e found led found_by in_tree =
+    let row = (held_of s.rows.pass e).row in
+    rw (← seen_as, in_tree row refl, ← of_page s are page found) (partner_is s.knobs s.rows are.order are.by_node led found_by row)

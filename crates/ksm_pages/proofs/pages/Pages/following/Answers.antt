@@ -1,5 +1,5 @@
 use Rattle.ksm_pages.proofs.Names.{arith, find_passes, held_of, same_page_eq}
-use Rattle.ksm_pages.proofs.Asked.{first_at}
+use Rattle.ksm_pages.proofs.Paging.{first_at}
 use Rattle.ksm_pages.proofs.Leaving.{row_seen}
 use Rattle.ksm_pages.proofs.pages.Pages.following.Goals as goal
 

@@ -1,7 +1,8 @@
-use Rattle.ksm_pages.proofs.Names.{arith, changed, held_of, None, on_row, refl, same_page_refl, seen, Waiting, ◌≡◌}
+use Rattle.ksm_pages.proofs.Names.{arith, changed, refl, same_page_refl, seen, Waiting}
 use Rattle.ksm_pages.proofs.Leaving.{Comes}
-use Rattle.ksm_pages.proofs.Partners.{held_led, partner_is}
-use Rattle.ksm_pages.proofs.Visiting.{asked, best, finds_waits, IsAsked, lone_none, waits_then}
+use Rattle.ksm_pages.proofs.Partners.{held_led, partner_by}
+use Rattle.ksm_pages.proofs.Turning.{own_left, rested}
+use Rattle.ksm_pages.proofs.Visiting.{alone_seen, asked, IsAsked, known, lone_none}
 use Rattle.ksm_pages.proofs.pages.Pages.glance.Goals as goal
 use Rattle.ksm_pages.proofs.pages.Pages.glance.Goals.{After-wait}
 
@@ -14,7 +15,9 @@ it c = asked c.self.inside c.self.invariant c.self.view_is c.in-Some.entry.now c
 
 waits : (c : After-wait)
     → Comes c.self.inside c.wait.new.self c.self.inside.dups (changed c.args.spot.page (λ r. record r { state = Waiting }) (seen c.args.self.now))
-waits c = waits_then (it c) (on_row (λ r. record r { state = Waiting })) (λ x. (refl, refl)) (λ lone. lone) c.wait.ensures
+waits c =
+    rested (own_left c.self.invariant c.self.view_is (alone_seen (it c))) (alone_seen (it c)) _ c.wait.ensures (λ r. record r { state = Waiting })
+    (λ x. (refl, refl)) (λ r. (refl, refl)) (λ x _. refl) (λ lone. lone)
 
 pub invariant_of-self : goal.invariant_of-self
 invariant_of-self c = (waits (goal.at.invariant_of-self c).After-wait).lawful
@@ -23,14 +26,7 @@ pub returns-clause-waits : goal.returns-clause-waits
 returns-clause-waits c _ =
     let t = (goal.at.returns-clause-waits c).After-wait in
     let s = t.self.inside in
-    let row = (held_of s.rows.pass t.in-Some.entry.now).row in
-    let none : best (it t) ≡ None =
-    rw (← t.tree_in-tree.ensures row refl) (grind (arith, t.if-not-joins_none.ensures)) in
-    finds_waits (it t) none (grind arith) (grind arith)
-    (grind (
-      arith,
-      (held_led s.knobs s.rows t.self.invariant.by_node t.are_lawful.ensures.found t.args.spot.page t.in-Some.ensures (grind arith)),
-      same_page_refl row.page,
-      partner_is s.knobs s.rows t.self.invariant.order t.self.invariant.by_node t.are_lawful.ensures.led t.are_lawful.ensures.found row,
-    ))
-    (waits t)
+    let led = held_led s.knobs s.rows t.self.invariant.by_node t.are_lawful.ensures.found t.args.spot.page t.in-Some.ensures (grind arith) in
+    let by = partner_by s t.self.invariant t.self.view_is t.args.spot.page t.in-Some.entry.now t.in-Some.ensures
+    t.are_lawful.ensures.led t.are_lawful.ensures.found t.tree_in-tree.ensures in
+    grind (arith, known (it t) t.tree_in-tree.ensures, (waits t).told_as, by, led, same_page_refl t.args.spot.page, t.if-not-joins_none.ensures)

@@ -1,5 +1,5 @@
 use Rattle.ksm_pages.proofs.Names.{arith, of_guest, Row, true, ◌≡◌}
-use Rattle.ksm_pages.proofs.Asked.{next_none, next_past, next_told, told_next}
+use Rattle.ksm_pages.proofs.Paging.{next_none, next_past, next_told, told_next}
 use Rattle.ksm_pages.proofs.pages.Pages.next.Goals as goal
 
 pub returns-in-Some : goal.returns-in-Some

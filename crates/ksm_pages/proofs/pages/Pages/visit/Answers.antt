@@ -1,8 +1,8 @@
-use Rattle.ksm_pages.proofs.Names.{ap, arith, changed, inl, inr, on_err, on_row, Private, refl, Row, rules, same_page_eq, seen, settled, Some, sym, true, ◌∙◌, ◌≡◌}
+use Rattle.ksm_pages.proofs.Names.{ap, arith, changed, held_of, inl, inr, on_err, on_row, Private, refl, Row, rows_of, rules, same_page_eq, same_page_refl, seen, settled, Some, sym, true, ◌∙◌, ◌≡◌}
 use Rattle.ksm_pages.proofs.Leaving.{Comes}
+use Rattle.ksm_pages.proofs.Partners.{free_but, free_by, partner_by, tree_is, waits_page}
 use Rattle.ksm_pages.proofs.Turning.{own_left, rested}
-use Rattle.ksm_pages.proofs.Visiting.{alone, alone_seen, asked, entered_not, entered_then, entered_waits, enters, enters_for, enters_restless, finds_changed, finds_dup, finds_partner, finds_zero}
-use Rattle.ksm_pages.proofs.Visiting.{lone_none, MayEnter, met, none_told, told_best}
+use Rattle.ksm_pages.proofs.Visiting.{alone, alone_seen, asked, entered, entered_lone, known, lone_none, MayEnter, still_asked}
 use Rattle.ksm_pages.proofs.pages.Pages.visit.Goals as goal
 use Rattle.ksm_pages.proofs.pages.Pages.visit.Goals.{After-enter-arg-1, in-Some-in_tree+else-ne, in-Some-in_tree+then-ne+else-waits, in_default-in_tree}
 
@@ -14,7 +14,7 @@ pub returns-in-Some-best-clause-found : goal.returns-in-Some-best-clause-found
 returns-in-Some-best-clause-found c =
     let it = asked c.self.inside c.self.invariant c.self.view_is c.in-Some.entry.now c.in-Some.ensures (grind arith) in
     rw c.group_with_best-group.ensures.kept
-    (finds_dup it c.in-Some-best.best (sym c.in-Some-best.is ∙ told_best it c.tree_in-tree.ensures c.group_with_best-group.ensures.best))
+    (grind (arith, known it c.tree_in-tree.ensures, c.group_with_best-group.ensures.best, c.in-Some-best.is))
 
 abbrev found : Row → Row
 found r = record r { unchanged = true; state = Private }
@@ -33,43 +33,60 @@ pub returns-then-not-entry-clause-found : goal.returns-then-not-entry-clause-fou
 returns-then-not-entry-clause-found c =
     let it = asked c.self.inside c.self.invariant c.self.view_is c.in-Some.entry.now c.in-Some.ensures (grind arith) in
     rw c.group_with_best-group.ensures.kept
-    (finds_changed it (none_told it c.tree_in-tree.ensures c.group_with_best-group.ensures.best c.in_default-best.is) c.if-not-entry.true (went c).told_as)
+    (grind (arith, known it c.tree_in-tree.ensures, c.group_with_best-group.ensures.best, c.in_default-best.is, (went c).told_as))
 
 pub returns-then-is_for_zero-clause-found : goal.returns-then-is_for_zero-clause-found
 returns-then-is_for_zero-clause-found c =
     let it = asked c.self.inside c.self.invariant c.self.view_is c.in-Some.entry.now c.in-Some.ensures (grind arith) in
     rw c.group_with_best-group.ensures.kept
-    (finds_zero it (none_told it c.tree_in-tree.ensures c.group_with_best-group.ensures.best c.in_default-best.is) c.if-not-entry.false
-    (sym c.is_for_zero.ensures ∙ c.if-is_for_zero.true))
+    (grind (arith, known it c.tree_in-tree.ensures, c.group_with_best-group.ensures.best, c.in_default-best.is, c.is_for_zero.ensures))
 
 pub returns-then-waits-clause-found : goal.returns-then-waits-clause-found
 returns-then-waits-clause-found c =
-    let it = asked c.self.inside c.self.invariant c.self.view_is c.in-Some.entry.now c.in-Some.ensures (grind arith) in
+    let s = c.self.inside in
+    let it = asked s c.self.invariant c.self.view_is c.in-Some.entry.now c.in-Some.ensures (grind arith) in
+    let by = partner_by s c.self.invariant c.self.view_is c.args.spot.page c.in-Some.entry.now c.in-Some.ensures
+    c.are_lawful.ensures.led c.are_lawful.ensures.found c.tree_in-tree.ensures in
     rw c.group_with_best-group.ensures.kept
-    (finds_partner it (none_told it c.tree_in-tree.ensures c.group_with_best-group.ensures.best c.in_default-best.is) c.if-not-entry.false
-    (sym c.is_for_zero.ensures ∙ c.if-is_for_zero.false) c.in-Some-in_tree.other.page
-    (met it c.are_lawful.ensures.led c.are_lawful.ensures.found c.tree_in-tree.ensures (sym c.in-Some-in_tree.ensures) (grind arith) c.waits.ensures c.if-waits.true))
+    (grind (arith, known it c.tree_in-tree.ensures, c.group_with_best-group.ensures.best, c.in_default-best.is, c.is_for_zero.ensures, by,
+      c.in-Some-in_tree.ensures, waits_page (rows_of s.rows.held) c.args.spot.page c.in-Some-in_tree.other.page c.waits.result c.waits.ensures (grind arith)))
 
 way : (c : After-enter-arg-1)
     → MayEnter c.match-in_tree.self-inside c.args.self.now c.args.spot.page c.in-Some.entry.now c.group_with_best-group.result.0
 way c =
     let s = c.self.inside in
-    let it = asked c.self.inside c.self.invariant c.self.view_is c.in-Some.entry.now c.in-Some.ensures (grind arith) in
-    let none = none_told it c.tree_in-tree.ensures c.group_with_best-group.ensures.best c.in_default-best.is in
-    let not_zero = sym c.is_for_zero.ensures ∙ c.if-is_for_zero.false in
+    let e = c.in-Some.entry.now in
+    let it = asked s c.self.invariant c.self.view_is e c.in-Some.ensures (grind arith) in
+    let by = partner_by s c.self.invariant c.self.view_is c.args.spot.page e c.in-Some.ensures
+    c.are_lawful.ensures.led c.are_lawful.ensures.found c.tree_in-tree.ensures in
     let kept_dups = c.group_with_best-group.ensures.kept in
-    let may = enters it c.are_lawful.ensures.led c.are_lawful.ensures.found c.tree_in-tree.ensures none not_zero c.group_with_best-group.result.0 c.group_with_best-group.ensures.none in
+    let lone = entered_lone it c.tree_in-tree.ensures _ c.group_with_best-group.ensures.none in
+    let h = held_of s.rows.pass e in
+    let of_home = tree_is s.knobs c.self.invariant.by_node h.row ∙ sym (c.tree_in-tree.ensures h.row refl) in
     elim c.match-in_tree.branch [
       | in-Some-in_tree+then-ne+else-waits w ↦
-          rw (w.self-inside-is, kept_dups, w.leave_tree.ensures)
-          (enters_for it c.are_lawful.ensures.led c.are_lawful.ensures.found c.tree_in-tree.ensures none not_zero c.group_with_best-group.result.0 c.group_with_best-group.ensures.none
-          (sym w.in-Some-in_tree.ensures) (grind arith) w.waits.ensures w.if-waits.false)
+          rw (w.self-inside-is, kept_dups, w.leave_tree.ensures) (record {
+            asked = still_asked it w.in-Some-in_tree.other.page (grind arith) w.if-waits.false w.waits.ensures;
+            lone = lone;
+            lonely = grind (arith, by, w.in-Some-in_tree.ensures, w.waits.ensures, w.if-waits.false);
+            free = free_but s.rows c.are_lawful.ensures.found c.args.spot.page h of_home (sym w.in-Some-in_tree.ensures);
+          })
       | in-Some-in_tree+else-ne w ↦
           let own : w.in-Some-in_tree.other.page ≡ c.args.spot.page =
           grind (arith, same_page_eq w.in-Some-in_tree.other.page c.args.spot.page, w.if-ne.ensures) in
-          rw (w.self-inside-is, kept_dups) (may (inr (sym w.in-Some-in_tree.ensures ∙ ap Some own)))
+          rw (w.self-inside-is, kept_dups) (record {
+            asked = it;
+            lone = lone;
+            lonely = grind (arith, by, w.in-Some-in_tree.ensures, own, same_page_refl c.args.spot.page);
+            free = free_by s.rows c.are_lawful.ensures.found c.args.spot.page h of_home (inr (sym w.in-Some-in_tree.ensures ∙ ap Some own));
+          })
       | in_default-in_tree w ↦
-          rw (w.self-inside-is, kept_dups) (may (inl (grind arith)))
+          rw (w.self-inside-is, kept_dups) (record {
+            asked = it;
+            lone = lone;
+            lonely = grind (arith, by, w.in_default-in_tree.ensures);
+            free = free_by s.rows c.are_lawful.ensures.found c.args.spot.page h of_home (inl (grind arith));
+          })
     ]
 
 pub enter-requires-clause-own : goal.enter-requires-clause-own
@@ -85,15 +102,19 @@ invariant_of-self-in_err-enter c =
 pub returns-in_err-enter-clause-refused : goal.returns-in_err-enter-clause-refused
 returns-in_err-enter-clause-refused c =
     on_err c.from_residual.result
-    (entered_not (way (goal.at.returns-in_err-enter-clause-refused c).After-enter-arg-1) c.in_err-enter.ensures.kept)
+    (rw c.in_err-enter.ensures.kept (way (goal.at.returns-in_err-enter-clause-refused c).After-enter-arg-1).asked.seen_as)
 
 pub returns-in_err-enter-clause-restless : goal.returns-in_err-enter-clause-restless
 returns-in_err-enter-clause-restless c =
-    on_err c.from_residual.result (enters_restless (way (goal.at.returns-in_err-enter-clause-restless c).After-enter-arg-1))
+    let it = asked c.self.inside c.self.invariant c.self.view_is c.in-Some.entry.now c.in-Some.ensures (grind arith) in
+    on_err c.from_residual.result (grind (arith, known it c.tree_in-tree.ensures))
 
 pub invariant_of-self-2 : goal.invariant_of-self-2
-invariant_of-self-2 c = (entered_then (way (goal.at.invariant_of-self-2 c).After-enter-arg-1) c.in_ok-enter.ensures.waits).lawful
+invariant_of-self-2 c = (entered (way (goal.at.invariant_of-self-2 c).After-enter-arg-1) c.in_ok-enter.ensures.waits).lawful
 
 pub returns-clause-found : goal.returns-clause-found
 returns-clause-found c =
-    entered_waits (way (goal.at.returns-clause-found c).After-enter-arg-1) c.if-not-entry.false c.in_ok-enter.ensures.waits
+    let it = asked c.self.inside c.self.invariant c.self.view_is c.in-Some.entry.now c.in-Some.ensures (grind arith) in
+    let entered_so = way (goal.at.returns-clause-found c).After-enter-arg-1 in
+    grind (arith, known it c.tree_in-tree.ensures, c.group_with_best-group.ensures.best, c.in_default-best.is, c.is_for_zero.ensures,
+      entered_so.lonely, (entered entered_so c.in_ok-enter.ensures.waits).told_as)
