@@ -1,7 +1,8 @@
--- The rows of what is held, once that of one page came, went or changed; and rows that wait no more.
-use Rattle.ksm_pages.proofs.Names.{[], arith, Bool, change_held, change_row, Entry, false, filter_mapped, find_mapped, GuestPage, Held, held_at, held_in, List, map-append, map_mapped, marked, Named}
-use Rattle.ksm_pages.proofs.Names.{None, Option, option_map, PageState, refl, Row, row_at, rows_of, rules, settled, settled_state, Slab, waiting_state, with_held, with_row, without_held, without_page}
-use Rattle.ksm_pages.proofs.Names.{ℕ, ◌∷◌, ◌≡◌}
+-- The rows of what is held, and their tally, once that of one page came, went or changed; and rows that wait no more.
+use Rattle.ksm_pages.proofs.Names.{[], arith, Bool, CanMove, change_held, change_row, count_by, count_by-le-length, count_change_row, count_with_row, count_without_page, Entry, false, filter_mapped}
+use Rattle.ksm_pages.proofs.Names.{find_mapped, GuestPage, Held, held_at, held_in, InPageOrder, IsMoved, IsTally, length, length-map, List, map-append, map_mapped, marked, Named, None, one_if, Option}
+use Rattle.ksm_pages.proofs.Names.{option_map, PageState, Private, refl, Row, row_at, rows_of, rules, settled, settled_state, Slab, Some, Tally, waiting_state, with_held, with_row, without_held}
+use Rattle.ksm_pages.proofs.Names.{without_page, ℕ, ◌+◌, ◌<◌, ◌^◌, ◌∷◌, ◌≡◌, ◌≤◌}
 use Rattle.ksm_pages.proofs.Options.{none_mapped}
 
 -- where a change of what is held changes its row by g, the rows have g at the row of the page
@@ -43,3 +44,38 @@ idle_settled r idle = λ i. record r { state = same r.state idle i }
   where
     same : (state : PageState) → waiting_state state ≡ false → settled_state state ≡ state
     same state is = grind arith
+
+module _ {rows : List Row} (rise : InPageOrder rows) (page : GuestPage) {old : Row} (found : row_at page rows ≡ Some old) {tally : Tally} (later : Tally) (are : IsTally rows tally) where
+  -- the row of a page went to another state
+  module _ (new : Row) where
+    abbrev changed : List Row
+    changed = change_row page (λ _. new) rows
+
+    room : length rows < 2 ^ 64 → (p : Row → Bool) {n : ℕ} → n ≡ count_by p rows → n + one_if (p new) < 2 ^ 64 + one_if (p old)
+    room few p is = grind (arith, count_change_row p page (λ _. new) rows old rise found, count_by-le-length, length-map)
+
+    has : (p : Row → Bool) {n : ℕ} → n ≡ count_by p rows → one_if (p old) ≤ n
+    has p is = omega (arith, count_without_page p page rows old rise found, is)
+
+    -- a tally of the rows can take one row from its state to another
+    pub can_move : length rows < 2 ^ 64 → CanMove old.state new.state tally
+    can_move few = search (rules, has, room few)
+
+    meets : (p : Row → Bool) {n m : ℕ} → n ≡ count_by p rows → m + one_if (p old) ≡ n + one_if (p new) → m ≡ count_by p changed
+    meets p is moved = grind (arith, count_change_row p page (λ _. new) rows old rise found)
+
+    -- a tally moved from a row's old state to its new one counts the rows with that row changed
+    pub tally_changed : IsMoved old.state new.state tally later → IsTally changed later
+    tally_changed moved = search (rules, meets)
+
+  -- the row of a page went
+  left : (p : Row → Bool) {n m : ℕ} → n ≡ count_by p rows → m + one_if (p old) ≡ n + 0 → m ≡ count_by p (without_page page rows)
+  left p is moved = grind (arith, count_without_page)
+
+  -- a tally moved from a row's state to Private counts the rows without that row
+  pub tally_gone : IsMoved old.state Private tally later → IsTally (without_page page rows) later
+  tally_gone moved = search (rules, left)
+
+-- a Private row that comes leaves the tally as it is
+pub tally_put : {rows : List Row} (row : Row) {tally : Tally} → row_at row.page rows ≡ None → row.state ≡ Private → IsTally rows tally → IsTally (with_row row rows) tally
+tally_put {rows} row absent alone are = search (rules, count_with_row)

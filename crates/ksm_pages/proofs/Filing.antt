@@ -1,11 +1,14 @@
--- Entries under keys and the order of their pages: what is found, and what one entry that came, went or changed leaves.
-use Rattle.ksm_pages.proofs.Names.{All, All-filter, All-map, ap, ap₂, AreAscending, AreFiled, arith, Bool, change_held, comes_before, Entry, false, Fills, filter, filter_mapped, filter_passes, find}
-use Rattle.ksm_pages.proofs.Names.{find_mapped, find_passes, get, get_or, get_or-map, GuestPage, Held, held_at, held_in, held_of, held_under, if◌then◌else◌, InPageOrder, is_of, IsRows, IsUnder}
-use Rattle.ksm_pages.proofs.Names.{key_in, List, map, map-append, map_alike, map_fixed, map_mapped, marked, Named, named_of, None, not, option_map, pairs_mapped, refl, rows_of, RowsView, rules}
-use Rattle.ksm_pages.proofs.Names.{same_page, same_page_eq, same_page_refl, same_Some, Slab, Some, sym, true, with_held, with_named, without_held, without_named, ℕ, ◌==◌, ◌∙◌, ◌≡◌, ◌≢◌}
+-- Entries under keys and the order of their pages: what is found there, and what entries leave that come, go or change.
+use Rattle.ksm_pages.proofs.Names.{[], All, All-filter, All-map, ap, ap₂, AreAscending, AreFiled, AreListed, arith, Bool, CalledAt, change_held, comes_before, count_by, count_mapped, count_none}
+use Rattle.ksm_pages.proofs.Names.{Entry, false, Fills, filter, filter_mapped, filter_passes, find, find_all, find_mapped, find_passes, forgotten, get, get_or, get_or-map, GuestPage, Held, held_at}
+use Rattle.ksm_pages.proofs.Names.{held_in, held_of, held_under, holds, if◌then◌else◌, InPageOrder, is_of, IsRows, IsTally, IsUnder, key_in, List, Listing, map, map-append, map_alike, map_fixed}
+use Rattle.ksm_pages.proofs.Names.{map_mapped, marked, mergeable_pages, merged_state, MutBor, Named, named_of, None, not, Not, on_row, Option, option_map, out_of_tree, PageState, pairs_mapped, refl}
+use Rattle.ksm_pages.proofs.Names.{RetainsFrom, Row, rows_of, RowsView, rules, same_page, same_page_eq, same_page_refl, same_Some, settled, settled_state, Slab, Some, sym, Tally, true, visited}
+use Rattle.ksm_pages.proofs.Names.{waiting_state, with_held, with_named, without_held, without_named, zero_state, ℕ, ◌+◌, ◌==◌, ◌∙◌, ◌∷◌, ◌≡◌, ◌≢◌, ◌≤◌}
 use Rattle.ksm_pages.proofs.Options.{mapped_some, none_mapped}
 use Rattle.ksm_pages.specs.declared.rows.Rows.TheInside.{Inside}
 use Rattle.ksm_pages.proofs.Found.{each_found, find_change, find_gone, find_gone_other, find_put, find_put_other}
+use Rattle.ksm_pages.specs.declared.row.Kind.TheVariants as kinds
 
 abbrev pub page_of : Named → GuestPage
 page_of n = n.page
@@ -82,12 +85,9 @@ module _ (slab : Slab Entry) (order : List Named) (rise : AreAscending order) (f
       abbrev mark : Named → Named
       mark n = if is_of e.page n then record n { mergeable = e'.mergeable } else n
 
-      find_marked : (page : GuestPage) → find (is_of page) (marked e.page e'.mergeable order) ≡ option_map mark (find (is_of page) order)
-      find_marked page = find_change _ e.page _ (λ n. refl) page _
-
       -- where one entry is written anew and its page marked with its flag, pages are named as their entries say
       pub filed_marked : AreFiled later (marked e.page e'.mergeable order)
-      filed_marked n = grind (arith, find_marked, elsewhere, named_under, same_page_eq)
+      filed_marked n = grind (arith, find_change page_of e.page (λ m. record m { mergeable = e'.mergeable }) (λ m. refl) n.page order, elsewhere, named_under, same_page_eq)
 
       -- where the flag stays, the order says so already
       pub unmarked : e'.mergeable ≡ e.mergeable → order ≡ marked e.page e'.mergeable order
@@ -177,13 +177,23 @@ abbrev pub AreRows : Inside → Type 0
 AreRows s = IsRows s.entries s.order s.restless s.tally s.pass
 
 module _ (s : Inside) (are : AreRows s) where
+  abbrev row_by : Named → Row
+  row_by n = (held_under s.pass (get s.entries n.key)).row
+
+  all_pages : All (λ n. (row_by n).page ≡ n.page) s.order
+  all_pages k d lt = page_under s.pass s.entries (all_stand s.entries s.order are.ascending are.filed k d lt)
+
+  all_flags : All (λ n. (row_by n).mergeable ≡ n.mergeable) s.order
+  all_flags k d lt = grind (arith, all_stand s.entries s.order are.ascending are.filed k d lt)
+
+  -- the rows, one for each page of the order
+  rows_by : rows_of (all_held s) ≡ map row_by s.order
+  rows_by = map_mapped _ _ _ _ (λ k d lt. refl)
+
   -- the rows are in the order of their pages
   pub rows_rise : InPageOrder (rows_of (all_held s))
-  rows_rise =
-      pairs_mapped _ (λ r s. comes_before r.page s.page ≡ true) (λ h. h ≡ h) (λ h. h.row) (λ h g p q less. less) _ (λ k d lt. refl)
-      (pairs_mapped (λ m n. comes_before m.page n.page ≡ true) (λ h g. comes_before h.row.page g.row.page ≡ true)
-      (λ n. (held_by s.pass s.entries n).row.page ≡ n.page) (held_by s.pass s.entries) (λ m n p q less. ap₂ comes_before p q ∙ less) s.order
-      (λ k d lt. page_under _ s.entries (all_stand s.entries _ are.ascending are.filed k d lt)) are.ascending)
+  rows_rise = rw rows_by (pairs_mapped (λ m n. comes_before m.page n.page ≡ true) (λ r t. comes_before r.page t.page ≡ true)
+      (λ n. (row_by n).page ≡ n.page) row_by (λ m n p q less. ap₂ comes_before p q ∙ less) s.order all_pages are.ascending)
 
   -- an entry is found as the row of its page
   pub row_found : (key : ℕ) (e : Entry) → get s.entries key ≡ Some e → held_at e.page (all_held s) ≡ Some (held_of s.pass e)
@@ -199,3 +209,131 @@ module _ (s : Inside) (are : AreRows s) where
   rows_all P each = All-map P _ s.order (λ k d lt.
       let u = under_named s.entries _ (all_stand s.entries _ are.ascending are.filed k d lt) in
       rw u.stands (each _ u.entry u.stands))
+
+  -- the first page that passes a test is the same in the rows and in the order
+  pub page_found : (test : GuestPage → Bool)
+      → option_map (λ r. r.page) (find (λ r. test r.page) (rows_of (all_held s))) ≡ option_map page_of (find (λ n. test n.page) s.order)
+  page_found test =
+      let same : (n : Named) → find (λ m. test m.page) s.order ≡ Some n → (row_by n).page ≡ n.page =
+      λ n is. find_all _ (λ m. (row_by m).page ≡ m.page) _ n is all_pages in
+      grind (arith, rows_by, find_mapped row_by (λ r. test r.page) (λ n. test n.page) s.order (λ k d lt. ap test (all_pages k d lt)), same)
+
+  -- as many rows are mergeable as pages are named so in the order
+  pub flags_counted : count_by (λ r. r.mergeable) (rows_of (all_held s)) ≡ count_by (λ n. n.mergeable) s.order
+  flags_counted = grind (arith, rows_by, count_mapped, all_flags)
+
+  -- the pages that a scan visits are the same in the rows and in the order
+  pub pages_by : mergeable_pages (rows_of (all_held s)) ≡ visited s.order
+  pages_by =
+      ap mergeable_pages rows_by
+      ∙ ap (map (λ (r : Row). r.page)) (filter_mapped _ _ _ _ all_flags)
+      ∙ map_mapped _ _ _ _ (All-filter _ (λ n. (row_by n).page ≡ n.page) _ all_pages)
+
+-- each call of a retain keeps its entry and changes it by g
+module _ {F : Type 0} (step : F → ℕ → MutBor Entry → Bool → MutBor Entry → F → Type 0) (g : Entry → Entry)
+    (says : (f : F) (k : ℕ) (old : Entry) (keep : Bool) (new : Entry) (next : F) → CalledAt step f k old keep new next → (keep ≡ true) × (new ≡ g old)) where
+  retained_all : (f : F) (key : ℕ) (slots kept : List (Option Entry)) → RetainsFrom step f key slots kept → kept ≡ map (option_map g) slots
+  retained_all f key [] kept r = r
+  retained_all f key (None ∷ rest) kept (later, is, r) = grind (arith, is, retained_all f (key + 1) rest later r)
+  retained_all f key (Some old ∷ rest) kept (keep, new, next, called, later, is, r) =
+      grind (arith, is, says f key old keep new next called, retained_all next (key + 1) rest later r)
+
+  -- so each entry is changed by g
+  pub retained_each : (f : F) (slab later : Slab Entry) → RetainsFrom step f 0 slab.slots later.slots → (k : ℕ) → get later k ≡ option_map g (get slab k)
+  retained_each f slab later r = each_mapped slab later g (retained_all f 0 slab.slots later.slots r)
+
+-- rows whose states are read alike before and after a change are counted alike
+counts_alike : (f : Held → Held) (p q : PageState → Bool) → ((h : Held) → p (f h).row.state ≡ q h.row.state) → (held : List Held)
+    → count_by (λ r. p r.state) (rows_of (map f held)) ≡ count_by (λ r. q r.state) (rows_of held)
+counts_alike f p q same held =
+    ap (count_by (λ r. p r.state)) (map_mapped (λ (h : Held). h.row) f (λ (h : Held). (f h).row) held (λ k d lt. refl))
+    ∙ count_mapped (λ (h : Held). (f h).row) (λ r. p r.state) (λ h. q h.row.state) _ (λ k d lt. same (get_or held k d))
+    ∙ sym (grind (arith, count_mapped))
+
+-- the tally of rows of which none waits any more
+tally_settled : (f : Held → Held) → ((h : Held) → (f h).row.state ≡ settled_state h.row.state) → (held : List Held) {tally : Tally}
+    → IsTally (rows_of held) tally → IsTally (rows_of (map f held)) (record tally { waiting = 0 })
+tally_settled f is held are = record {
+  merged = are.merged ∙ sym (counts_alike f merged_state merged_state (λ h. grind (arith, is h)) held);
+  waiting = sym (counts_alike f waiting_state (λ s. false) (λ h. grind (arith, is h)) held
+      ∙ count_none (λ r. false) (rows_of held) (λ k d lt. refl));
+  zero = are.zero ∙ sym (counts_alike f zero_state zero_state (λ h. grind (arith, is h)) held);
+}
+
+-- entries in an order are lawful rows, with a list, a tally and a pass, and are seen as these
+pub record AreSeen (slab : Slab Entry) (order : List Named) (restless : Listing) (tally : Tally) (pass : ℕ) (these : List Held) : Type 0 where
+  pub rows : IsRows slab order restless tally pass
+  pub seen : held_in pass slab order ≡ these
+
+-- an entry that is not unchanged
+abbrev pub plain : Entry → Entry
+plain e = record e { unchanged = false }
+
+-- an entry to which the unstable tree does not lead
+abbrev pub out : Entry → Entry
+out e = record e { in_tree = Not }
+
+module _ {slab : Slab Entry} {order : List Named} {restless : Listing} {tally : Tally} {pass : ℕ} (are : IsRows slab order restless tally pass) where
+  abbrev held : List Held
+  held = held_in pass slab order
+
+  module _ (later : Slab Entry) (after : ℕ) (g : Entry → Entry) (all : (k : ℕ) → get later k ≡ option_map g (get slab k))
+      (same : (e : Entry) → ((g e).page ≡ e.page) × ((g e).mergeable ≡ e.mergeable) × ((g e).kind ≡ e.kind)) where
+    all_filed : AreFiled later order
+    all_filed n = search (rules, all, same)
+
+    all_from : (P : Entry → Type 0) → ((k : ℕ) (e : Entry) → get slab k ≡ Some e → P (g e)) → (k : ℕ) (e : Entry) → get later k ≡ Some e → P e
+    all_from P holds k e stands = grind (arith, mapped_some, all k)
+
+    all_listed : restless.known ≡ true → AreListed later restless.pages
+    all_listed known = search (rules, all_from, all, same)
+
+    -- once each entry is changed, but for its page, flag and kind, so that its row is changed by f, all rows are
+    all_seen : (f : Held → Held) → ((k : ℕ) (e : Entry) → get slab k ≡ Some e → held_of after (g e) ≡ f (held_of pass e))
+        → ((k : ℕ) (e : Entry) → get slab k ≡ Some e → (g e).kind ≡ kinds.Own → (g e).number ≤ after) → 1 ≤ after
+        → {new : Tally} → IsTally (rows_of (map f held)) new → AreSeen later order restless new after (map f held)
+    all_seen f is fits counting tallied =
+        let seen : held_in after later order ≡ map f held = search (rules, map_mapped, all_stand, all) in
+        record {
+          rows = record {
+            ascending = are.ascending;
+            filed = all_filed;
+            listed = all_listed;
+            counted = rw seen tallied;
+            begun = all_from _ fits;
+            counting = counting;
+          };
+          seen = seen;
+        }
+
+  -- in the next pass no row waits
+  pub next : AreSeen slab order restless (record tally { waiting = 0 }) (pass + 1) (map (on_row settled) held)
+  next =
+      all_seen slab (pass + 1) (λ e. e) (λ k. grind arith) (λ e. (refl, refl, refl)) (on_row settled) (λ k e stands. grind arith)
+      (λ k e stands own. grind arith) (omega arith) (tally_settled (on_row settled) (λ h. refl) _ are.counted)
+
+  module _ (later : Slab Entry) where
+    -- nor in pass 1, once each entry forgot its pass
+    pub anew : ((k : ℕ) → get later k ≡ option_map forgotten (get slab k))
+        → AreSeen later order restless (record tally { waiting = 0 }) 1 (map (on_row settled) held)
+    anew slots =
+        all_seen later 1 forgotten slots (λ e. (refl, refl, refl)) (on_row settled) (λ k e stands. grind arith)
+        (λ k e stands own. grind arith) (omega arith) (tally_settled (on_row settled) (λ h. refl) _ are.counted)
+
+    -- once no entry is unchanged any more, each row is seen as not unchanged, and else as it was
+    pub plain_seen : ((k : ℕ) → get later k ≡ option_map plain (get slab k))
+        → AreSeen later order restless tally pass (map (on_row (λ r. record r { unchanged = false })) held)
+    plain_seen slots =
+        all_seen later pass plain slots (λ e. (refl, refl, refl)) (on_row (λ r. record r { unchanged = false })) (λ k e stands. refl)
+        are.begun are.counting (record {
+          merged = are.counted.merged ∙ sym (counts_alike _ merged_state merged_state (λ h. refl) held);
+          waiting = are.counted.waiting ∙ sym (counts_alike _ waiting_state waiting_state (λ h. refl) held);
+          zero = are.counted.zero ∙ sym (counts_alike _ zero_state zero_state (λ h. refl) held);
+        })
+
+    -- once the unstable tree leads to no entry, each row is seen so, and waits no more
+    pub out_seen : ((k : ℕ) → get later k ≡ option_map out (get slab k))
+        → AreSeen later order restless (record tally { waiting = 0 }) pass (map out_of_tree held)
+    out_seen slots =
+        all_seen later pass out slots (λ e. (refl, refl, refl)) out_of_tree (λ k e stands. grind arith)
+        are.begun are.counting (tally_settled out_of_tree (λ h. refl) _ are.counted)

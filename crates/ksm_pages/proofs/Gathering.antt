@@ -1,8 +1,8 @@
 -- A walk along the order that lists the pages that a visit may change.
-use Rattle.ksm_pages.proofs.Names.{[], after_cursor, All, All-map, Any-from_list_any, ap, AreAscending, AreFiled, AreListed, arith, before_irrefl, Bool, comes_before, Entry, false, filter, find}
-use Rattle.ksm_pages.proofs.Names.{find_all, find_none, find_passes, FindsNext, get, GuestPage, has_item, held_of, IfNone, IfSome, inl, InPageOrder, inr, is_of, is_restless, is_some, IsAddedTo}
-use Rattle.ksm_pages.proofs.Names.{IsUnder, length, List, Listing, Named, named_of, None, not, one_before, Option, option_map, Row, rows_of, same_page, same_page_eq, same_page_refl, same_Some}
-use Rattle.ksm_pages.proofs.Names.{shared_state, Slab, Some, Spot, subst, sym, true, ℕ, ◌<◌, ◌∙◌, ◌∷◌, ◌≡◌, ◌≤◌, ◌⊎◌}
+use Rattle.ksm_pages.proofs.Names.{[], after_cursor, All, All-map, Any-from_list_any, AreAscending, AreFiled, AreListed, arith, before_irrefl, Bool, comes_before, Entry, false, filter, find}
+use Rattle.ksm_pages.proofs.Names.{find_all, find_none, find_passes, FindsNext, get, GuestPage, has_item, held_of, IfNone, IfSome, InPageOrder, is_of, is_restless, is_some, IsAddedTo}
+use Rattle.ksm_pages.proofs.Names.{IsUnder, length, List, Listing, Named, named_of, None, not, one_before, Option, option_map, Row, rows_of, same_page, same_page_eq}
+use Rattle.ksm_pages.proofs.Names.{shared_state, Slab, Some, Spot, subst, true, ℕ, ◌<◌, ◌∙◌, ◌∷◌, ◌≡◌, ◌≤◌}
 use Rattle.ksm_pages.specs.Paged.{is_restless as may_change}
 use Rattle.ksm_pages.proofs.Found.{first_found}
 use Rattle.ksm_pages.proofs.Filing.{all_held, all_stand, AreRows, named_under, one_key, rows_all, under_named}
@@ -22,16 +22,11 @@ all_listed P pages all page has =
 abbrev pub AreListedUpTo : Slab Entry → Option GuestPage → Listing → Type 0
 AreListedUpTo slab last l = l.known ≡ true → (key : ℕ) (e : Entry) → get slab key ≡ Some e → is_restless e ≡ true → after_cursor last e.page ≡ false → has_item e.page l.pages ≡ true
 
--- a filter that lets less through leaves no more
-filter_least : {X : Type 0} (p q : X → Bool) (ys : List X) → ((y : X) → q y ≡ true → p y ≡ true) → length (filter q ys) ≤ length (filter p ys)
-filter_least p q [] less = omega arith
-filter_least p q (z ∷ zs) less = grind (arith, filter_least p q zs less)
-
--- and fewer, where it stops what the other finds first
-filter_fewer : {X : Type 0} (p q : X → Bool) (xs : List X) (x : X) → find p xs ≡ Some x → q x ≡ false → ((y : X) → q y ≡ true → p y ≡ true) → length (filter q xs) < length (filter p xs)
-filter_fewer p q [] x found out less = cc
-filter_fewer p q (y ∷ ys) x found out less =
-    grind (arith, found, out, less y, filter_fewer p q ys x, filter_least p q ys less)
+-- a filter that lets less through leaves no more, and fewer, where it stops what the other finds first
+filter_fewer : {X : Type 0} (p q : X → Bool) (xs : List X) (x : X) → ((y : X) → q y ≡ true → p y ≡ true)
+    → (length (filter q xs) ≤ length (filter p xs)) × (find p xs ≡ Some x → q x ≡ false → length (filter q xs) < length (filter p xs))
+filter_fewer p q [] x less = grind arith
+filter_fewer p q (y ∷ ys) x less = grind (arith, less y, filter_fewer p q ys x less)
 
 module _ (slab : Slab Entry) (order : List Named) (rise : AreAscending order) (filed : AreFiled slab order) where
   module _ (last : Option GuestPage) {n : Named} (found : find (λ m. after_cursor last m.page) order ≡ Some n) where
@@ -41,35 +36,29 @@ module _ (slab : Slab Entry) (order : List Named) (rise : AreAscending order) (f
 
     -- behind the next page there are fewer pages than behind the cursor
     pub fewer_behind : length (filter (λ m. comes_before n.page m.page) order) < length (filter (λ m. after_cursor last m.page) order)
-    fewer_behind = grind (arith, filter_fewer, before_irrefl, find_passes)
+    fewer_behind = grind (arith, before_irrefl, filter_fewer (λ m. after_cursor last m.page) (λ m. comes_before n.page m.page) order n (λ m behind.
+        grind (arith, find_passes (λ m. after_cursor last m.page) order n found)))
 
-    -- an entry that is not behind it is its own, or was not behind the last
-    passed : (key : ℕ) {e : Entry} → get slab key ≡ Some e → comes_before n.page e.page ≡ false → (e.page ≡ n.page) ⊎ (after_cursor last e.page ≡ false)
-    passed key {e} stands not_behind =
+    -- an entry that is not behind it, nor its own, was not behind the last
+    passed : (key : ℕ) {e : Entry} → get slab key ≡ Some e → comes_before n.page e.page ≡ false → same_page n.page e.page ≡ false → after_cursor last e.page ≡ false
+    passed key {e} stands not_behind apart =
         let first = find_all (is_of e.page) (λ m. after_cursor last m.page ≡ true → comes_before m.page n.page ≡ false)
         order (named_of key e) (grind (arith, named_under))
         (first_found (λ m. m.page) (λ m. after_cursor last m.page) order n rise found) in
-        grind (arith, first, one_before, same_page_eq)
+        grind (arith, first, one_before)
 
     module _ (old new : Listing) (listed : AreListedUpTo slab last old) where
       -- where the next page is added, the pages up to that page are listed that a visit may change
       pub one_added : IsAddedTo n.page old new → AreListedUpTo slab (Some n.page) new
       one_added added known key e stands may not_behind =
           let is = added known in
-          is.1 e.page ∙ elim (passed key stands not_behind) [
-            | inl same ↦ grind (arith, same, same_page_refl)
-            | inr before ↦ grind (arith, listed is.0 key e stands may before)
-          ]
+          is.1 e.page ∙ grind (arith, passed key stands not_behind, listed is.0 key e stands may)
 
       -- where no visit changes the next page, the list has all up to that page that a visit may change
       pub one_passed : {e : Entry} → get slab n.key ≡ Some e → is_restless e ≡ false → new ≡ old → AreListedUpTo slab (Some n.page) new
-      one_passed {e} here calm is known key f stands may not_behind = elim (passed _ stands not_behind) [
-        | inl same ↦
-            let u = next_stands in
-            let is_it = same_Some f e (sym stands ∙ ap (get slab) (one_key slab _ filed stands u.stands (same ∙ sym u.of_page)) ∙ here) in
-            absurd (grind arith)
-        | inr before ↦ (λ i. has_item f.page (is i).pages) ∙ listed (grind arith) key f stands may before
-      ]
+      one_passed {e} here calm is known key f stands may not_behind =
+          let of_it : e.page ≡ n.page = grind (arith, next_stands.stands, next_stands.of_page) in
+          grind (arith, passed key stands not_behind, listed (grind arith) key f stands may, one_key slab order filed stands here, same_page_eq n.page f.page)
 
   -- where no page is behind the cursor, all pages are listed that a visit may change
   pub all_passed : (last : Option GuestPage) → find (λ m. after_cursor last m.page) order ≡ None → (l : Listing) → AreListedUpTo slab last l → l.known ≡ true → AreListed slab l.pages

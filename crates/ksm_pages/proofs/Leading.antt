@@ -1,18 +1,20 @@
--- The unstable tree: what a key that came to a place or went from it leaves of what is found.
-use Rattle.ksm_pages.proofs.Names.{[], ap, arith, Bool, BTreeMap, bytes_eq, cases_Bool, Content, content_of, content_order, digest, drop, drop_more, Entry, eq_bytes, false, get_or, get_or-set_at}
-use Rattle.ksm_pages.proofs.Names.{get_or_from_slice_get, if◌then◌else◌, inl, inr, is_led, Keeps, KeepsOthers, keys_at, length, length-set, List, list_any, list_any_at, MatchOption, meets, nat_lt}
-use Rattle.ksm_pages.proofs.Names.{nat_tests, NO_KEY, not, number_of, Option, place, refl, set, set-get_or, Slab, slice_get, slice_get_within, Some, SPREAD, stands_under, suc, sym, told_equal, true}
-use Rattle.ksm_pages.proofs.Names.{turned, UnstableTree, Updates, zero, ℕ, ⊤, ◌%◌, ◌&&◌, ◌*◌, ◌+◌, ◌<◌, ◌==◌, ◌^◌, ◌∙◌, ◌∷◌, ◌≡◌}
+-- The unstable tree: what a key leaves of what is found that comes or goes, and an entry; and what rows show of it.
+use Rattle.ksm_pages.proofs.Names.{[], All, AreInTree, AreLed, AreWaitersLed, arith, Bool, BTreeMap, bytes_eq, bytes_eq-Decides, cases_Bool, Content, content_of, content_order, digest, drop, false_from_ne_true, find_alike, same_page_refl}
+use Rattle.ksm_pages.proofs.Names.{drop_more, Entry, eq_bytes, false, Fills, find, find_all, find_nothing, find_passes, get, get_or, get_or-set_at, GONE, has_content}
+use Rattle.ksm_pages.proofs.Names.{Held, held_of, holder, holds, if◌then◌else◌, inl, inr, is_in, is_led, IsFree, Keeps, KeepsOthers, keys_at, length, length-set, List, list_any, list_any_at}
+use Rattle.ksm_pages.proofs.Names.{MatchOption, meets, nat_lt, nat_tests, NO_KEY, None, not, number_of, Option, option_map, page_in_tree, place, refl, same_page_eq, set, Slab, slice_get}
+use Rattle.ksm_pages.proofs.Names.{slice_get_within, Some, SPREAD, stands_as, stands_under, StaysLed, suc, told_equal, tree_by, true, turned, UnstableTree, Updates, waiting_state, zero, ℕ, ⊤}
+use Rattle.ksm_pages.proofs.Names.{◌%◌, ◌&&◌, ◌*◌, ◌+◌, ◌<◌, ◌==◌, ◌^◌, ◌∷◌, ◌≡◌, ◌≢◌, ◌⊎◌}
 use Rattle.std.specs.Vec.{with_item}
-use Rattle.ksm_tree.proofs.Names.{bytes_eq-Decides}
+use Rattle.ksm_pages.specs.declared.rows.Rows.TheInside.{Inside}
+use Rattle.ksm_pages.proofs.Filing.{all_held, differ_by, AreRows, one_key, row_found, rows_all, view_of}
 
 -- a number becomes, by the words from one on, what it becomes by that word and then by those behind it
 pub digest_more : (number : ℕ) (bytes : List ℕ) (i : ℕ) {half : ℕ} → half ≡ turned number → i < length bytes
     → digest number (drop i bytes)
     ≡ digest ((half + get_or bytes i 0) % 2 ^ 64 * SPREAD % 2 ^ 64) (drop (i + 1) bytes)
 digest_more number bytes i is lt =
-    ap (digest number) (drop_more bytes i 0 lt)
-    ∙ ap (λ half. digest ((half + get_or bytes i 0) % 2 ^ 64 * SPREAD % 2 ^ 64) (drop (i + 1) bytes)) (sym is)
+    grind (arith, drop_more bytes i 0 lt)
 
 -- where one content comes to have a number, or comes to have none, no other content does
 pub other_numbers : (old new : BTreeMap Content ℕ) (tree : ℕ) (bytes : List ℕ) (number : Option ℕ)
@@ -22,19 +24,13 @@ pub other_numbers : (old new : BTreeMap Content ℕ) (tree : ℕ) (bytes : List 
 other_numbers old new tree bytes number updates t b apart =
     grind (arith, updates.0 (content_of t b), told_equal (content_of tree bytes) (content_of t b), eq_bytes b bytes)
 
--- where a key of a list that fails a test becomes another, one passes that did
-any_kept : (p : ℕ → Bool) (keys : List ℕ) (i key : ℕ) → p (get_or keys i 0) ≡ false → list_any p keys ≡ true
-    → list_any p (set keys i key) ≡ true
-any_kept p [] i key fails some = grind arith
-any_kept p (k ∷ keys) zero key fails some = grind arith
-any_kept p (k ∷ keys) (suc i) key fails some = grind (arith, any_kept p keys i key)
-
--- where a key of a list becomes one that fails a test, none passes that did not
-any_set : (p : ℕ → Bool) (keys : List ℕ) (i key : ℕ) → p key ≡ false → list_any p keys ≡ false
-    → list_any p (set keys i key) ≡ false
-any_set p [] i key fails none = grind arith
-any_set p (k ∷ keys) zero key fails none = grind arith
-any_set p (k ∷ keys) (suc i) key fails none = grind (arith, any_set p keys i key)
+-- where a key that fails a test becomes another, one passes still; where it becomes one that fails, none passes still
+any_set : (p : ℕ → Bool) (keys : List ℕ) (i key : ℕ)
+    → (p (get_or keys i 0) ≡ false → list_any p keys ≡ true → list_any p (set keys i key) ≡ true)
+    × (p key ≡ false → list_any p keys ≡ false → list_any p (set keys i key) ≡ false)
+any_set p [] i key = grind arith
+any_set p (k ∷ keys) zero key = grind arith
+any_set p (k ∷ keys) (suc i) key = grind (arith, any_set p keys i key)
 
 -- where each key of a list is led to, none is as if it were never taken
 all_taken : (slab : Slab Entry) (keys : List ℕ) → list_any (λ k. not (is_led slab k)) keys ≡ false
@@ -45,17 +41,6 @@ all_taken slab (k ∷ keys) led = grind (arith, nat_tests, all_taken slab keys)
 -- a tree has the places and the others of another
 abbrev pub IsAs : UnstableTree → UnstableTree → Type 0
 IsAs u old = (u.places.items ≡ old.places.items) × (u.others ≡ old.others)
-
--- one that is another is as that
-pub same_tree : (u old : UnstableTree) → u ≡ old → IsAs u old
-same_tree u old is = (ap (λ (u : UnstableTree). u.places.items) is, ap (λ (u : UnstableTree). u.others) is)
-
--- where the keys that stand in a place are written there again, the tree is as it was
-pub untouched : (u old : UnstableTree) (at : ℕ) (keys : List ℕ)
-    → u ≡ record old { places = with_item old.places at keys } → slice_get old.places.items at ≡ Some keys → IsAs u old
-untouched u old at keys is there =
-    let same = same_tree u (record old { places = with_item old.places at keys }) is in
-    (same.0 ∙ ap (set old.places.items at) (sym (get_or_from_slice_get old.places.items at keys keys there)) ∙ set-get_or old.places.items at keys, same.1)
 
 -- what stands at a place of a list once another thing is written at one of its places
 pub get_set : {X : Type 0} (xs : List X) (i j : ℕ) (x : X)
@@ -82,18 +67,7 @@ module _ (old : UnstableTree) (at : ℕ) (keys : List ℕ) (i key : ℕ)
   pub put_keeps : (slab : Slab Entry) → (key == NO_KEY) ≡ false → is_led slab (get_or keys i 0) ≡ false
       → (by_node : Bool) → Keeps by_node slab old new
   put_keeps slab taken free by_node t b k stands met =
-      grind (
-        arith,
-        nat_tests,
-        keys_set t b,
-        there,
-        free,
-        taken,
-        stands,
-        met,
-        any_kept (λ j. j == k) keys i key,
-        any_set (λ j. j == NO_KEY) keys i key,
-      )
+      grind (arith, nat_tests, keys_set t b, there, free, taken, stands, met, any_set (λ j. j == k) keys i key, any_set (λ j. j == NO_KEY) keys i key)
 
   -- and from the tree and bytes of the place a search comes to the other
   pub put_meets : (tree : ℕ) (bytes : List ℕ) → at ≡ place (length old.places.items) tree bytes → i < length keys
@@ -126,3 +100,119 @@ module _ (old new : UnstableTree) (same : new.places.items ≡ old.places.items)
       → MatchOption (keys_at old tree bytes) ⊤ (λ keys. list_any (λ k. not (is_led slab k)) keys ≡ false)
       → number_of tree bytes new.others.entries ≡ Some key → meets new tree bytes key ≡ true
   beside_meets slab key full number = grind (arith, nat_tests, keys_same tree bytes, all_taken slab)
+
+-- two numbers are one, or differ
+same_or_apart : (m n : ℕ) → (m ≡ n) ⊎ (m ≢ n)
+same_or_apart m n = grind arith
+
+module _ {by_node : Bool} {slab : Slab Entry} {u : UnstableTree} (led : AreLed by_node slab u) where
+  -- where no more entries are in the tree than were, each with its tree and bytes, it leads to all that are
+  pub led_less : {later : Slab Entry}
+      → ((t : ℕ) (b : List ℕ) (k : ℕ) → stands_as by_node t b (get later k) ≡ true → stands_as by_node t b (get slab k) ≡ true)
+      → AreLed by_node later u
+  led_less less = record {
+    at = λ t b k stands.
+        let was = led.at t b k (less t b k stands) in (was.0, was.1, λ l also. was.2 l (less t b l also));
+  }
+
+  -- so it is where one entry is written anew that is in the tree only as before
+  pub led_written : {later : Slab Entry} {key : ℕ} {d e : Entry} → Fills slab later key (Some e) → get slab key ≡ Some d → StaysLed d e
+      → AreLed by_node later u
+  led_written {later} {key} fills stood stays = led_less (λ t b k stands. grind (arith, differ_by, stood, stays, fills.others k))
+
+  -- and where one comes that is not in the tree, or one goes
+  pub led_out : {later : Slab Entry} {key : ℕ} {o : Option Entry} → Fills slab later key o → ((e : Entry) → o ≡ Some e → is_in e.in_tree ≡ false)
+      → AreLed by_node later u
+  led_out {later} {key} {o} fills out = led_less (λ t b k stands. grind (arith, differ_by, out, fills.others k))
+
+  -- where a search comes to each entry as before, the tree leads to all that are in it
+  pub led_kept : {new : UnstableTree} → Keeps by_node slab u new → AreLed by_node slab new
+  led_kept keeps = record {
+    at = λ t b k stands.
+        let was = led.at t b k stands in (was.0, keeps t b k (grind (arith, was.0)) was.1, was.2);
+  }
+
+  -- and so it does where one entry came to be in it, and a search comes to that too
+  pub led_entered : {later : Slab Entry} {key : ℕ} {d e : Entry} {new : UnstableTree} → get slab key ≡ Some d → Fills slab later key (Some e)
+      → ((k : ℕ) → stands_as by_node (tree_by by_node d.home) d.bytes (get slab k) ≡ false) → e.home ≡ d.home → e.bytes ≡ d.bytes
+      → nat_lt key GONE ≡ true → Keeps by_node slab u new → meets new (tree_by by_node d.home) d.bytes key ≡ true
+      → AreLed by_node later new
+  led_entered {later} {key} {d} {e} {new} stood fills none home bytes below keeps met = record {
+    at = λ t b k stands. elim (same_or_apart k key) [
+      | inl same ↦ (grind arith, grind (arith, here t b, stands), λ l also. grind (arith, differ_by, was t b l, here t b, none l, also, stands))
+      | inr apart ↦
+          let there = (led_kept {new = new} keeps).at t b k (was t b k apart stands) in
+          (there.0, there.1, λ l also. grind (arith, differ_by, here t b, none k, was t b, there.2 l, stands, also))
+    ];
+  }
+    where
+      here : (t : ℕ) (b : List ℕ) → stands_as by_node t b (get later key) ≡ true → (t ≡ tree_by by_node d.home) × (b ≡ d.bytes)
+      here t b stands = grind (arith, nat_tests, bytes_eq-Decides e.bytes b)
+
+      was : (t : ℕ) (b : List ℕ) (l : ℕ) → l ≢ key → stands_as by_node t b (get later l) ≡ true → stands_as by_node t b (get slab l) ≡ true
+      was t b l apart stands = grind (arith, fills.others l apart)
+
+module _ (slab later : Slab Entry) (g : Entry → Entry) (all : (k : ℕ) → get later k ≡ option_map g (get slab k)) where
+  -- the same where each is changed, and is in the tree only as before
+  pub led_mapped : ((e : Entry) → StaysLed e (g e)) → {by_node : Bool} {u : UnstableTree} → AreLed by_node slab u → AreLed by_node later u
+  led_mapped stays led = led_less led (λ t b k stands. grind (arith, all k, stays))
+
+  -- once no entry is in the tree, it leads to all that are
+  pub none_led : ((e : Entry) → is_in (g e).in_tree ≡ false) → (by_node : Bool) (u : UnstableTree) → AreLed by_node later u
+  none_led out by_node u = record { at = λ t b k stands. absurd (grind (arith, all k, out)) }
+
+-- where a key of a list passes a test, the test finds one
+found_any : (p : ℕ → Bool) {key : ℕ} → p key ≡ true → (keys : List ℕ) → list_any (λ k. k == key) keys ≡ true → find p keys ≡ None → ⊥
+found_any p passes [] has none = grind arith
+found_any p {key} passes (k ∷ keys) has none = grind (arith, nat_tests, found_any p {key = key} passes keys)
+
+module _ (by_node : Bool) (slab : Slab Entry) (u : UnstableTree) (t : ℕ) (b : List ℕ) where
+  -- the key that a search finds is that of an entry in the tree with the tree and bytes
+  pub holder_stands : {key : ℕ} → holder by_node slab u t b ≡ Some key → stands_under by_node slab t b key ≡ true
+  holder_stands is = grind (arith, find_passes)
+
+  -- where it finds none, there is no such entry
+  pub holder_none : AreLed by_node slab u → holder by_node slab u t b ≡ None → (k : ℕ) → stands_as by_node t b (get slab k) ≡ false
+  holder_none led none k = false_from_ne_true _ (λ is.
+      let at = led.at t b k is in
+      grind (arith, nat_tests, at.0, at.1, is, none, found_any (stands_under by_node slab t b) {key = k}))
+
+module _ (s : Inside) (are : AreRows s) where
+  -- a row that waits is in the tree
+  pub rows_led : AreWaitersLed (all_held s)
+  rows_led = rows_all s are (λ h. waiting_state h.row.state ≡ true → is_in h.in_tree ≡ true) (λ k e stands. grind arith)
+
+  -- what holds of all rows holds of that of each entry
+  holds_at : (P : Held → Type 0) → All P (all_held s) → (key : ℕ) (e : Entry) → get s.entries key ≡ Some e → P (held_of s.pass e)
+  holds_at P all key e stands =
+      find_all (holds e.page) P (all_held s) (held_of s.pass e) (row_found s are key e stands) all
+
+  abbrev has : ℕ → List ℕ → Held → Bool
+  has t b h = has_content s.by_node t b h
+
+  -- the row found with a tree and bytes is of the page of each entry in the tree that has these
+  pub page_found : AreLed s.by_node s.entries s.unstable → (t : ℕ) (b : List ℕ) (key : ℕ) (e : Entry) → get s.entries key ≡ Some e
+      → has t b (held_of s.pass e) ≡ true → page_in_tree (view_of s) t b ≡ Some e.page
+  page_found led t b key e stands is =
+      let it = led.at t b key (grind arith) in
+      let alike = find_alike (has t b) (holds e.page) (all_held s) (rows_all s are (λ h. has t b h ≡ holds e.page h)
+      (λ k f there. grind (arith, it.2 k, there, stands, one_key s.entries s.order are.filed there stands, same_page_eq, same_page_refl))) in
+      grind (arith, alike, row_found s are key e stands)
+
+  -- each row in the tree is found by its tree and bytes
+  pub rows_found : AreLed s.by_node s.entries s.unstable → AreInTree (view_of s)
+  rows_found led =
+      rows_all s are (λ h. is_in h.in_tree ≡ true → page_in_tree (view_of s) (tree_by s.by_node h.row.home) h.row.bytes ≡ Some h.row.page)
+      (λ k e stands in_tree. page_found led _ _ k e stands (grind (arith, bytes_eq-Decides e.bytes e.bytes)))
+
+  -- where no entry in the tree has a tree and bytes, no row is found with these
+  pub none_found : (t : ℕ) (b : List ℕ) → ((k : ℕ) → stands_as s.by_node t b (get s.entries k) ≡ false) → find (has t b) (all_held s) ≡ None
+  none_found t b none =
+      find_nothing _ _ (rows_all s are (λ h. has t b h ≡ false) (λ k e stands. grind (arith, none k)))
+
+  -- no entry in the tree has the tree and bytes of one that is not in it, where no other row has these
+  pub free_none : (key : ℕ) (e : Entry) → get s.entries key ≡ Some e → is_in e.in_tree ≡ false → IsFree (view_of s) e.page (held_of s.pass e)
+      → (k : ℕ) → stands_as s.by_node (tree_by s.by_node e.home) e.bytes (get s.entries k) ≡ false
+  free_none key e stands out free k =
+      let one = λ (f : Entry) (stood : get s.entries k ≡ Some f). one_key s.entries s.order are.filed stood stands in
+      grind (arith, holds_at (λ g. holds e.page g ≡ false → has (tree_by s.by_node e.home) e.bytes g ≡ false) free k, one, stands, out, same_page_eq)

@@ -2,14 +2,10 @@ pub mod Names
 pub mod Options
 pub mod Ranked
 pub mod Found
-pub mod Tallying
 pub mod Filing
-pub mod Led
 pub mod Changing
-pub mod Settling
 pub mod Spots
 pub mod Writing
-pub mod Reading
 pub mod Gathering
 pub mod Lodgings
 pub mod Lone
@@ -21,5 +17,4 @@ pub mod Turning
 pub mod Partners
 pub mod Visiting
 pub mod Paired
-pub mod Sorting
 pub mod Leading

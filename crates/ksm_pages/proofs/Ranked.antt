@@ -197,3 +197,6 @@ module _ (items : List Item) {now : List Named} (seen_as : map named_by items �
         let more : before - passed ≡ suc m = omega arith in
         ap (last_of cursor) (passed_is ∙ ap (λ n. take n (drop passed (visited now))) more)
         ∙ last_of_take _ m cursor (grind (arith, get_dropped, visited_at))
+
+-- what is ahead of a place of the visited pages, and how many there are
+pub ruleset ranks = (visited_many, visited_at, small_at, some_at, get_dropped, length-drop, length-filter)

@@ -1,8 +1,9 @@
--- Listed pages in order: the pages of them, those that are swept out, and those that come behind a cursor.
-use Rattle.ksm_pages.proofs.Names.{[], after_cursor, All, All-map, ap, append-nil, AreInOrder, AreSmall, arith, Bool, cases_Bool, comes_before, Entry, false, filter, get, get_or, get_or_default}
-use Rattle.ksm_pages.proofs.Names.{GuestPage, has_item, inl, inr, is_none, is_useless, IsInVain, IsPlace, length, List, list_any-append, Listed, low_spot, map-append, Named, nat_lt, nat_tests, None}
-use Rattle.ksm_pages.proofs.Names.{not, not-true, Option, page_of, pages_of, refl, rules, same_page, same_page_eq, Slab, Some, Spot, subst, suc, true, ℕ, ◌%◌, ◌++◌, ◌<◌, ◌^◌, ◌||◌, ◌∙◌, ◌∷◌, ◌≡◌, ◌≤◌}
-use Rattle.ksm_pages.proofs.Names.{◌⊎◌}
+-- Listed pages in order: those that are swept out, those that come behind a cursor, and those that are put among others.
+use Rattle.ksm_pages.proofs.Names.{[], after_cursor, All, All-append, All-drop, All-map, All-permutation, All-take, AllWithin, ap, append-nil, AreInOrder, AreSmall, arith, Bool, cases_Bool}
+use Rattle.ksm_pages.proofs.Names.{comes_before, drop, Entry, false, filter, get, get_or, get_or-drop, get_or-take, get_or_default, GuestPage, has_item, HasGap, inl, inr, insert, is_useless}
+use Rattle.ksm_pages.proofs.Names.{IsInVain, IsNonDecreasingBy, IsPermutation, IsPermutation-map, IsPlace, IsPutAmong, length, length-drop, length-take, List, list_any-append, list_any-IsPermutation}
+use Rattle.ksm_pages.proofs.Names.{Listed, low_spot, map-append, Named, nat_lt, nat_tests, not, Option, page_of, pages_of, pairs_append, same_page, same_page_eq, Slab}
+use Rattle.ksm_pages.proofs.Names.{suc, sym, take, take-append-drop, take-suc, true, ℕ, ◌%◌, ◌++◌, ◌+◌, ◌<◌, ◌^◌, ◌||◌, ◌∙◌, ◌∷◌, ◌≡◌, ◌≤◌}
 
 -- the page that is listed
 abbrev pub page_by : Listed → GuestPage
@@ -16,38 +17,21 @@ appended_has page listed more = grind (arith, map-append, list_any-append)
 pub none_added : (listed : List Listed) {added : List Listed} → added ≡ [] → pages_of listed ++ pages_of added ≡ pages_of listed
 none_added listed none = ap (λ l. pages_of listed ++ pages_of l) none ∙ append-nil _
 
-no_value : {X : Type 0} (found : Option X) → is_none found ≡ true → found ≡ None
-no_value None is = refl
-no_value (Some x) is = grind arith
-
--- a page that is swept out of the list is there in vain
-vain_of : {entries : Slab Entry} (order : List Named) (s : Spot) → is_useless order s (get entries s.key) ≡ true → IsInVain entries order s.page
-vain_of {entries} order s useless = search (rules, no_value, same_page_eq, not-true)
-
 module _ (entries : Slab Entry) (order : List Named) where
   -- whether what is listed stays
   abbrev pub stays : Listed → Bool
   stays l = not (is_useless order (low_spot l) (get entries l.row))
 
-  -- a page that is swept out of a list of small keys is there in vain
-  useless_vain : (l : Listed) → l.page < 2 ^ 48 → stays l ≡ false → IsInVain entries order (page_by l)
-  useless_vain l small gone =
-      let same : l.page % 2 ^ 48 ≡ l.page = omega (arith, small) in
-      subst (λ n. IsInVain entries order (page_of n)) same (vain_of order (low_spot l) (grind (arith, gone)))
-
-  -- a listed page stays once useless ones are swept out, or is there in vain; and other pages stay
-  pub swept_beside : (listed : List Listed) → AreSmall listed → (others : List GuestPage) {page : GuestPage} → has_item page (pages_of listed ++ others) ≡ true
-      → (has_item page (pages_of (filter stays listed) ++ others) ≡ true) ⊎ IsInVain entries order page
-  swept_beside [] small others has = inl has
-  swept_beside (l ∷ listed) small others {page} has = elim (cases_Bool (same_page (page_by l) page)) [
-    | inl here ↦ elim (cases_Bool (stays l)) [
-      | inl kept ↦ inl (grind (arith, kept, here))
-      | inr gone ↦ inr (subst (IsInVain entries order) (same_page_eq (page_by l) page here) (useless_vain l (small 0 l (omega arith)) gone))
-    ]
-    | inr not_here ↦ elim (swept_beside listed (λ k d lt. small (suc k) d (omega arith)) others {page = page} (grind (arith, has, not_here))) [
-      | inl there ↦ inl (grind (arith, there))
-      | inr vain ↦ inr vain
-    ]
+  -- a page that is listed no more once useless ones are swept out was there in vain
+  pub swept_beside : (listed : List Listed) → AreSmall listed → (others : List GuestPage) (page : GuestPage) → has_item page (pages_of listed ++ others) ≡ true
+      → has_item page (pages_of (filter stays listed) ++ others) ≡ false → IsInVain entries order page
+  swept_beside [] small others page has gone = absurd (grind arith)
+  swept_beside (l ∷ listed) small others page has gone = elim (cases_Bool (same_page (page_by l) page)) [
+    | inl here ↦
+        let low : l.page % 2 ^ 48 ≡ l.page = omega (arith, small 0 l) in
+        (l.row, grind (arith, low, same_page_eq (page_by l) page))
+    | inr not_here ↦
+        swept_beside listed (λ k d lt. small (suc k) d (omega arith)) others page (grind (arith, has, not_here)) (grind (arith, gone, not_here))
   ]
 
 -- the second page does not come before the first
@@ -78,3 +62,81 @@ module _ (cursor : Option GuestPage) {from : ℕ} (tells : (key : ℕ) → after
       above k d lt behind =
           let from_on : from ≤ (get_or listed k d).page = grind (arith, nat_tests, tells (get_or listed k d).page, behind) in
           grind (arith, from_on, place.ahead k d, rise at k d, get_or_default listed at next d)
+
+-- a page is among those that are listed in whatever order they stand
+pub shuffled_has : {listed later : List Listed} → IsPermutation listed later → (page : GuestPage) → has_item page (pages_of later) ≡ has_item page (pages_of listed)
+shuffled_has moved page = sym (list_any-IsPermutation (λ p. same_page p page) _ _ (IsPermutation-map page_by _ _ moved))
+
+-- pages that are put among others in whatever order they stand are put there
+pub put_shuffled : {old added later new : List Listed} → IsPermutation added later → IsPutAmong old later new → IsPutAmong old added new
+put_shuffled moved put = record { order = put.order; small = put.small; all = λ page. grind (arith, put.all page, shuffled_has moved page) }
+
+-- pages that are sorted together are put among each other
+pub put_sorted : {old added new : List Listed} → AreSmall old → AreSmall added → IsPermutation (old ++ added) new → AreInOrder new
+    → IsPutAmong old added new
+put_sorted {old} {added} small little moved order =
+    let Small : Listed → Type 0 = λ l. l.page < 2 ^ 48 in
+    record {
+      order = order;
+      small = All-permutation Small _ _ moved (All-append Small _ _ small little);
+      all = λ page. shuffled_has moved page ∙ appended_has page _ _;
+    }
+
+-- pages that were added, in front of an index of others
+module _ (listed added : List Listed) (rise : AreInOrder listed) (at : ℕ) (within : at ≤ length listed) where
+  front_rises : AreInOrder (take at listed)
+  front_rises i j d less lt = grind (arith, length-take at listed, get_or-take at listed i d, get_or-take at listed j d, rise i j d)
+
+  back_rises : AreInOrder (drop at listed)
+  back_rises i j d less lt = grind (arith, length-drop at listed, get_or-drop at listed i d, get_or-drop at listed j d, rise (at + i) (at + j) d)
+
+  -- where the pages in front of the index come before the first that was added, and the last of these before those behind, they
+  -- are in order there
+  pub gap_here : (low high : ℕ) → AllWithin (λ l. l.page < low) listed 0 at → AllWithin (λ l. high ≤ l.page) listed at (length listed)
+      → AreInOrder added → All (λ l. low ≤ l.page) added → All (λ l. l.page ≤ high) added → HasGap listed added at
+  gap_here low high ahead behind up from to = (
+    within,
+    pairs_append Up (take at listed) (added ++ drop at listed) front_rises
+        (pairs_append Up added (drop at listed) up back_rises
+        (λ k d lt j e less. grind (arith, to k d lt, behind (at + j) e, get_or-drop at listed j e, length-drop at listed)))
+        (λ k d lt. All-append (Up (get_or (take at listed) k d)) added (drop at listed)
+        (λ j e less. grind (arith, from j e less, ahead k d, get_or-take at listed k d, length-take at listed))
+        (λ j e less. grind (arith, lt, less, rise k (at + j), get_or-take at listed k d, length-take at listed, get_or-drop at listed j e, length-drop at listed, get_or_default listed k e d))),
+  )
+
+-- what was added in front of an index where it is in order is put among the others
+pub put_between : (listed added : List Listed) (at : ℕ) → AreSmall listed → AreSmall added → HasGap listed added at
+    → IsPutAmong listed added (take at listed ++ (added ++ drop at listed))
+put_between listed added at small new gap =
+    let Small : Listed → Type 0 = λ l. l.page < 2 ^ 48 in
+    record {
+      order = gap.1;
+      small = All-append Small (take at listed) (added ++ drop at listed) (All-take Small at listed small)
+          (All-append Small added (drop at listed) new (All-drop Small at listed small));
+      all = λ page. grind (
+        arith,
+        appended_has page (take at listed) (added ++ drop at listed),
+        appended_has page added (drop at listed),
+        appended_has page (take at listed) (drop at listed),
+        take-append-drop at listed,
+      );
+    }
+
+-- and so is one page in front of its place
+pub put_here : {listed : List Listed} (one : Listed) {at : ℕ} → AreInOrder listed → AreSmall listed → one.page < 2 ^ 48
+    → IsPlace (λ l. l.page) one.page listed at → IsPutAmong listed (one ∷ []) (insert listed at one)
+put_here {listed} one {at} rise small little place = put_between listed (one ∷ []) at small (λ k d lt. grind (arith, little))
+    (gap_here listed (one ∷ []) rise at place.within one.page one.page place.ahead place.behind
+    (λ i j d less lt. absurd (omega arith)) (λ k d lt. grind arith) (λ k d lt. grind arith))
+
+-- the pages of one more of a list
+pub taken_has : (page : GuestPage) (listed : List Listed) (i : ℕ) (d : Listed) → i < length listed
+    → has_item page (pages_of (take (i + 1) listed)) ≡ (has_item page (pages_of (take i listed)) || same_page (page_by (get_or listed i d)) page)
+taken_has page listed i d lt =
+    let next : i + 1 ≡ suc i = omega arith in
+    let more : take (i + 1) listed ≡ take i listed ++ get_or listed i d ∷ [] = ap (λ n. take n listed) next ∙ take-suc listed i d lt in
+    ap (λ ls. has_item page (pages_of ls)) more ∙ appended_has page (take i listed) (get_or listed i d ∷ []) ∙ grind arith
+
+-- pages whose keys do not fall are in order
+pub sorted_rise : (listed : List Listed) → IsNonDecreasingBy (λ l. l.page) listed → AreInOrder listed
+sorted_rise listed up i j d less lt = up i j d (omega arith) lt

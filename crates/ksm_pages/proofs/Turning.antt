@@ -1,6 +1,6 @@
 -- The pages once a call changed the row of one page, or gave it one: they are lawful, and what is seen of them changed so.
-use Rattle.ksm_pages.proofs.Names.{[], All, All-filter, All-map, altered, ap, AreAlone, AreTied, arith, Bool, change_held, changed, cond_both, dup_rows, DupsState, Err, false, frame_of, get_or}
-use Rattle.ksm_pages.proofs.Names.{get_or-map, GuestPage, Held, held_at, if◌then◌else◌, inl, InPageOrder, inr, Inside, is_alone, IsAlone, IsKnown, IsLeft, Knobs, length-map, let_out, lies_on, List}
+use Rattle.ksm_pages.proofs.Names.{[], All, All-filter, All-map, altered, ap, AreAlone, AreTied, arith, Bool, change_held, changed, cond_both, dup_rows, DupsState, Err, false, frame_of, get_or, map_fixed}
+use Rattle.ksm_pages.proofs.Names.{GuestPage, Held, held_at, if◌then◌else◌, inl, InPageOrder, inr, Inside, is_alone, IsAlone, IsKnown, IsLeft, Knobs, let_out, lies_on, List}
 use Rattle.ksm_pages.proofs.Names.{lodgings_of, map, map_mapped, MatchOption, merged_state, None, not, Ok, on_row, OnErr, OnOk, Option, option_and_then, ordered_map, ordered_with, ordered_without}
 use Rattle.ksm_pages.proofs.Names.{out_of_tree, PagesValue, PagesView, Private, refl, relaid, Result, Row, row_at, rows_of, rows_out, RowsView, rules, same_page, seen, settled, settled_state}
 use Rattle.ksm_pages.proofs.Names.{shared_state, Some, subst, sym, tied_dropped, tied_inserted, tied_left, tied_mapped, true≢false, waiting_state, with_held, with_row, without_held, without_page, ℕ}
@@ -99,16 +99,11 @@ own_left {s} {p} {page} are seen_as alone = go _ refl
   where
     go : (o : Option Held) → held_at page s.rows.held ≡ o → HasLeft s p page s.dups s.frames.items (frame_of p.lodgings page)
     go None gone = absurd (true≢false (alone_found s seen_as page gone alone))
-    go (Some h) found = record {
-      lawful = are;
-      seen_as = seen_as;
-      held = h;
-      found = found;
-      left = record {
-        dups = λ i. record s.dups { dups = sym (let_out_alone h.row.state h.row.page {dups = s.dups.dups} (alone_found s seen_as page found alone)) i };
-        frame = sym (lies s are page found seen_as);
-      };
-    }
+    go (Some h) found =
+        let own = alone_found s seen_as page found alone in
+        let left : IsLeft s.frames.items s.dups s.dups (frame_of p.lodgings page) h =
+        grind (arith, let_out_alone h.row.state h.row.page {dups = s.dups.dups} own, lies s are page found seen_as) in
+        record { lawful = are; seen_as = seen_as; held = h; found = found; left = left }
 
 rows_by : (F : Held → Held) (f : Row → Row) → ((x : Held) → (F x).row ≡ f x.row) → (held : List Held)
     → rows_of (map F held) ≡ map f (rows_of held)
@@ -161,46 +156,28 @@ module _ (s : Inside) (are : AreLawful s) (knobs : Knobs) {by_node : Bool} (is :
   Tuned = AreLawful (record s { rows = rows; knobs = knobs })
       × (seen (view_of (record s { rows = rows; knobs = knobs })) ≡ record (seen (view_of s)) { knobs = knobs })
 
-  kept_as : (now : RowsView) → InPageOrder (rows_of now.held) → AreTied (rows_of now.held) s.dups.dups
-      → now.by_node ≡ not (knobs.merge_across_nodes == 1) → AreAlone knobs now.held (dup_rows s.dups.dups)
-      → AreLawful (record s { rows = now; knobs = knobs })
-  kept_as now order tied by alone = search rules
-
-  tuned_same : by_node ≡ s.rows.by_node → rows ≡ s.rows → Tuned
-  tuned_same by same = rw same (
-    kept_as s.rows are.order are.tied (sym by ∙ is) (λ k d lt alone.
-        let row = (get_or s.rows.held k d).row in
-        rw (← tree_is knobs is row, by, tree_is s.knobs are.by_node row) (are.alone k d lt alone)),
-    refl,
-  )
-
-  tuned_out : All (λ r. waiting_state r.state ≡ false) (rows_of s.rows.held)
-      → rows ≡ record s.rows { held = map out_of_tree s.rows.held; by_node = by_node } → Tuned
-  tuned_out idle went = rw went (
-    kept_as (record s.rows { held = map out_of_tree s.rows.held; by_node = by_node }) (rw rows_stay are.order) (rw rows_stay are.tied) is
-        (All-map (IsLone knobs (dup_rows s.dups.dups)) out_of_tree s.rows.held (λ k d lt is. cc)),
-    λ i. record (seen (view_of s)) { rows = rows_stay i; frame = frame_of (lodgings_stay i); knobs = knobs },
-  )
-    where
-      stays : All (λ h. (out_of_tree h).row ≡ h.row) s.rows.held
-      stays k d lt =
-          let row : Held → Row = λ h. h.row in
-          idle_settled _ (ap (λ (r : Row). waiting_state r.state) (sym (get_or-map row s.rows.held k d))
-          ∙ idle k d.row (omega (arith, lt, length-map s.rows.held row)))
-
-      rows_stay : rows_of (map out_of_tree s.rows.held) ≡ rows_of s.rows.held
-      rows_stay = map_mapped _ out_of_tree _ s.rows.held stays
-
-      lodgings_stay : lodgings_of (of_dup s) (map out_of_tree s.rows.held) ≡ lodgings_of (of_dup s) s.rows.held
-      lodgings_stay = map_mapped _ out_of_tree _ s.rows.held (λ k d lt. grind (arith, stays k d lt))
+  -- rows that are as they were but for their trees leave the pages lawful, where those that are said to be alone are so
+  tuned_by : rows_of rows.held ≡ rows_of s.rows.held → lodgings_of (of_dup s) rows.held ≡ lodgings_of (of_dup s) s.rows.held
+      → rows.by_node ≡ by_node → AreAlone knobs rows.held (dup_rows s.dups.dups) → Tuned
+  tuned_by same lain by alone =
+      let order : InPageOrder (rows_of rows.held) = rw same are.order in
+      let tied : AreTied (rows_of rows.held) s.dups.dups = rw same are.tied in
+      let kept : AreLawful (record s { rows = rows; knobs = knobs }) = search rules in
+      (kept, λ i. record (seen (view_of s)) { rows = same i; frame = frame_of (lain i); knobs = knobs })
 
   -- knobs that keep the trees of the rows, or under which no row waits, leave the pages lawful, and are seen
   pub tuned : ((by_node ≡ s.rows.by_node) × (rows ≡ s.rows))
       ⊎ ((by_node ≡ not s.rows.by_node) × (rows ≡ record s.rows { held = map out_of_tree s.rows.held; by_node = by_node }))
       → (knobs.merge_across_nodes ≡ s.knobs.merge_across_nodes) ⊎ All (λ r. waiting_state r.state ≡ false) (rows_of s.rows.held)
       → Tuned
-  tuned (inl same) may = tuned_same same.0 same.1
-  tuned (inr went) (inr idle) = tuned_out idle went.1
+  tuned (inl same) may =
+      tuned_by (λ i. rows_of (same.1 i).held) (λ i. lodgings_of (of_dup s) (same.1 i).held) (grind (arith, same)) (rw same.1 (λ k d lt alone.
+      let row = (get_or s.rows.held k d).row in
+      rw (← tree_is knobs is row, same.0, tree_is s.knobs are.by_node row) (are.alone k d lt alone)))
+  tuned (inr went) (inr idle) =
+      tuned_by (ap rows_of (λ i. (went.1 i).held) ∙ rows_by out_of_tree settled (λ x. refl) _ ∙ map_fixed settled _ (λ k d lt. idle_settled _ (idle k d lt)))
+      (ap (lodgings_of (of_dup s)) (λ i. (went.1 i).held) ∙ map_mapped _ out_of_tree _ s.rows.held (λ k d lt. grind arith)) (λ i. (went.1 i).by_node)
+      (rw went.1 (All-map (IsLone knobs (dup_rows s.dups.dups)) out_of_tree s.rows.held (λ k d lt is. cc)))
   tuned (inr went) (inl merge) = absurd (grind (arith, are.by_node, merge, is, went.0))
 
 -- the page comes to lie where its row says, and no other page moves

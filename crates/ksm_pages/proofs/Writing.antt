@@ -1,19 +1,18 @@
 -- What each change of one row, found under its key, leaves: rows still, and what is seen of them.
-use Rattle.ksm_pages.proofs.Names.{absent_kept, altered, ap, AreLed, AreListed, arith, Bool, CanMove, change_held, change_none, Entry, false, Fills, find, find_none, get, GuestPage, has_item, Held}
-use Rattle.ksm_pages.proofs.Names.{held_at, held_in, held_of, held_under, holds, IfSome, inl, inr, is_in, is_of, is_restless, is_some, IsAddedTo, IsInVain, IsMoved, IsRows, IsUnder, key_in, length}
-use Rattle.ksm_pages.proofs.Names.{length-map, List, Listing, marked, Named, named_of, None, option_map, pages_ordered, PageState, Private, refl, row_at, rows_of, RowsView, rules, same_page_refl}
-use Rattle.ksm_pages.proofs.Names.{same_Some, shared_state, Slab, Some, state_of, StaysBegun, StaysLed, sym, Tally, true, true≢false, Updates-with_value, with_held, with_named, with_value}
+use Rattle.ksm_pages.proofs.Names.{absent_kept, altered, ap, AreLed, AreListed, arith, Bool, CanMove, change_held, change_none, Entry, false, Fills, find, find_none, get, GuestPage, has_item, Held, same_page_eq}
+use Rattle.ksm_pages.proofs.Names.{held_at, held_in, held_of, held_under, holds, IfSome, inl, inr, is_of, is_restless, is_some, IsAddedTo, IsInVain, IsMoved, IsRows, IsUnder, key_in, length}
+use Rattle.ksm_pages.proofs.Names.{length-map, List, Listing, marked, Named, named_of, None, pages_ordered, PageState, Private, refl, row_at, rows_of, RowsView, rules, same_page_refl}
+use Rattle.ksm_pages.proofs.Names.{shared_state, Slab, Some, state_of, StaysBegun, StaysLed, sym, Tally, true, Updates-with_value, with_held, with_named, with_value}
 use Rattle.ksm_pages.proofs.Names.{without_held, without_named, without_rises, ℕ, ◌<◌, ◌^◌, ◌∙◌, ◌≡◌, ◌≢◌, ◌≤◌, ◌⊎◌}
 use Rattle.ksm_pages.proofs.Options.{none_mapped}
 use Rattle.ksm_pages.specs.declared.row.Kind.TheVariants as kinds
 use Rattle.ksm_pages.specs.declared.rows.Rows.TheInside.{Inside}
-use Rattle.ksm_pages.proofs.Changing.{marked_same, row_told, rows_changed, rows_with, rows_without}
+use Rattle.ksm_pages.proofs.Changing.{marked_same, row_told, rows_changed, rows_with, rows_without, can_move, tally_changed, tally_gone, tally_put}
 use Rattle.ksm_pages.proofs.Filing.{all_filled, all_held, AreRows, filed_marked, filed_put, filed_taken, held_found, held_nowhere, named_under, one_key, put, rows_rise, taken, unmarked, view, view_of}
 use Rattle.ksm_pages.proofs.Filing.{written}
-use Rattle.ksm_pages.proofs.Led.{led_less, led_written}
+use Rattle.ksm_pages.proofs.Leading.{led_less, led_written}
 use Rattle.ksm_pages.proofs.Found.{write_rises}
 use Rattle.ksm_order.proofs.Ordered.{with_rises}
-use Rattle.ksm_pages.proofs.Tallying.{can_move, tally_changed, tally_gone, tally_put}
 
 -- a change of a page without a row leaves what is seen of the rows as it is
 pub nothing : (s : Inside) → AreRows s → (page : GuestPage) → None ≡ key_in s.order page → (f : Held → Held) {v : RowsView} → view_of s ≡ v → v ≡ altered page f v
@@ -21,37 +20,29 @@ nothing s are page told f is =
     grind (arith, change_none (holds page) f (all_held s) (find_none (holds page) (all_held s) (held_nowhere s are page told)))
 
 module _ (s : Inside) (are : AreRows s) where
-  abbrev held : List Held
-  held = all_held s
-
   module _ {page : GuestPage} {key : ℕ} (there : IsUnder s.entries page key) {e : Entry} (stood : get s.entries key ≡ Some e) where
     -- the entry is that of the page
     pub of_page : e.page ≡ page
     of_page = grind arith
 
     -- a page with an entry under its key has the row that the entry says
-    pub row_there : held_at page held ≡ Some (held_of s.pass e)
+    pub row_there : held_at page (all_held s) ≡ Some (held_of s.pass e)
     row_there = grind (arith, held_found, named_under)
 
-    found_row : row_at page (rows_of held) ≡ Some (held_of s.pass e).row
-    found_row = row_told page held row_there
+    found_row : row_at page (rows_of (all_held s)) ≡ Some (held_of s.pass e).row
+    found_row = row_told page _ row_there
 
     -- the entry of a page whose row is not shared is of the kind with frames of their own
     pub own_there : {v : RowsView} → view_of s ≡ v → IfSome (held_at page v.held) (λ h. shared_state h.row.state ≡ false)
         → e.kind ≡ kinds.Own
     own_there seen_as alone = grind (arith, row_there)
 
-    -- the unstable tree leads to the entry of a page where it leads to the page's row
-    pub led_there : {v : RowsView} → view_of s ≡ v → IfSome (held_at page v.held) (λ h. is_in h.in_tree ≡ true)
-        → is_in e.in_tree ≡ true
-    led_there seen_as led = grind (arith, row_there)
-
     -- the tally can take the row of an entry from its state to any other
     pub can_be : {from : PageState} → from ≡ state_of s.pass e → {state : PageState} → length s.order < 2 ^ 64
         → CanMove from state s.tally
     can_be is {state} few =
-        let many : length (rows_of held) < 2 ^ 64 =
-        omega (arith, length-map held (λ (h : Held). h.row), length-map s.order (λ (n : Named). held_under s.pass (get s.entries n.key)), few) in
+        let many : length (rows_of (all_held s)) < 2 ^ 64 =
+        omega (arith, length-map (all_held s) (λ (h : Held). h.row), length-map s.order (λ (n : Named). held_under s.pass (get s.entries n.key)), few) in
         rw is (can_move (rows_rise s are) _ found_row s.tally are.counted (search rules) many)
 
     -- the unstable tree leads as it did where the entry is written anew, in it only as before
@@ -73,7 +64,7 @@ module _ (s : Inside) (are : AreRows s) where
       fills = Updates-with_value _ _ _ (ap is_some stood)
 
       held_later : (f : Held → Held) → held_of s.pass e' ≡ f (held_of s.pass e)
-          → held_in s.pass later order ≡ change_held page f held
+          → held_in s.pass later order ≡ change_held page f (all_held s)
       held_later f is = grind (arith, written, fills, of_page, marked_same)
 
       -- rows with an entry written anew are lawful where the order marks its page, the tally moved, and its page is
@@ -111,7 +102,7 @@ module _ (s : Inside) (are : AreRows s) where
       stood_before : {k : ℕ} {f : Entry} → get later k ≡ Some f → (get s.entries k ≡ Some f) × (k ≢ key)
       stood_before stands = grind arith
 
-      held_gone : held_in s.pass later (without_named page s.order) ≡ without_held page held
+      held_gone : held_in s.pass later (without_named page s.order) ≡ without_held page (all_held s)
       held_gone = grind (arith, of_page, taken, fills)
 
       -- rows are lawful once a page's entry is gone, with its name and its count
@@ -121,7 +112,7 @@ module _ (s : Inside) (are : AreRows s) where
         ascending = without_rises pages_ordered (λ (n : Named). n.page) page _ are.ascending;
         filed = rw (← of_page) (filed_taken _ _ are.ascending are.filed stood fills);
         listed = grind (arith, stood_before);
-        counted = rw (ap rows_of held_gone ∙ rows_without page held) (tally_gone (rows_rise s are) _ found_row _ are.counted (rw (← was) moved));
+        counted = rw (ap rows_of held_gone ∙ rows_without page (all_held s)) (tally_gone (rows_rise s are) _ found_row _ are.counted (rw (← was) moved));
         begun = λ k f stands. are.begun k f (stood_before stands).0;
         counting = are.counting;
       }
@@ -143,26 +134,13 @@ no_name s are page seen_as absent = grind (arith, none_mapped, held_found)
 -- entries that got room are as they were
 pub roomy : (s : Inside) → AreRows s → AreLed s.by_node s.entries s.unstable → {room : Slab Entry} → room ≡ record s.entries { capacity = room.capacity }
     → IsRows room s.order s.restless s.tally s.pass × AreLed s.by_node room s.unstable
-roomy s are led rest = rw rest (
-  record {
-    ascending = are.ascending;
-    filed = are.filed;
-    listed = are.listed;
-    counted = are.counted;
-    begun = are.begun;
-    counting = are.counting;
-  },
-  led_less led (λ t b k stands. stands),
-)
+roomy s are led rest = rw rest (search rules, led_less led (λ t b k stands. stands))
 
 -- the row of a page came, with a frame of its own, under a key where nothing stood, once there was room for it
 module _ (s : Inside) (are : AreRows s) {v : RowsView} (seen_as : view_of s ≡ v) {room : Slab Entry}
     (rest : room ≡ record s.entries { capacity = room.capacity })
     {key : ℕ} {e : Entry} {later : Slab Entry} (vacant : get room key ≡ None) (absent : held_at e.page v.held ≡ None)
     (fills : Fills room later key (Some e)) where
-  abbrev before : List Held
-  before = held_in s.pass s.entries s.order
-
   free : get s.entries key ≡ None
   free = (λ i. get (sym rest i) key) ∙ vacant
 
@@ -173,7 +151,7 @@ module _ (s : Inside) (are : AreRows s) {v : RowsView} (seen_as : view_of s ≡ 
   not_named : find (is_of e.page) s.order ≡ None
   not_named = no_name s are _ seen_as absent
 
-  held_put : held_in s.pass later (with_named (named_of key e) s.order) ≡ with_held (held_of s.pass e) before
+  held_put : held_in s.pass later (with_named (named_of key e) s.order) ≡ with_held (held_of s.pass e) (all_held s)
   held_put = put _ _ are.ascending are.filed free not_named filled _
 
   -- rows are lawful once a Private entry came under a vacant key, with a name and a place in the list
@@ -185,8 +163,8 @@ module _ (s : Inside) (are : AreRows s) {v : RowsView} (seen_as : view_of s ≡ 
         let is = added known in
         all_filled filled (λ may. is.1 e.page ∙ grind (arith, same_page_refl))
         (λ k f stands apart may. is.1 f.page ∙ grind (arith, are.listed is.0 k f stands may));
-    counted = rw (ap rows_of held_put ∙ rows_with (held_of s.pass e) before)
-        (tally_put _ (row_told e.page before (ap (λ w. held_at e.page w.held) seen_as ∙ absent)) alone are.counted);
+    counted = rw (ap rows_of held_put ∙ rows_with (held_of s.pass e) (all_held s))
+        (tally_put _ (row_told e.page (all_held s) (ap (λ w. held_at e.page w.held) seen_as ∙ absent)) alone are.counted);
     begun = all_filled filled (λ own. fits) (λ k f stands apart. are.begun k f stands);
     counting = are.counting;
   }
@@ -197,14 +175,11 @@ module _ (s : Inside) (are : AreRows s) {v : RowsView} (seen_as : view_of s ≡ 
 
 -- rows are lawful under a list that lost only pages that were there in vain
 pub swept_rows : (s : Inside) → AreRows s → {now : Listing} → now.known ≡ s.restless.known
-    → ((page : GuestPage) → has_item page s.restless.pages ≡ true → (has_item page now.pages ≡ true) ⊎ IsInVain s.entries s.order page) → IsRows s.entries s.order now s.tally s.pass
+    → ((page : GuestPage) → has_item page s.restless.pages ≡ true → has_item page now.pages ≡ false → IsInVain s.entries s.order page)
+    → IsRows s.entries s.order now s.tally s.pass
 swept_rows s are {now} known kept = search (rules, listed)
   where
     listed : now.known ≡ true → AreListed s.entries now.pages
-    listed is k e stands may = elim (kept _ (are.listed (sym known ∙ is) k e stands may)) [
-      | inl there ↦ there
-      | inr (inl none) ↦ absurd (true≢false (ap is_some (sym ((are.filed (named_of k e)).1 (ap (option_map (named_of k)) stands)) ∙ none)))
-      | inr (inr calm) ↦
-          let same = same_Some _ e (sym calm.stands ∙ ap (get s.entries) (one_key s.entries _ are.filed calm.stands stands calm.of_page) ∙ stands) in
-          absurd (grind arith)
-    ]
+    listed is k e stands may =
+        let one = λ (l : ℕ) (f : Entry) (stood : get s.entries l ≡ Some f). one_key s.entries s.order are.filed stood stands in
+        grind (arith, kept e.page, are.listed, one, named_under, same_page_eq)

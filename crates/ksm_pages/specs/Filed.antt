@@ -1,5 +1,5 @@
 -- Entries in a slab, with the order of their pages, the pages that a visit may change, and a tally. (own)
-use Rattle.std.specs.Prelude.{◌≡◌, ◌⊎◌, ◌↔◌, ℕ, ◌+◌, ◌≤◌, ◌<◌, ◌^◌, Bool, true, false, not, List, [], count_by, find, is_none, map, option_map, Option, None, Some, if◌then◌else◌}
+use Rattle.std.specs.Prelude.{◌≡◌, ◌↔◌, ℕ, ◌+◌, ◌≤◌, ◌<◌, ◌^◌, Bool, true, false, not, List, [], count_by, find, is_none, map, option_map, Option, None, Some, if◌then◌else◌}
 use Rattle.ksm_base.specs.declared.page.GuestPage.{GuestPage}
 use Rattle.ksm_base.specs.declared.row.PageState.{PageState}
 use Rattle.ksm_base.specs.declared.row.PageState.TheVariants.{Private}
@@ -75,25 +75,18 @@ is_useless order spot None = is_none (find (is_of spot.page) order)
 is_useless order spot (Some e) =
     if same_page e.page spot.page then not (is_restless e) else is_none (find (is_of spot.page) order)
 
--- an entry of the page is such that no visit changes it
-pub record IsCalm (slab : Slab Entry) (page : GuestPage) : Type 0 where
-  pub key : ℕ
-  pub entry : Entry
-  pub stands : get slab key ≡ Some entry
-  pub of_page : entry.page ≡ page
-  pub calm : is_restless entry ≡ false
-
--- a page has no name, or no visit changes its entry
+-- a page is listed in vain: by some key it has no name, or no visit changes its entry
 abbrev pub IsInVain : Slab Entry → List Named → GuestPage → Type 0
-IsInVain slab order page = (find (is_of page) order ≡ None) ⊎ IsCalm slab page
+IsInVain slab order page = (key : ℕ) × (is_useless order (record { page = page; key = key }) (get slab key) ≡ true)
 
 -- the number of no entry with a frame of its own is beyond the pass
 abbrev pub AreBegun : Slab Entry → ℕ → Type 0
 AreBegun slab pass = (key : ℕ) (e : Entry) → get slab key ≡ Some e → e.kind ≡ kinds.Own → e.number ≤ pass
 
--- the row of an entry that is not there
-abbrev pub no_held : Held
-no_held = record {
+-- the row that stands under a key, or some row where none does
+abbrev pub held_under : ℕ → Option Entry → Held
+held_under pass (Some e) = held_of pass e
+held_under pass None = record {
   row = record {
     page = record { guest = 0; page = 0 };
     home = 0;
@@ -105,11 +98,6 @@ no_held = record {
   frame = None;
   in_tree = Not;
 }
-
--- the row that stands under a key
-abbrev pub held_under : ℕ → Option Entry → Held
-held_under pass None = no_held
-held_under pass (Some e) = held_of pass e
 
 -- the rows in the order of their pages
 abbrev pub held_in : ℕ → Slab Entry → List Named → List Held

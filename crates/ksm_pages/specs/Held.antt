@@ -108,14 +108,9 @@ has_content by_node tree bytes h =
 
 -- ---------------------------------------------------------------- entries
 
--- the state of a page with a frame of its own
-abbrev pub own_state : Bool → PageState
-own_state false = Private
-own_state true = Waiting
-
 -- the state that a kind and a number tell, where it is known whether one with a frame of its own waits
 abbrev pub state_by : Kind → ℕ → Bool → PageState
-state_by kinds.Own number waits = own_state waits
+state_by kinds.Own number waits = if waits then Waiting else Private
 state_by kinds.Merged number waits = Merged number
 state_by kinds.Zero number waits = Zero
 
@@ -155,15 +150,9 @@ is_own kinds.Zero = false
 abbrev pub is_restless : Entry → Bool
 is_restless e = e.mergeable && is_own e.kind
 
--- the number that is left of one where passes are forgotten
-abbrev pub number_left : Kind → ℕ → ℕ
-number_left kinds.Own number = 0
-number_left kinds.Merged number = number
-number_left kinds.Zero number = number
-
 -- an entry that says no longer in which pass it came to wait
 abbrev pub forgotten : Entry → Entry
-forgotten e = record e { number = number_left e.kind e.number }
+forgotten e = record e { number = if is_own e.kind then 0 else e.number }
 
 -- ---------------------------------------------------------------- rows
 

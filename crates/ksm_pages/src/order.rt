@@ -1,6 +1,5 @@
 //! All pages in order, with rank: a page is found by a search, and the visits of a scan are counted, not walked.
-ghost use Rattle.std.specs.Prelude.{◌≡◌, ℕ, ◌+◌, ◌≤◌, ◌<◌, ◌^◌, [], true, None, Some, IfErr, IfSome, IsTrue, OnErr, OnOk};
-ghost use Rattle.std.specs.Prelude.{count_by, drop, find, is_some, length, nat_lt, not, option_map};
+ghost use Rattle.std.specs.Prelude.{◌≡◌, ℕ, ◌+◌, ◌≤◌, ◌<◌, ◌^◌, [], true, None, Some, IfErr, IfSome, IsTrue, OnErr, OnOk, count_by, drop, find, is_some, length, nat_lt, not, option_map};
 ghost use Rattle.ksm_base.specs.declared.page.GuestPage.{GuestPage};
 ghost use Rattle.ksm_base.specs.Visit.{after_cursor};
 ghost use Rattle.ksm_pages.specs.Ahead.{EndsAt, last_of, pages_behind, pages_between};
@@ -99,6 +98,7 @@ impl<P: Part> Order<P> {
     }
 
     /// Whether a page stands in the order.
+    #[tactic(auto, using(crate::proofs::Ranked::found_by, crate::proofs::Options::some_mapped))]
     pub fn has(&self, page: GuestPage) -> bool
         ensures { result ≡ is_some (find (is_of page) self.now) }
     {
@@ -114,6 +114,7 @@ impl<P: Part> Order<P> {
     }
 
     /// Adds a page that is not there, for a scan to visit. The one fault is `Memory`, and then nothing changes.
+    #[tactic(auto, using(crate::proofs::Ranked::found_by, crate::proofs::Ranked::put_its))]
     pub fn insert(&mut self, page: GuestPage, key: u32) -> Result<(), Fault>
         requires absent { find (is_of page) self.old ≡ None }
         ensures added { OnOk result
@@ -135,6 +136,7 @@ impl<P: Part> Order<P> {
     }
 
     /// Takes away a page that is there.
+    #[tactic(auto, using(crate::proofs::Names::filter_mapped, crate::proofs::Ranked::is_its))]
     pub fn remove(&mut self, page: GuestPage)
         requires there { is_some (find (is_of page) self.old) ≡ true }
         ensures { self.new ≡ without_named page self.old }
@@ -144,6 +146,7 @@ impl<P: Part> Order<P> {
     }
 
     /// A scan visits the page from now on, or does not, if it is there.
+    #[tactic(auto, using(crate::proofs::Ranked::marked_by))]
     pub fn mark(&mut self, page: GuestPage, mergeable: bool)
         ensures { self.new ≡ marked page mergeable self.old }
     {
@@ -180,6 +183,7 @@ impl<P: Part> Order<P> {
 
     /// What so many visits behind the cursor come to, one at least. How many visits of the pass led to the cursor is a
     /// guess, and spares a search where it is right.
+    #[tactic(auto, using(crate::proofs::Ranked::ranks))]
     pub fn ahead(&self, cursor: Option<GuestPage>, guess: usize, visits: u64) -> Ahead
         requires { 1 ≤ visits }
         ensures { EndsAt (pages_behind cursor (visited self.now)) visits result }

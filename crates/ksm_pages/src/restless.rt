@@ -8,8 +8,7 @@
 //! where more than half of the list is there in vain.
 
 ghost use Rattle.std.specs.List.Sorted.{IsPermutation};
-ghost use Rattle.std.specs.Prelude.{◌≡◌, ◌⊎◌, ◌≤◌, ◌||◌, [], true, false, length, All, OnOk};
-ghost use Rattle.std.specs.Prelude.{IfNone, IfSome, IsTrue};
+ghost use Rattle.std.specs.Prelude.{◌≡◌, ◌≤◌, ◌||◌, [], true, false, length, All, OnOk, IfNone, IfSome, IsTrue};
 ghost use Rattle.ksm_base.specs.declared.page.GuestPage.{GuestPage};
 ghost use Rattle.ksm_base.specs.Rows.{comes_before, same_page};
 ghost use Rattle.ksm_base.specs.Visit.{after_cursor};
@@ -357,8 +356,8 @@ impl Restless {
     pub fn sweep(&mut self, entries: &Slab<Entry>, order: &Order)
         ensures known { self.new.known ≡ self.old.known }
         ensures fewer { length self.new.pages ≤ length self.old.pages }
-        ensures kept { (page : GuestPage) → has_item page self.old.pages ≡ true
-            → (has_item page self.new.pages ≡ true) ⊎ IsInVain entries.now order.now page }
+        ensures kept { (page : GuestPage) → has_item page self.old.pages ≡ true → has_item page self.new.pages ≡ false
+            → IsInVain entries.now order.now page }
     {
         if self.useless > self.listed.len() / 2 {
             self.listed

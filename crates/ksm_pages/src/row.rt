@@ -5,8 +5,7 @@
 //! one number grows, and no row is written.
 
 ghost use Rattle.std.specs.Prelude.{◌≡◌, ◌&&◌, bytes_eq};
-ghost use Rattle.ksm_pages.specs.Held.{beside as no_longer_alone, forgotten, frame_of, held_of, is_in as is_in_tree};
-ghost use Rattle.ksm_pages.specs.Held.{is_restless as is_a_restless, state_of};
+ghost use Rattle.ksm_pages.specs.Held.{beside as no_longer_alone, forgotten, frame_of, held_of, is_in as is_in_tree, is_restless as is_a_restless, state_of};
 
 use ksm_base::{GuestPage, PageBytes, PageState, Row};
 use ksm_tree::same_bytes;

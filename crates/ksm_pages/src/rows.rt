@@ -5,9 +5,8 @@
 //! search is made; where it is wrong the page is searched for in the order. `settle_all` writes no row. `unshare_all`
 //! and `set_by_node` walk over all.
 
-ghost use Rattle.std.specs.Prelude.{◌≡◌, ◌⊎◌, ◌≤◌, ◌<◌, ◌^◌, true, false, [], None, Some, All, IfErr, IfOk, IfSome};
-ghost use Rattle.std.specs.Prelude.{MatchOption, OnErr, OnOk, ◌==◌, count_by, find, is_some};
-ghost use Rattle.std.specs.Prelude.{length, map, not, option_and_then, option_map};
+ghost use Rattle.std.specs.Prelude.{◌≡◌, ◌⊎◌, ◌≤◌, ◌<◌, ◌^◌, true, false, [], None, Some, All, IfErr, IfOk, IfSome, MatchOption, OnErr, OnOk, ◌==◌, count_by, find, is_some, length, map, not};
+ghost use Rattle.std.specs.Prelude.{option_and_then, option_map};
 ghost use Rattle.std.specs.Fn.{FnOnceReturnsAtMut};
 ghost use Rattle.ksm_base.specs.declared.limits.TheConstants.{MOST_FRAMES};
 ghost use Rattle.ksm_base.specs.declared.page.GuestPage.{GuestPage};
@@ -17,8 +16,8 @@ ghost use Rattle.ksm_base.specs.Rows.{InPageOrder, settled, shared_state};
 ghost use Rattle.ksm_base.specs.Visit.{after_cursor};
 ghost use Rattle.ksm_pages.specs.Ahead.{EndsAt, FindsNext, last_of, mergeable_pages, pages_behind, pages_between};
 ghost use Rattle.ksm_pages.specs.Filed.{AreFiled, AreListed, IsMade, IsTally, IsUnder, KeepsPage, key_in};
-ghost use Rattle.ksm_pages.specs.Held.{AreInTree, AreWaitersLed, IsFree, altered, held_at, held_of, is_in, on_row, out_of_tree};
-ghost use Rattle.ksm_pages.specs.Held.{in_tree_by, page_in_tree, rehoused, rows_of, copied, shares, waiting_in, with_held, without_held, written};
+ghost use Rattle.ksm_pages.specs.Held.{AreInTree, AreWaitersLed, IsFree, altered, held_at, held_of, is_in, on_row, out_of_tree, in_tree_by, page_in_tree, rehoused, rows_of, copied, shares};
+ghost use Rattle.ksm_pages.specs.Held.{waiting_in, with_held, without_held, written};
 ghost use Rattle.ksm_pages.specs.Ordered.{AreAscending};
 ghost use Rattle.ksm_pages.specs.Unstable.{AreLed, IsFreeAt, LeadsAt};
 ghost use Rattle.slab.specs.Slab.{get};
@@ -199,6 +198,7 @@ impl Rows {
     }
 
     /// Whether a page has a row.
+    #[tactic(auto, using(crate::proofs::Filing::held_found, crate::proofs::Options::some_mapped))]
     #[inline(always)]
     pub fn has(&self, spot: Spot) -> bool
         ensures { result ≡ is_some (held_at spot.page self.now.held) }
@@ -277,7 +277,7 @@ impl Rows {
     }
 
     /// How many rows a scan visits.
-    #[tactic(auto, using(crate::proofs::Reading::flags_counted))]
+    #[tactic(auto, using(crate::proofs::Filing::flags_counted))]
     pub fn mergeable(&self) -> usize
         ensures { result ≡ count_by (λ r. r.mergeable) (rows_of self.now.held) }
     {
@@ -306,7 +306,7 @@ impl Rows {
     }
 
     /// What so many visits behind the cursor come to. How many visits of the pass led to the cursor is a guess.
-    #[tactic(auto, using(crate::proofs::Reading::pages_by))]
+    #[tactic(auto, using(crate::proofs::Filing::pages_by))]
     pub fn ahead(&self, cursor: Option<GuestPage>, guess: usize, visits: u64) -> Ahead
         requires { 1 ≤ visits }
         ensures { EndsAt (pages_behind cursor (mergeable_pages (rows_of self.now.held))) visits result }
@@ -315,7 +315,7 @@ impl Rows {
     }
 
     /// How many pages behind the cursor and before a page a scan visits, and the last of them, or else the cursor.
-    #[tactic(auto, using(crate::proofs::Reading::pages_by))]
+    #[tactic(auto, using(crate::proofs::Filing::pages_by))]
     pub fn between(&self, cursor: Option<GuestPage>, page: GuestPage) -> (u64, Option<GuestPage>)
         ensures many { result.0 ≡ length (pages_between cursor page (mergeable_pages (rows_of self.now.held))) }
         ensures last { result.1 ≡ last_of cursor (pages_between cursor page (mergeable_pages (rows_of self.now.held))) }
@@ -326,6 +326,7 @@ impl Rows {
     // ------------------------------------------------------------ rows that come and go
 
     /// Adds the row of a page that has none, on a frame. The one fault is `Memory`, and then nothing changes.
+    #[tactic(auto, using(crate::proofs::Writing::roomy, crate::proofs::Writing::no_name))]
     pub fn insert(
         &mut self,
         page: GuestPage,
@@ -385,7 +386,7 @@ impl Rows {
     // ------------------------------------------------------------ rows that change
 
     /// The entry of a page becomes what is made of it, if it has one. Gives what it was before, and its key.
-    #[tactic(auto, using(crate::proofs::Writing::nothing))]
+    #[tactic(auto, using(crate::proofs::Writing::nothing, crate::proofs::Writing::row_there, crate::proofs::Filing::held_nowhere))]
     #[inline(always)]
     pub fn change<F: FnOnce(&mut Entry)>(&mut self, spot: Spot, make: F) -> Option<(usize, Entry)>
         requires callable { F.IsAlwaysCallable make }

@@ -5,11 +5,9 @@
 //! contents that are dear to find, and a page that waits takes some twenty bytes here.
 
 ghost use Rattle.std.specs.List.{list_any};
-ghost use Rattle.std.specs.Prelude.{◌≡◌, ◌≢◌, ◌<◌, ℕ, Bool, List, [], None, Some, IfErr, IfSome, OnErr, OnOk, true, false};
-ghost use Rattle.std.specs.Prelude.{find, not, slice_index_or};
+ghost use Rattle.std.specs.Prelude.{◌≡◌, ◌==◌, ◌<◌, ℕ, Bool, List, [], None, Some, IfErr, IfSome, OnErr, OnOk, true, false, find, not, slice_index_or};
 ghost use Rattle.ksm_pages.specs.Held.{tree_by as tree_of_home};
-ghost use Rattle.ksm_pages.specs.Unstable.{Keeps, KeepsOthers, holder, is_led, meets, other_holder, place};
-ghost use Rattle.ksm_pages.specs.Unstable.{stands_under, turned as halves_turned};
+ghost use Rattle.ksm_pages.specs.Unstable.{Keeps, KeepsOthers, holder, if_passes, is_led, meets, other_holder, place, stands_under, turned as halves_turned};
 ghost use Rattle.ksm_tree.specs.Numbered.{number_of};
 
 use crate::row::Entry;
@@ -266,8 +264,8 @@ impl UnstableTree {
     #[inline(never)]
     fn forget_beside(&mut self, tree: u32, bytes: &PageBytes, key: u32)
         ensures places { self.new.places.items ≡ self.old.places.items }
-        ensures kept { (k : ℕ) → k ≢ key → number_of tree bytes.now self.old.others.entries ≡ Some k
-            → number_of tree bytes.now self.new.others.entries ≡ Some k }
+        ensures here { number_of tree bytes.now self.new.others.entries
+            ≡ if_passes (λ k. not (k == key)) (number_of tree bytes.now self.old.others.entries) }
         ensures others { KeepsOthers tree bytes.now self.old self.new }
     {
         let content = Content {

@@ -1,5 +1,5 @@
 use Rattle.ksm_pages.proofs.Names.{always_returns_same, arith, IsNonDecreasingBy-from_all_adjacent, length, Listed, nat_le, nat_tests, rules, slice_get_past, slice_get_read, ◌-◌, ◌≡◌}
-use Rattle.ksm_pages.proofs.Sorting.{gap_here, sorted_rise}
+use Rattle.ksm_pages.proofs.Spots.{gap_here, sorted_rise}
 use Rattle.ksm_pages.proofs.restless.gap_for.Goals as goal
 
 pub returns-then-is_sorted_by : goal.returns-then-is_sorted_by

@@ -1,5 +1,5 @@
 use Rattle.ksm_pages.proofs.Names.{All-permutation, AreSmall, Listed, ◌<◌, ◌^◌}
-use Rattle.ksm_pages.proofs.Sorting.{put_shuffled, put_sorted}
+use Rattle.ksm_pages.proofs.Spots.{put_shuffled, put_sorted}
 use Rattle.ksm_pages.proofs.restless.put_all.Goals as goal
 use Rattle.ksm_pages.proofs.restless.put_all.Goals.{After-turn_falling}
 

@@ -1,5 +1,5 @@
 use Rattle.ksm_pages.proofs.Names.{append_assoc, arith, drop, IsPutAmong, subst, sym, take, ◌++◌, ◌≡◌}
-use Rattle.ksm_pages.proofs.Sorting.{put_between}
+use Rattle.ksm_pages.proofs.Spots.{put_between}
 use Rattle.ksm_pages.proofs.restless.put_between.Goals as goal
 
 pub returns : goal.returns

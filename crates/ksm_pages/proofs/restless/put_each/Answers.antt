@@ -1,5 +1,5 @@
 use Rattle.ksm_pages.proofs.Names.{arith, get_or, Listed}
-use Rattle.ksm_pages.proofs.Sorting.{put_here, taken_has}
+use Rattle.ksm_pages.proofs.Spots.{put_here, taken_has}
 use Rattle.ksm_pages.proofs.restless.put_each.Goals as goal
 
 pub loop-one-preserved : goal.loop-one-preserved

@@ -1,6 +1,5 @@
-use Rattle.ksm_pages.proofs.Names.{rules}
-use Rattle.std.proofs.lemmas.List.Sorted.{IsNonDecreasingBy-from_sort_by_key}
-use Rattle.ksm_pages.proofs.Sorting.{sorted_rise}
+use Rattle.ksm_pages.proofs.Names.{IsNonDecreasingBy-from_sort_by_key, rules}
+use Rattle.ksm_pages.proofs.Spots.{sorted_rise}
 use Rattle.ksm_pages.proofs.restless.sort.Goals as goal
 
 pub returns-in_ok-sort_by_key-clause-order : goal.returns-in_ok-sort_by_key-clause-order

@@ -1,5 +1,5 @@
 use Rattle.ksm_pages.proofs.Names.{ap, arith, Entry, false, is_in, Keeps, meets, nat_tests, on_ok_weaker, same_Some, sym, tree_by, true, ◌∙◌, ◌≡◌}
-use Rattle.ksm_pages.proofs.Led.{led_entered, led_written}
+use Rattle.ksm_pages.proofs.Leading.{led_entered, led_written}
 use Rattle.ksm_pages.proofs.rows.lead_to.Goals as goal
 use Rattle.ksm_pages.proofs.rows.lead_to.Goals.{After-lead}
 

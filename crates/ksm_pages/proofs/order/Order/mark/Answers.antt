@@ -1,5 +1,4 @@
-use Rattle.ksm_pages.proofs.Names.{All-map, ap, arith, Item, length, length-map, mark_of, mark_rises, rules, same_key, ◌<◌, ◌^◌}
-use Rattle.ksm_pages.proofs.Ranked.{marked_by}
+use Rattle.ksm_pages.proofs.Names.{All-map, ap, arith, Item, length, length-map, mark_of, mark_rises, same_key, ◌<◌, ◌^◌}
 use Rattle.ksm_pages.proofs.order.Order.mark.Goals as goal
 
 pub invariant_of-self : goal.invariant_of-self
@@ -12,6 +11,3 @@ invariant_of-self g c =
       long = omega (arith, c.self.invariant.long, ap length c.set_mark.ensures, length-map c.self.inside.pages (mark_of key mark));
       small = rw c.set_mark.ensures (All-map Small _ _ (λ k d lt. rw (same_key key mark _) (c.self.invariant.small k d lt)));
     }
-
-pub returns : goal.returns
-returns g c = search (rules, marked_by)

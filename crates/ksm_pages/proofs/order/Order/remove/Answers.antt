@@ -1,6 +1,6 @@
-use Rattle.ksm_pages.proofs.Names.{All-filter, AllPairs-filter, ap, arith, filter_mapped, find, is_at, is_some, Item, length, true, ◌<◌, ◌^◌, ◌≡◌}
+use Rattle.ksm_pages.proofs.Names.{All-filter, AllPairs-filter, ap, arith, find, is_at, is_some, Item, length, true, ◌<◌, ◌^◌, ◌≡◌}
 use Rattle.ksm_pages.proofs.Options.{some_mapped}
-use Rattle.ksm_pages.proofs.Ranked.{found_by, gone_one, is_its}
+use Rattle.ksm_pages.proofs.Ranked.{found_by, gone_one}
 use Rattle.ksm_pages.proofs.order.Order.remove.Goals as goal
 
 pub invariant_of-self : goal.invariant_of-self
@@ -12,6 +12,3 @@ invariant_of-self g c =
       long = omega (arith, c.self.invariant.long, ap length c.remove.ensures, gone_one _ _ c.self.invariant.ascending there);
       small = rw c.remove.ensures (All-filter _ (λ (y : Item). y.key < 2 ^ 48) _ c.self.invariant.small);
     }
-
-pub returns : goal.returns
-returns g c = grind (arith, filter_mapped, is_its)

@@ -15,6 +15,6 @@ invariant_of-self c =
     )
 
 pub returns-then-self-len-clause-kept : goal.returns-then-self-len-clause-kept
-returns-then-self-len-clause-kept c page has = rw (left c)
-    (swept_beside c.args.entries.now c.args.order.now c.self.inside.listed.items c.self.invariant.1 (pages_of c.self.inside.added.items)
-    ((λ i. has_item page (c.self.view_is i).pages) ∙ has))
+returns-then-self-len-clause-kept c page has gone =
+    swept_beside c.args.entries.now c.args.order.now c.self.inside.listed.items c.self.invariant.1 (pages_of c.self.inside.added.items) page
+    ((λ i. has_item page (c.self.view_is i).pages) ∙ has) (rw (left c) at gone)

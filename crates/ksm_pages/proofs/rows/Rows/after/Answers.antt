@@ -1,5 +1,5 @@
 use Rattle.ksm_pages.proofs.Names.{after_cursor, arith}
-use Rattle.ksm_pages.proofs.Reading.{page_found}
+use Rattle.ksm_pages.proofs.Filing.{page_found}
 use Rattle.ksm_pages.proofs.rows.Rows.after.Goals as goal
 
 pub returns-in-Some : goal.returns-in-Some

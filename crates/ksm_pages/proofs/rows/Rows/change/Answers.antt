@@ -1,7 +1,6 @@
-use Rattle.ksm_pages.proofs.Names.{AreLed, arith, FnOnceReturnsAtMut, held_at, held_of, inl, inr, is_restless, IsAddedTo, IsMade, IsRows, Listing, marked, refl, rules, Some, true, with_value, ◌≡◌}
-use Rattle.ksm_pages.proofs.Names.{◌⊎◌}
-use Rattle.ksm_pages.proofs.Writing.{can_be, kept_mark, led_so, row_there, still, viewed}
-use Rattle.ksm_pages.proofs.Filing.{held_nowhere, view_of}
+use Rattle.ksm_pages.proofs.Names.{AreLed, arith, FnOnceReturnsAtMut, inl, inr, is_restless, IsAddedTo, IsMade, IsRows, Listing, marked, refl, rules, true, with_value, ◌≡◌, ◌⊎◌}
+use Rattle.ksm_pages.proofs.Writing.{can_be, kept_mark, led_so, still, viewed}
+use Rattle.ksm_pages.proofs.Filing.{view_of}
 use Rattle.ksm_pages.proofs.rows.Rows.change.Goals as goal
 use Rattle.ksm_pages.proofs.rows.Rows.change.Goals.{After-len-rows, else-is-was, then-is-was}
 
@@ -59,22 +58,8 @@ seen g c f is =
     (viewed c.self.inside c.self.invariant.0 c.in-Some.ensures.there c.index_mut-entry.ensures.value c.self.view_is _ refl
     (let kept = c.requires.kept _ _ (made g c) in (kept.0, kept.1)) f (is _ _ (made g c)))
 
--- the row was that of the entry
-was : (g : _) (c : After-len-rows g) → held_at c.args.spot.page c.args.self.now.held ≡ Some (held_of c.args.self.now.pass c.index_mut-entry.result.now)
-was g c =
-    rw (← c.self.view_is)
-    (row_there c.self.inside c.self.invariant.0 c.in-Some.ensures.there c.index_mut-entry.ensures.value)
+pub returns-then-not-listed-clause-made : goal.returns-then-not-listed-clause-made
+returns-then-not-listed-clause-made g c = seen g (goal.at.returns-then-not-listed-clause-made g c).After-len-rows
 
-pub returns-then-not-listed : goal.returns-then-not-listed
-returns-then-not-listed g c =
-    let l = (goal.at.returns-then-not-listed g c).After-len-rows in
-    record { made = seen g l; before = was g l }
-
-pub returns-else-not-listed : goal.returns-else-not-listed
-returns-else-not-listed g c =
-    let l = (goal.at.returns-else-not-listed g c).After-len-rows in
-    record { made = seen g l; before = was g l }
-
-pub returns-in_default-clause-before : goal.returns-in_default-clause-before
-returns-in_default-clause-before g c =
-    rw (← c.self.view_is) (held_nowhere c.self.inside c.self.invariant.0 _ c.in_default.ensures.told)
+pub returns-else-not-listed-clause-made : goal.returns-else-not-listed-clause-made
+returns-else-not-listed-clause-made g c = seen g (goal.at.returns-else-not-listed-clause-made g c).After-len-rows

@@ -1,6 +1,6 @@
 use Rattle.ksm_pages.proofs.Names.{arith, refl, rules}
-use Rattle.ksm_pages.proofs.Led.{none_led}
-use Rattle.ksm_pages.proofs.Settling.{out, out_seen, retained_each}
+use Rattle.ksm_pages.proofs.Leading.{none_led}
+use Rattle.ksm_pages.proofs.Filing.{out, out_seen, retained_each}
 use Rattle.ksm_pages.proofs.rows.Rows.clear_tree.Goals as goal
 
 pub invariant_of-self : goal.invariant_of-self

@@ -1,5 +1,5 @@
 use Rattle.ksm_pages.proofs.Names.{ap, arith, Entry, in_tree_by, inr, is_in, is_some, refl, rules, true, Updates-with_value, waiting_in, with_value, ◌≡◌}
-use Rattle.ksm_pages.proofs.Led.{free_none}
+use Rattle.ksm_pages.proofs.Leading.{free_none}
 use Rattle.ksm_pages.proofs.Writing.{can_be, kept_mark, of_page, own_there, row_there, still, viewed}
 use Rattle.ksm_pages.proofs.rows.Rows.enter.Goals as goal
 use Rattle.ksm_pages.proofs.rows.Rows.enter.Goals.{After-change}

@@ -1,5 +1,5 @@
 use Rattle.ksm_pages.proofs.Names.{arith, sym}
-use Rattle.ksm_pages.proofs.Led.{holder_none, holder_stands, none_found, page_found}
+use Rattle.ksm_pages.proofs.Leading.{holder_none, holder_stands, none_found, page_found}
 use Rattle.ksm_pages.proofs.rows.Rows.in_tree.Goals as goal
 
 pub returns-in_err-key : goal.returns-in_err-key

@@ -1,11 +1,8 @@
 use Rattle.ksm_pages.proofs.Names.{arith, Entry, false, Fills, get, None, Not, rules, Some, true, ◌≡◌}
 use Rattle.ksm_pages.specs.declared.row.Kind.TheVariants as kinds
-use Rattle.ksm_pages.proofs.Led.{led_out}
-use Rattle.ksm_pages.proofs.Writing.{roomy, filled, no_name, still_put, viewed_put}
+use Rattle.ksm_pages.proofs.Leading.{led_out}
+use Rattle.ksm_pages.proofs.Writing.{filled, still_put, viewed_put}
 use Rattle.ksm_pages.proofs.rows.Rows.insert.Goals as goal
-
-pub insert-requires : goal.insert-requires
-insert-requires c = search (rules, no_name)
 
 abbrev fresh : goal.After-add → Entry
 fresh c = record {
@@ -37,16 +34,6 @@ invariant_of-self-2 c =
       led_out c.self.invariant.1 (filled c.self.inside c.self.invariant.0 c.self.view_is c.reserve_one.ensures.rest (came c).0 c.requires.absent (came c).1)
           (λ e is. grind arith),
     )
-
-pub invariant_of-self : goal.invariant_of-self
-invariant_of-self c = roomy c.self.inside c.self.invariant.0 c.self.invariant.1 c.reserve_one.ensures.rest
-
-pub invariant_of-self-in_default : goal.invariant_of-self-in_default
-invariant_of-self-in_default c = roomy c.self.inside c.self.invariant.0 c.self.invariant.1 c.reserve_one.ensures.rest
-
-pub invariant_of-self-in_err-insert : goal.invariant_of-self-in_err-insert
-invariant_of-self-in_err-insert c =
-    rw c.in_err-insert.ensures.kept (roomy c.self.inside c.self.invariant.0 c.self.invariant.1 c.reserve_one.ensures.rest)
 
 pub returns-clause-added : goal.returns-clause-added
 returns-clause-added c =

@@ -1,5 +1,5 @@
 use Rattle.ksm_pages.proofs.Names.{rules}
-use Rattle.ksm_pages.proofs.Led.{led_out}
+use Rattle.ksm_pages.proofs.Leading.{led_out}
 use Rattle.ksm_pages.proofs.Writing.{can_be, still_gone}
 use Rattle.ksm_pages.proofs.rows.Rows.remove.Goals as goal
 

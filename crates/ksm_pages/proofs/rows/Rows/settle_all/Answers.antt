@@ -1,6 +1,6 @@
 use Rattle.ksm_pages.proofs.Names.{arith, forgotten, refl, rules}
-use Rattle.ksm_pages.proofs.Led.{led_mapped}
-use Rattle.ksm_pages.proofs.Settling.{anew, next, retained_each}
+use Rattle.ksm_pages.proofs.Leading.{led_mapped}
+use Rattle.ksm_pages.proofs.Filing.{anew, next, retained_each}
 use Rattle.ksm_pages.proofs.rows.Rows.settle_all.Goals as goal
 
 pub invariant_of-self : goal.invariant_of-self

@@ -1,7 +1,6 @@
 use Rattle.ksm_pages.proofs.Names.{arith, false, map_mapped, on_row, refl, rules, settled}
-use Rattle.ksm_pages.proofs.Led.{led_mapped}
-use Rattle.ksm_pages.proofs.Filing.{all_held}
-use Rattle.ksm_pages.proofs.Settling.{plain, plain_seen, retained_each}
+use Rattle.ksm_pages.proofs.Leading.{led_mapped}
+use Rattle.ksm_pages.proofs.Filing.{all_held, plain, plain_seen, retained_each}
 use Rattle.ksm_pages.proofs.rows.Rows.unshare_all.Goals as goal
 
 pub invariant_of-self : goal.invariant_of-self

@@ -1,5 +1,5 @@
 use Rattle.ksm_pages.proofs.Names.{arith, Entry, inr, refl, rules}
-use Rattle.ksm_pages.proofs.Writing.{can_be, kept_mark, led_so, led_there, own_there, still, viewed}
+use Rattle.ksm_pages.proofs.Writing.{can_be, kept_mark, led_so, row_there, still, viewed}
 use Rattle.ksm_pages.proofs.rows.Rows.wait.Goals as goal
 use Rattle.ksm_pages.proofs.rows.Rows.wait.Goals.{After-change}
 
@@ -16,11 +16,11 @@ invariant_of-self c =
     let stood = c.index_mut-entry.ensures.value in (
       still s c.self.invariant.0 there stood c.self.view_is (later c) (search (rules, kept_mark))
           (refl, λ _ own. grind arith) c.state_alone-old.ensures
-          (grind (arith, own_there, led_there)) c.change.ensures (inr (refl, λ may. may)),
+          (grind (arith, row_there)) c.change.ensures (inr (refl, λ may. may)),
       led_so s c.self.invariant.0 there stood c.self.invariant.1 (later c) (λ led. (led, refl, refl)),
     )
 
 pub returns : goal.returns
 returns c =
     viewed c.self.inside c.self.invariant.0 c.in-Some.ensures.there c.index_mut-entry.ensures.value c.self.view_is (later c) (search (rules, kept_mark))
-    (refl, λ _ own. grind arith) _ (λ _. grind (arith, own_there, led_there))
+    (refl, λ _ own. grind arith) _ (λ _. grind (arith, row_there))

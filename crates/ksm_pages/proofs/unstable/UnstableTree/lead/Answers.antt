@@ -1,6 +1,6 @@
-use Rattle.ksm_pages.proofs.Names.{ap, arith, BTreeMap, Content, false, is_led, KeepsOthers, keys_at, length, list_any, MatchOption, not, number_of, on_ok_weaker, place, rules, slice_get_past}
+use Rattle.ksm_pages.proofs.Names.{ap, arith, BTreeMap, Content, false, is_led, KeepsOthers, keys_at, length, list_any, MatchOption, not, number_of, on_ok_weaker, place, rules, slice_get_past, set-get_or, get_or_from_slice_get}
 use Rattle.ksm_pages.proofs.Names.{slice_get_read, sym, true≢false, ℕ, ⊤, ◌∙◌, ◌≡◌}
-use Rattle.ksm_pages.proofs.Leading.{beside_keeps, beside_meets, IsAs, put_keeps, put_meets, same_tree, untouched}
+use Rattle.ksm_pages.proofs.Leading.{beside_keeps, beside_meets, IsAs, put_keeps, put_meets}
 use Rattle.ksm_pages.proofs.unstable.UnstableTree.lead.Goals as goal
 use Rattle.ksm_pages.proofs.unstable.UnstableTree.lead.Goals.{in-Some+in_default-free_in, in_default}
 
@@ -23,14 +23,9 @@ same c =
     let at : c.place_of-at.result ≡ place (length c.args.self.now.places.items) c.args.tree c.args.bytes.now = search rules in
     elim c.match-get_mut.branch [
       | in-Some+in_default-free_in w ↦
-          let there = slice_get_read _ _ _ _ c.args.self.now.places.ok.0 (search rules) w.in-Some.ensures.value in (
-            untouched c.match-get_mut.self c.args.self.now c.place_of-at.result w.in-Some.keys.now w.self-is there,
-            rw (← at, there) (w.free_in.ensures.none w.in_default-free_in.is),
-          )
-      | in_default w ↦ (
-        same_tree c.match-get_mut.self c.args.self.now w.self-is,
-        rw (← at, slice_get_past c.args.self.now.places.items c.place_of-at.result (grind arith)) tt,
-      )
+          let there = slice_get_read _ _ _ _ c.args.self.now.places.ok.0 (search rules) w.in-Some.ensures.value in
+          grind (arith, at, there, w.self-is, set-get_or, get_or_from_slice_get, w.free_in.ensures.none w.in_default-free_in.is)
+      | in_default w ↦ grind (arith, at, w.self-is, slice_get_past)
     ]
 
 others : (c : goal.After-lead_beside) → KeepsOthers c.args.tree c.args.bytes.now c.args.self.now c.lead_beside.new.self
