@@ -40,10 +40,7 @@ settled_again state = grind arith
 
 -- a row that does not wait is settled
 pub idle_settled : (r : Row) → waiting_state r.state ≡ false → settled r ≡ r
-idle_settled r idle = λ i. record r { state = same r.state idle i }
-  where
-    same : (state : PageState) → waiting_state state ≡ false → settled_state state ≡ state
-    same state is = grind arith
+idle_settled r idle = grind arith
 
 module _ {rows : List Row} (rise : InPageOrder rows) (page : GuestPage) {old : Row} (found : row_at page rows ≡ Some old) {tally : Tally} (later : Tally) (are : IsTally rows tally) where
   -- the row of a page went to another state

@@ -9,7 +9,7 @@ use Rattle.ksm_base.specs.Rows.{is_stale as is_stale_row}
 use Rattle.ksm_tree.proofs.Changes.{row_found as dup_row_found}
 use Rattle.ksm_pages.specs.Paged.{frame_of as lies_at}
 use Rattle.ksm_pages.proofs.Joined.{item_lies}
-use Rattle.ksm_pages.proofs.Options.{mapped_some, mapped_twice, none_mapped, some_mapped}
+use Rattle.ksm_pages.proofs.Options.{mapped_some, mapped_twice, none_mapped}
 use Rattle.ksm_pages.proofs.Found.{find_narrower, first_found}
 use Rattle.ksm_pages.specs.declared.pages.Held.{Held as Told}
 use Rattle.ksm_pages.proofs.Leaving.{AreLawful, view_of}
@@ -22,17 +22,11 @@ place_numbered number dups =
 
 -- a dup is found at a place exactly where a row stands there
 pub any_at : (place : ℕ) (dups : List Dup) → is_some (option_map (λ d. d.row.number) (dup_at place dups)) ≡ list_any (λ d. d.place == place) (dup_rows dups)
-any_at place dups =
-    some_mapped _ _
-    ∙ sym (some_mapped (λ (d : Dup). d.row) _)
-    ∙ ap is_some (dup_row_found _ _ (λ d. refl) dups)
-    ∙ sym (any_found (λ (r : DupRow). r.place == place) (dup_rows dups))
+any_at place dups = grind (arith, dup_row_found (stands_at place) (λ r. r.place == place) (λ d. refl) dups, any_found (λ (r : DupRow). r.place == place) (dup_rows dups))
 
 -- the first stale dup by its items stands at the place of the first stale dup by the rows
 pub stale_at : (rows : List Row) (dups : List Dup) → AreTied rows dups → option_map (λ d. d.row.place) (find is_stale dups) ≡ option_map (λ (r : DupRow). r.place) (find (is_stale_row rows) (dup_rows dups))
-stale_at rows dups tied =
-    sym (mapped_twice _ _ _)
-    ∙ ap (option_map (λ (r : DupRow). r.place)) (stale_alike rows _ (tied_counted rows _ tied))
+stale_at rows dups tied = grind (arith, stale_alike rows _ (tied_counted rows _ tied))
 
 -- the items of a dup lie on the frame that is kept at its place
 pub items_lodge : (held : List Held) {s : DupsState} (frames : List ℕ) → InPageOrder (rows_of held) → AreDups s → s.places ≡ length frames → {place : ℕ} {frame : ℕ} → frame ≡ unwrap_or (slice_get frames place) 0

@@ -1,8 +1,8 @@
 -- The pages once two of them became the items of a new dup.
-use Rattle.ksm_pages.proofs.Names.{[], above, All, All-filter, All-map, all_with_dup, ap, ap₂, AreAlone, AreDups, AreInTree, AreKept, AreWaitersLed, arith, below, change_held, change_row, change_rows}
-use Rattle.ksm_pages.proofs.Names.{cond_both, dup_numbered, dup_rows, DupRow, dups_parted, DupsState, Entry, eq_bytes, false, filter, find, find-append, find_all, find_nothing, find_over, frame_of}
-use Rattle.ksm_pages.proofs.Names.{Frames, get_or, GuestPage, Held, held_at, held_of, holds, in_group, InPageOrder, InPlaceOrder, Inside, is_in, is_live, length, length-set, lies_on, List, lodging}
-use Rattle.ksm_pages.proofs.Names.{lodgings_of, map_mapped, MatchOption, MayPair, Merged, merged_into, nat_tests, None, not, Option, option_and_then, option_map, ordered_change, page_in_tree}
+use Rattle.ksm_pages.proofs.Names.{[], above, All, All-filter, All-map, all_with_dup, ap, ap₂, AreAlone, AreDups, AreInTree, AreKept, AreTied, AreWaitersLed, arith, below, change_held, change_row}
+use Rattle.ksm_pages.proofs.Names.{change_rows, cond_both, dup_numbered, dup_rows, DupRow, dups_parted, DupsState, Entry, eq_bytes, false, filter, find, find-append, find_all, find_nothing, find_over}
+use Rattle.ksm_pages.proofs.Names.{frame_of, Frames, get_or, GuestPage, Held, held_at, held_of, holds, in_group, InPageOrder, InPlaceOrder, Inside, is_in, is_live, length, length-set, lies_on, List}
+use Rattle.ksm_pages.proofs.Names.{lodging, lodgings_of, map_mapped, MatchOption, MayPair, Merged, merged_into, nat_tests, None, not, Option, option_and_then, option_map, ordered_change, page_in_tree}
 use Rattle.ksm_pages.proofs.Names.{PagesValue, paired, refl, Row, row_at, rows_new, rows_of, RowsView, rules, same_page, same_page_eq, same_page_refl, seen, set, shares, slice_get, Some, stands_at}
 use Rattle.ksm_pages.proofs.Names.{subst, sym, tied_made, tree_of, true, waiting_state, with_dup, with_item, with_new, ℕ, ◌&&◌, ◌+◌, ◌<◌, ◌==◌, ◌||◌, ◌∙◌, ◌∷◌, ◌≡◌}
 use Rattle.std.specs.Vec.{with_item as with_frame}
@@ -89,13 +89,7 @@ pub can_pair : {s : Inside} → AreLawful s → {p : PagesValue} → view_of s �
     → CanPair (record s { dups = later }) p place first second pass one other
 can_pair {s} are {p = p} seen_as required found also {later = later} same =
     let now : view_of (record s { dups = later }) ≡ p = grind (arith, same, seen_as) in
-    record {
-      kept = lawful_numbered s same are;
-      seen_as = now;
-      found = found;
-      also = also;
-      may = may_both (record s { dups = later }) now _ _ _ required found also;
-    }
+    grind (arith, lawful_numbered s same are, now, found, also, may_both (record s { dups = later }) now _ _ _ required found also)
 
 module _ {s : Inside} {p : PagesValue} {place : ℕ} {first second : GuestPage} {pass : ℕ} {one other : Entry}
     (it : CanPair s p place first second pass one other) where
@@ -216,16 +210,11 @@ module _ {s : Inside} {p : PagesValue} {place : ℕ} {first second : GuestPage} 
 
     -- the pages are lawful once two of them became the items of a new dup
     pub lawful_paired : AreKept s.shape s.knobs rows later (set s.frames.items place frame)
-    lawful_paired = record {
-      small = are.small;
-      order = rw both_rows (ordered_change _ _ _ (λ r. refl) half_order);
-      tied = rw whole (rw now_dups (tied_made _ _ _ _ are.order may.first_is may.second_is (own_not_merged _ may.first_alone)
-          (own_not_merged _ may.second_alone) may.fresh _ lawful.numbers_below are.tied));
-      places = (λ i. (is_made i).places) ∙ are.places;
-      by_node = (λ i. (turned i).by_node) ∙ are.by_node;
-      alone = now_alone;
-      room = length-set s.frames.items place frame ∙ are.room;
-    }
+    lawful_paired =
+        let order : InPageOrder (rows_of rows.held) = rw both_rows (ordered_change _ _ _ (λ r. refl) half_order) in
+        let tied : AreTied (rows_of rows.held) later.dups = rw whole (rw now_dups (tied_made _ _ _ _ are.order may.first_is may.second_is
+          (own_not_merged _ may.first_alone) (own_not_merged _ may.second_alone) may.fresh _ lawful.numbers_below are.tied)) in
+        grind (arith, are, order, tied, now_alone, is_made, turned, length-set s.frames.items place frame)
 
     abbrev of_new : ℕ → Option ℕ
     of_new = lodging (dup_rows later.dups) (set s.frames.items place frame)

@@ -1,4 +1,4 @@
-use Rattle.ksm_pages.proofs.Names.{arith, find_all, Held, holds, is_some, not, rules, shared_state, sym, tied_absent, ◌∙◌, ◌≡◌}
+use Rattle.ksm_pages.proofs.Names.{arith, find_all, Held, holds, is_some, not, shared_state, tied_absent, ◌≡◌}
 use Rattle.ksm_pages.proofs.Joined.{joins, own_not_merged, room_found, told_joined}
 use Rattle.ksm_pages.proofs.Leaving.{row_there}
 use Rattle.ksm_pages.proofs.Turning.{is_own, own_frame, own_left}
@@ -34,10 +34,4 @@ returns c =
     let s = c.self.inside in
     let own = own_left {s = c.self.inside} c.self.invariant c.self.view_is c.requires.alone in
     let told = told_joined s c.self.invariant _ own.found (is_own own c.requires.alone) _ c.in_ok-place.ensures.joined c.in-Some.ensures.merged c.self.view_is in
-    record {
-      left = sym (own_frame own c.requires.alone) ∙ sym c.in-Some.ensures.left;
-      joined = told.0;
-      frame = told.1;
-      refused = search rules;
-      fault = search rules;
-    }
+    grind (arith, told, own_frame own c.requires.alone, c.in-Some.ensures.left)

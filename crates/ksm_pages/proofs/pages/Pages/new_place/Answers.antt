@@ -1,4 +1,4 @@
-use Rattle.ksm_pages.proofs.Names.{ap, arith, choice_alike, choice_exists, dup_rows, PagesValue, place_count, rows_of, subst, sym, tied_counted, ◌<◌, ◌∙◌}
+use Rattle.ksm_pages.proofs.Names.{arith, choice_alike, choice_exists, PagesValue, place_count, rows_of, subst, sym, tied_counted, ◌<◌}
 use Rattle.ksm_base.specs.Visit.{new_place as place_of_new}
 use Rattle.ksm_pages.proofs.pages.Pages.new_place.Goals as goal
 
@@ -11,7 +11,5 @@ choose_place-requires c =
 pub returns-in-Stale : goal.returns-in-Stale
 returns-in-Stale c =
     let rows = rows_of c.self.inside.rows.held in
-    let s = c.self.inside.dups in
-    choice_alike rows s _ (tied_counted rows _ c.self.invariant.tied) c.in-Stale.ensures
-    ∙ ap (λ n. place_of_new n rows (dup_rows s.dups)) c.self.invariant.places
-    ∙ ap (λ (v : PagesValue). place_of_new (place_count v.shape) v.rows v.dups) c.self.view_is
+    rw (← c.self.view_is, ← c.self.invariant.places)
+    (choice_alike rows c.self.inside.dups _ (tied_counted rows _ c.self.invariant.tied) c.in-Stale.ensures)

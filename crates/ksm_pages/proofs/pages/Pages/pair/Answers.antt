@@ -18,12 +18,7 @@ begun c =
     can_pair c.self.invariant c.self.view_is c.requires.first c.in-Some-Some.ensures c.in-Some-Some.ensures' c.group.ensures.kept
 
 pub found-requires-clause-may : goal.found-requires-clause-may
-found-requires-clause-may c = record {
-  below = grind (arith, begun);
-  free = is_free (begun c);
-  apart = are_apart (begun c);
-  number = (begun c).may.number;
-}
+found-requires-clause-may c = grind (arith, begun c, is_free (begun c), are_apart (begun c))
 
 begins : (c : After-merge-2)
     → CanPair (record c.self.inside { dups = c.group.new.self }) c.args.self.now c.args.place c.args.first.page c.args.second.page
