@@ -1,5 +1,5 @@
 -- Entries under keys and the order of their pages: what is found there, and what entries leave that come, go or change.
-use Rattle.ksm_pages.proofs.Names.{[], All, All-filter, All-map, ap, ap₂, AreAscending, AreFiled, AreListed, arith, Bool, CalledAt, change_held, comes_before, count_by, count_mapped, count_none}
+use Rattle.ksm_pages.proofs.Names.{[], All, All-filter, All-map, ap, ap₂, AreAscending, AreFiled, arith, Bool, CalledAt, change_held, comes_before, count_by, count_mapped, count_none}
 use Rattle.ksm_pages.proofs.Names.{Entry, false, Fills, filter, filter_mapped, filter_passes, find, find_all, find_mapped, find_passes, forgotten, get, get_or, get_or-map, GuestPage, Held, held_at}
 use Rattle.ksm_pages.proofs.Names.{held_in, held_of, held_under, holds, if◌then◌else◌, InPageOrder, is_of, IsRows, IsTally, IsUnder, key_in, List, Listing, map, map-append, map_alike, map_fixed}
 use Rattle.ksm_pages.proofs.Names.{map_mapped, marked, mergeable_pages, merged_state, MutBor, Named, named_of, None, not, Not, on_row, Option, option_map, out_of_tree, PageState, pairs_mapped, refl}
@@ -37,11 +37,6 @@ page_under pass slab told = grind arith
 pub all_filled : {slab later : Slab Entry} {key : ℕ} {e : Entry} → Fills slab later key (Some e) → {P : ℕ → Entry → Type 0} → P key e
     → ((k : ℕ) (f : Entry) → get slab k ≡ Some f → k ≢ key → P k f) → (k : ℕ) (f : Entry) → get later k ≡ Some f → P k f
 all_filled {slab} {later} {key} {e} fills {P} new others k f stands = grind (arith, differ_by)
-
--- where each entry is changed, the entry under a key is what that made of it
-pub each_mapped : (slab later : Slab Entry) (g : Entry → Entry) → later.slots ≡ map (option_map g) slab.slots → (k : ℕ)
-    → get later k ≡ option_map g (get slab k)
-each_mapped slab later g slots k = ap (λ xs. get_or xs k None) slots ∙ get_or-map (option_map g) slab.slots k None
 
 module _ (slab : Slab Entry) (order : List Named) (filed : AreFiled slab order) where
   -- an entry that stands under a key is found in the order, by its page, under that key
@@ -240,7 +235,8 @@ module _ {F : Type 0} (step : F → ℕ → MutBor Entry → Bool → MutBor Ent
 
   -- so each entry is changed by g
   pub retained_each : (f : F) (slab later : Slab Entry) → RetainsFrom step f 0 slab.slots later.slots → (k : ℕ) → get later k ≡ option_map g (get slab k)
-  retained_each f slab later r = each_mapped slab later g (retained_all f 0 slab.slots later.slots r)
+  retained_each f slab later r k =
+      ap (λ xs. get_or xs k None) (retained_all f 0 slab.slots later.slots r) ∙ get_or-map (option_map g) slab.slots k None
 
 -- rows whose states are read alike before and after a change are counted alike
 counts_alike : (f : Held → Held) (p q : PageState → Bool) → ((h : Held) → p (f h).row.state ≡ q h.row.state) → (held : List Held)
@@ -279,14 +275,8 @@ module _ {slab : Slab Entry} {order : List Named} {restless : Listing} {tally : 
 
   module _ (later : Slab Entry) (after : ℕ) (g : Entry → Entry) (all : (k : ℕ) → get later k ≡ option_map g (get slab k))
       (same : (e : Entry) → ((g e).page ≡ e.page) × ((g e).mergeable ≡ e.mergeable) × ((g e).kind ≡ e.kind)) where
-    all_filed : AreFiled later order
-    all_filed n = search (rules, all, same)
-
     all_from : (P : Entry → Type 0) → ((k : ℕ) (e : Entry) → get slab k ≡ Some e → P (g e)) → (k : ℕ) (e : Entry) → get later k ≡ Some e → P e
     all_from P holds k e stands = grind (arith, mapped_some, all k)
-
-    all_listed : restless.known ≡ true → AreListed later restless.pages
-    all_listed known = search (rules, all_from, all, same)
 
     -- once each entry is changed, but for its page, flag and kind, so that its row is changed by f, all rows are
     all_seen : (f : Held → Held) → ((k : ℕ) (e : Entry) → get slab k ≡ Some e → held_of after (g e) ≡ f (held_of pass e))
@@ -297,8 +287,8 @@ module _ {slab : Slab Entry} {order : List Named} {restless : Listing} {tally : 
         record {
           rows = record {
             ascending = are.ascending;
-            filed = all_filed;
-            listed = all_listed;
+            filed = λ n. search (rules, all, same);
+            listed = λ known. search (rules, all_from, all, same);
             counted = rw seen tallied;
             begun = all_from _ fits;
             counting = counting;

@@ -12,12 +12,6 @@ use Rattle.ksm_pages.specs.declared.rows.Rows.TheInside.{Inside}
 pub restless_as : (pass : ℕ) (e : Entry) → may_change (held_of pass e).row ≡ is_restless e
 restless_as pass e = grind arith
 
--- what holds of all pages of a list holds of one that it has
-all_listed : (P : GuestPage → Type 0) (pages : List GuestPage) → All P pages → (page : GuestPage) → has_item page pages ≡ true → P page
-all_listed P pages all page has =
-    let at = Any-from_list_any (λ p. same_page p page) pages has in
-    subst P (same_page_eq at.1 page at.4) (subst P at.3 (all at.0 at.1 at.2))
-
 -- of the pages up to a cursor those that a visit may change are listed
 abbrev pub AreListedUpTo : Slab Entry → Option GuestPage → Listing → Type 0
 AreListedUpTo slab last l = l.known ≡ true → (key : ℕ) (e : Entry) → get slab key ≡ Some e → is_restless e ≡ true → after_cursor last e.page ≡ false → has_item e.page l.pages ≡ true
@@ -36,8 +30,12 @@ module _ (slab : Slab Entry) (order : List Named) (rise : AreAscending order) (f
 
     -- behind the next page there are fewer pages than behind the cursor
     pub fewer_behind : length (filter (λ m. comes_before n.page m.page) order) < length (filter (λ m. after_cursor last m.page) order)
-    fewer_behind = grind (arith, before_irrefl, filter_fewer (λ m. after_cursor last m.page) (λ m. comes_before n.page m.page) order n (λ m behind.
-        grind (arith, find_passes (λ m. after_cursor last m.page) order n found)))
+    fewer_behind = grind (
+      arith,
+      before_irrefl,
+      filter_fewer (λ m. after_cursor last m.page) (λ m. comes_before n.page m.page) order n (λ m behind.
+          grind (arith, find_passes (λ m. after_cursor last m.page) order n found)),
+    )
 
     -- an entry that is not behind it, nor its own, was not behind the last
     passed : (key : ℕ) {e : Entry} → get slab key ≡ Some e → comes_before n.page e.page ≡ false → same_page n.page e.page ≡ false → after_cursor last e.page ≡ false
@@ -72,7 +70,9 @@ module _ (s : Inside) (are : AreRows s) where
       → All (λ r. may_change r ≡ true → P r.page) (rows_of (all_held s))
   rows_such known P all =
       All-map (λ r. may_change r ≡ true → P r.page) _ _ (rows_all s are (λ h. may_change h.row ≡ true → P h.row.page)
-      (λ k e stands may. all_listed P _ all e.page (are.listed known k e stands (grind (arith, restless_as s.pass e)))))
+      (λ k e stands may.
+      let at = Any-from_list_any (λ p. same_page p e.page) s.restless.pages (are.listed known k e stands (grind (arith, restless_as s.pass e))) in
+      subst P (same_page_eq at.1 e.page at.4) (subst P at.3 (all at.0 at.1 at.2))))
 
   -- where the pages of all entries that a visit may change are listed, the next one listed is found as the next row
   pub listed_next : s.restless.known ≡ true → (cursor : Option GuestPage) (o : Option Spot)

@@ -1,20 +1,12 @@
 -- The unstable tree: what a key leaves of what is found that comes or goes, and an entry; and what rows show of it.
-use Rattle.ksm_pages.proofs.Names.{[], All, AreInTree, AreLed, AreWaitersLed, arith, Bool, BTreeMap, bytes_eq, bytes_eq-Decides, cases_Bool, Content, content_of, content_order, digest, drop, false_from_ne_true, find_alike, same_page_refl}
-use Rattle.ksm_pages.proofs.Names.{drop_more, Entry, eq_bytes, false, Fills, find, find_all, find_nothing, find_passes, get, get_or, get_or-set_at, GONE, has_content}
-use Rattle.ksm_pages.proofs.Names.{Held, held_of, holder, holds, if◌then◌else◌, inl, inr, is_in, is_led, IsFree, Keeps, KeepsOthers, keys_at, length, length-set, List, list_any, list_any_at}
-use Rattle.ksm_pages.proofs.Names.{MatchOption, meets, nat_lt, nat_tests, NO_KEY, None, not, number_of, Option, option_map, page_in_tree, place, refl, same_page_eq, set, Slab, slice_get}
-use Rattle.ksm_pages.proofs.Names.{slice_get_within, Some, SPREAD, stands_as, stands_under, StaysLed, suc, told_equal, tree_by, true, turned, UnstableTree, Updates, waiting_state, zero, ℕ, ⊤}
-use Rattle.ksm_pages.proofs.Names.{◌%◌, ◌&&◌, ◌*◌, ◌+◌, ◌<◌, ◌==◌, ◌^◌, ◌∷◌, ◌≡◌, ◌≢◌, ◌⊎◌}
+use Rattle.ksm_pages.proofs.Names.{[], All, AreInTree, AreLed, AreWaitersLed, arith, Bool, BTreeMap, bytes_eq, bytes_eq-Decides, cases_Bool, Content, content_of, content_order, false_from_ne_true}
+use Rattle.ksm_pages.proofs.Names.{find_alike, same_page_refl, Entry, eq_bytes, false, Fills, find, find_all, find_nothing, find_passes, get, get_or, get_or-set_at, GONE, has_content, Held, held_of}
+use Rattle.ksm_pages.proofs.Names.{holder, holds, if◌then◌else◌, inl, inr, is_in, is_led, IsFree, Keeps, KeepsOthers, keys_at, length, length-set, List, list_any, list_any_at, MatchOption, meets}
+use Rattle.ksm_pages.proofs.Names.{nat_lt, nat_tests, NO_KEY, None, not, number_of, Option, option_map, page_in_tree, place, refl, same_page_eq, set, Slab, slice_get, slice_get_within, Some}
+use Rattle.ksm_pages.proofs.Names.{stands_as, stands_under, StaysLed, suc, told_equal, tree_by, true, UnstableTree, Updates, waiting_state, zero, ℕ, ⊤, ◌&&◌, ◌<◌, ◌==◌, ◌∷◌, ◌≡◌, ◌≢◌, ◌⊎◌}
 use Rattle.std.specs.Vec.{with_item}
 use Rattle.ksm_pages.specs.declared.rows.Rows.TheInside.{Inside}
 use Rattle.ksm_pages.proofs.Filing.{all_held, differ_by, AreRows, one_key, row_found, rows_all, view_of}
-
--- a number becomes, by the words from one on, what it becomes by that word and then by those behind it
-pub digest_more : (number : ℕ) (bytes : List ℕ) (i : ℕ) {half : ℕ} → half ≡ turned number → i < length bytes
-    → digest number (drop i bytes)
-    ≡ digest ((half + get_or bytes i 0) % 2 ^ 64 * SPREAD % 2 ^ 64) (drop (i + 1) bytes)
-digest_more number bytes i is lt =
-    grind (arith, drop_more bytes i 0 lt)
 
 -- where one content comes to have a number, or comes to have none, no other content does
 pub other_numbers : (old new : BTreeMap Content ℕ) (tree : ℕ) (bytes : List ℕ) (number : Option ℕ)
@@ -156,10 +148,6 @@ module _ (slab later : Slab Entry) (g : Entry → Entry) (all : (k : ℕ) → ge
   -- the same where each is changed, and is in the tree only as before
   pub led_mapped : ((e : Entry) → StaysLed e (g e)) → {by_node : Bool} {u : UnstableTree} → AreLed by_node slab u → AreLed by_node later u
   led_mapped stays led = led_less led (λ t b k stands. grind (arith, all k, stays))
-
-  -- once no entry is in the tree, it leads to all that are
-  pub none_led : ((e : Entry) → is_in (g e).in_tree ≡ false) → (by_node : Bool) (u : UnstableTree) → AreLed by_node later u
-  none_led out by_node u = record { at = λ t b k stands. absurd (grind (arith, all k, out)) }
 
 -- where a key of a list passes a test, the test finds one
 found_any : (p : ℕ → Bool) {key : ℕ} → p key ≡ true → (keys : List ℕ) → list_any (λ k. k == key) keys ≡ true → find p keys ≡ None → ⊥

@@ -1,4 +1,4 @@
--- Listed pages in order: those that are swept out, those that come behind a cursor, and those that are put among others.
+-- Listed pages in order: those that are swept out, those that come behind a cursor, and those put among others.
 use Rattle.ksm_pages.proofs.Names.{[], after_cursor, All, All-append, All-drop, All-map, All-permutation, All-take, AllWithin, ap, append-nil, AreInOrder, AreSmall, arith, Bool, cases_Bool}
 use Rattle.ksm_pages.proofs.Names.{comes_before, drop, Entry, false, filter, get, get_or, get_or-drop, get_or-take, get_or_default, GuestPage, has_item, HasGap, inl, inr, insert, is_useless}
 use Rattle.ksm_pages.proofs.Names.{IsInVain, IsNonDecreasingBy, IsPermutation, IsPermutation-map, IsPlace, IsPutAmong, length, length-drop, length-take, List, list_any-append, list_any-IsPermutation}
@@ -84,20 +84,16 @@ put_sorted {old} {added} small little moved order =
 
 -- pages that were added, in front of an index of others
 module _ (listed added : List Listed) (rise : AreInOrder listed) (at : ℕ) (within : at ≤ length listed) where
-  front_rises : AreInOrder (take at listed)
-  front_rises i j d less lt = grind (arith, length-take at listed, get_or-take at listed i d, get_or-take at listed j d, rise i j d)
-
-  back_rises : AreInOrder (drop at listed)
-  back_rises i j d less lt = grind (arith, length-drop at listed, get_or-drop at listed i d, get_or-drop at listed j d, rise (at + i) (at + j) d)
-
   -- where the pages in front of the index come before the first that was added, and the last of these before those behind, they
   -- are in order there
   pub gap_here : (low high : ℕ) → AllWithin (λ l. l.page < low) listed 0 at → AllWithin (λ l. high ≤ l.page) listed at (length listed)
       → AreInOrder added → All (λ l. low ≤ l.page) added → All (λ l. l.page ≤ high) added → HasGap listed added at
   gap_here low high ahead behind up from to = (
     within,
-    pairs_append Up (take at listed) (added ++ drop at listed) front_rises
-        (pairs_append Up added (drop at listed) up back_rises
+    pairs_append Up (take at listed) (added ++ drop at listed)
+        (λ i j d less lt. grind (arith, length-take at listed, get_or-take at listed i d, get_or-take at listed j d, rise i j d))
+        (pairs_append Up added (drop at listed) up
+        (λ i j d less lt. grind (arith, length-drop at listed, get_or-drop at listed i d, get_or-drop at listed j d, rise (at + i) (at + j) d))
         (λ k d lt j e less. grind (arith, to k d lt, behind (at + j) e, get_or-drop at listed j e, length-drop at listed)))
         (λ k d lt. All-append (Up (get_or (take at listed) k d)) added (drop at listed)
         (λ j e less. grind (arith, from j e less, ahead k d, get_or-take at listed k d, length-take at listed))

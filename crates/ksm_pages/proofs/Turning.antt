@@ -1,10 +1,10 @@
 -- The pages once a call changed the row of one page, or gave it one: they are lawful, and what is seen of them changed so.
-use Rattle.ksm_pages.proofs.Names.{[], All, All-filter, All-map, altered, ap, AreAlone, AreTied, arith, Bool, change_held, changed, cond_both, dup_rows, DupsState, Err, false, frame_of, get_or, map_fixed}
-use Rattle.ksm_pages.proofs.Names.{GuestPage, Held, held_at, if◌then◌else◌, inl, InPageOrder, inr, Inside, is_alone, IsAlone, IsKnown, IsLeft, Knobs, let_out, lies_on, List}
-use Rattle.ksm_pages.proofs.Names.{lodgings_of, map, map_mapped, MatchOption, merged_state, None, not, Ok, on_row, OnErr, OnOk, Option, option_and_then, ordered_map, ordered_with, ordered_without}
-use Rattle.ksm_pages.proofs.Names.{out_of_tree, PagesValue, PagesView, Private, refl, relaid, Result, Row, row_at, rows_of, rows_out, RowsView, rules, same_page, seen, settled, settled_state}
-use Rattle.ksm_pages.proofs.Names.{shared_state, Some, subst, sym, tied_dropped, tied_inserted, tied_left, tied_mapped, true≢false, waiting_state, with_held, with_row, without_held, without_page, ℕ}
-use Rattle.ksm_pages.proofs.Names.{⊤, ◌==◌, ◌∙◌, ◌∷◌, ◌≡◌, ◌⊎◌}
+use Rattle.ksm_pages.proofs.Names.{[], All, All-filter, All-map, altered, ap, AreAlone, AreTied, arith, Bool, change_held, changed, cond_both, dup_rows, DupsState, Err, false, frame_of, get_or}
+use Rattle.ksm_pages.proofs.Names.{map_fixed, GuestPage, Held, held_at, if◌then◌else◌, inl, InPageOrder, inr, Inside, is_alone, IsAlone, IsKnown, IsLeft, Knobs, let_out, lies_on, List, lodgings_of}
+use Rattle.ksm_pages.proofs.Names.{map, map_mapped, MatchOption, merged_state, None, not, Ok, on_row, OnErr, OnOk, Option, option_and_then, ordered_map, ordered_with, ordered_without, out_of_tree}
+use Rattle.ksm_pages.proofs.Names.{PagesValue, PagesView, Private, refl, relaid, Result, Row, row_at, rows_of, rows_out, RowsView, rules, same_page, seen, settled, settled_state, shared_state, Some}
+use Rattle.ksm_pages.proofs.Names.{subst, sym, tied_dropped, tied_inserted, tied_left, tied_mapped, true≢false, waiting_state, with_held, with_row, without_held, without_page, ℕ, ⊤, ◌==◌, ◌∙◌, ◌∷◌}
+use Rattle.ksm_pages.proofs.Names.{◌≡◌, ◌⊎◌}
 use Rattle.ksm_pages.proofs.Changing.{idle_settled, nothing_held, rows_with, rows_without, settled_again}
 use Rattle.ksm_pages.proofs.Joined.{let_out_alone, own_not_merged, seen_own}
 use Rattle.ksm_pages.proofs.Lodgings.{frame_by, lodged_gone, lodged_one, seat}

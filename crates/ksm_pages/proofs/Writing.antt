@@ -1,9 +1,9 @@
 -- What each change of one row, found under its key, leaves: rows still, and what is seen of them.
-use Rattle.ksm_pages.proofs.Names.{absent_kept, altered, ap, AreLed, AreListed, arith, Bool, CanMove, change_held, change_none, Entry, false, Fills, find, find_none, get, GuestPage, has_item, Held, same_page_eq}
-use Rattle.ksm_pages.proofs.Names.{held_at, held_in, held_of, held_under, holds, IfSome, inl, inr, is_of, is_restless, is_some, IsAddedTo, IsInVain, IsMoved, IsRows, IsUnder, key_in, length}
-use Rattle.ksm_pages.proofs.Names.{length-map, List, Listing, marked, Named, named_of, None, pages_ordered, PageState, Private, refl, row_at, rows_of, RowsView, rules, same_page_refl}
-use Rattle.ksm_pages.proofs.Names.{shared_state, Slab, Some, state_of, StaysBegun, StaysLed, sym, Tally, true, Updates-with_value, with_held, with_named, with_value}
-use Rattle.ksm_pages.proofs.Names.{without_held, without_named, without_rises, ℕ, ◌<◌, ◌^◌, ◌∙◌, ◌≡◌, ◌≢◌, ◌≤◌, ◌⊎◌}
+use Rattle.ksm_pages.proofs.Names.{absent_kept, altered, ap, AreLed, AreListed, arith, Bool, CanMove, change_held, change_none, Entry, false, Fills, find, find_none, get, GuestPage, has_item, Held}
+use Rattle.ksm_pages.proofs.Names.{same_page_eq, held_at, held_in, held_of, held_under, holds, IfSome, inl, inr, is_of, is_restless, is_some, IsAddedTo, IsInVain, IsMoved, IsRows, IsUnder, key_in}
+use Rattle.ksm_pages.proofs.Names.{length, length-map, List, Listing, marked, Named, named_of, None, pages_ordered, PageState, Private, refl, row_at, rows_of, RowsView, rules, same_page_refl}
+use Rattle.ksm_pages.proofs.Names.{shared_state, Slab, Some, state_of, StaysBegun, StaysLed, sym, Tally, true, Updates-with_value, with_held, with_named, with_value, without_held, without_named}
+use Rattle.ksm_pages.proofs.Names.{without_rises, ℕ, ◌<◌, ◌^◌, ◌∙◌, ◌≡◌, ◌≢◌, ◌≤◌, ◌⊎◌}
 use Rattle.ksm_pages.proofs.Options.{none_mapped}
 use Rattle.ksm_pages.specs.declared.row.Kind.TheVariants as kinds
 use Rattle.ksm_pages.specs.declared.rows.Rows.TheInside.{Inside}
@@ -44,11 +44,6 @@ module _ (s : Inside) (are : AreRows s) where
         let many : length (rows_of (all_held s)) < 2 ^ 64 =
         omega (arith, length-map (all_held s) (λ (h : Held). h.row), length-map s.order (λ (n : Named). held_under s.pass (get s.entries n.key)), few) in
         rw is (can_move (rows_rise s are) _ found_row s.tally are.counted (search rules) many)
-
-    -- the unstable tree leads as it did where the entry is written anew, in it only as before
-    pub led_so : AreLed s.by_node s.entries s.unstable → (e' : Entry) → StaysLed e e' → AreLed s.by_node (with_value s.entries key e') s.unstable
-    led_so led e' stays =
-        led_written led (Updates-with_value _ _ _ (ap is_some stood)) stood stays
 
     -- where the flag of an entry stays, the order says so already
     pub kept_mark : (flag : Bool) → flag ≡ e.mergeable → s.order ≡ marked page flag s.order
@@ -91,6 +86,13 @@ module _ (s : Inside) (are : AreRows s) where
         begun = all_filled fills (grind arith) (λ k f stands apart. are.begun k f stands);
         counting = are.counting;
       }
+
+      -- and the unstable tree leads as it did, where the entry is in it only as before
+      pub still_led : AreLed s.by_node s.entries s.unstable → StaysLed e e' → {from to : PageState} {tally : Tally} → from ≡ state_of s.pass e
+          → to ≡ state_of s.pass e' → IsMoved from to s.tally tally → {now : Listing}
+          → IsAddedTo page s.restless now ⊎ ((now ≡ s.restless) × (is_restless e' ≡ true → is_restless e ≡ true))
+          → IsRows later order now tally s.pass × AreLed s.by_node later s.unstable
+      still_led led stays was is moved either = (still was is moved either, led_written led fills stood stays)
 
       -- with an entry written anew whose row is changed by f, the rows are seen with f at that page
       pub viewed : (f : Held → Held) → (1 ≤ v.pass → held_of v.pass e' ≡ f (held_of v.pass e))

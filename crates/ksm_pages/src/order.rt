@@ -200,6 +200,7 @@ impl<P: Part> Order<P> {
     }
 
     /// How many pages behind the cursor and before a page a scan visits, and the last of them, or else the cursor.
+    #[tactic(auto, using(crate::proofs::Ranked::passed_many, crate::proofs::Ranked::small_at))]
     pub fn between(&self, cursor: Option<GuestPage>, page: GuestPage) -> (u64, Option<GuestPage>)
         ensures count { result.0 ≡ length (pages_between cursor page (visited self.now)) }
         ensures last { result.1 ≡ last_of cursor (pages_between cursor page (visited self.now)) }

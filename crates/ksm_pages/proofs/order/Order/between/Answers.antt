@@ -1,6 +1,6 @@
 use Rattle.ksm_pages.proofs.Names.{ap, arith, Item, key_of, last_of, length, length-filter, pages_between, rules, Some, sym, up_to, up_to_few, visited, ◌-◌, ◌∙◌, ◌≡◌}
 use Rattle.ksm_order.specs.Listed.{marked}
-use Rattle.ksm_pages.proofs.Ranked.{passed_last, passed_many, passed_none, small_at, some_at}
+use Rattle.ksm_pages.proofs.Ranked.{passed_last, passed_many, passed_none, some_at}
 use Rattle.ksm_pages.proofs.order.Order.between.Goals as goal
 use Rattle.ksm_pages.proofs.order.Order.between.Goals.{After-up_to-before}
 
@@ -19,13 +19,6 @@ pub returns-then-before-passed-clause-last : goal.returns-then-before-passed-cla
 returns-then-before-passed-clause-last g c =
     sym (ap (last_of c.args.cursor) (passed_none _ c.self.view_is _ _ c.key_of.ensures.few c.self.invariant.ascending
     _ c.passed-passed.ensures.ahead (grind (arith, before)) c.if-before-passed.true))
-
-pub page_of-requires : goal.page_of-requires
-page_of-requires g c = small_at _ _ c.self.invariant.small (sym c.nth.ensures ∙ c.in-Some.is)
-
-pub returns-in-Some-clause-count : goal.returns-in-Some-clause-count
-returns-in-Some-clause-count g c =
-    let a = (goal.at.returns-in-Some-clause-count g c).After-up_to-before in search (rules, many g a)
 
 pub returns-in-Some-clause-last : goal.returns-in-Some-clause-last
 returns-in-Some-clause-last g c =

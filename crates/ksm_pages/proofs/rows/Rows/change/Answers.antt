@@ -1,5 +1,5 @@
 use Rattle.ksm_pages.proofs.Names.{AreLed, arith, FnOnceReturnsAtMut, inl, inr, is_restless, IsAddedTo, IsMade, IsRows, Listing, marked, refl, rules, true, with_value, ◌≡◌, ◌⊎◌}
-use Rattle.ksm_pages.proofs.Writing.{can_be, kept_mark, led_so, still, viewed}
+use Rattle.ksm_pages.proofs.Writing.{can_be, kept_mark, still_led, viewed}
 use Rattle.ksm_pages.proofs.Filing.{view_of}
 use Rattle.ksm_pages.proofs.rows.Rows.change.Goals as goal
 use Rattle.ksm_pages.proofs.rows.Rows.change.Goals.{After-len-rows, else-is-was, then-is-was}
@@ -27,27 +27,21 @@ lawful : (g : _) (c : After-len-rows g) {now : Listing}
     → IsAddedTo c.args.spot.page c.self.inside.restless now
     ⊎ ((now ≡ c.self.inside.restless)
     × (is_restless c.make.new.arg2 ≡ true → is_restless c.index_mut-entry.result.now ≡ true))
-    → let s = c.if-is-was.self-inside in IsRows s.entries s.order now s.tally s.pass
+    → let s = c.if-is-was.self-inside in IsRows s.entries s.order now s.tally s.pass × AreLed s.by_node s.entries s.unstable
 lawful g c either =
+    let kept = c.requires.kept _ _ (made g c) in
     rw (told g c)
-    (still c.self.inside c.self.invariant.0 c.in-Some.ensures.there c.index_mut-entry.ensures.value c.self.view_is _ refl
-    (let kept = c.requires.kept _ _ (made g c) in (kept.0, kept.1)) refl refl c.follow.ensures either)
-
-led : (g : _) (c : After-len-rows g) → let s = c.if-is-was.self-inside in AreLed s.by_node s.entries s.unstable
-led g c =
-    rw (told g c)
-    (led_so c.self.inside c.self.invariant.0 c.in-Some.ensures.there c.index_mut-entry.ensures.value c.self.invariant.1
-    c.make.new.arg2 (c.requires.kept _ _ (made g c)).2)
+    (still_led c.self.inside c.self.invariant.0 c.in-Some.ensures.there c.index_mut-entry.ensures.value c.self.view_is _ refl (kept.0, kept.1)
+    c.self.invariant.1 kept.2 refl refl c.follow.ensures either)
 
 pub invariant_of-self : goal.invariant_of-self
 invariant_of-self g c =
-    let l = (goal.at.invariant_of-self g c).After-len-rows in
-    (lawful g l (inl (rw (told g l) at c.add.ensures)), led g l)
+    let l = (goal.at.invariant_of-self g c).After-len-rows in lawful g l (inl (rw (told g l) at c.add.ensures))
 
 pub invariant_of-self-else-not-listed : goal.invariant_of-self-else-not-listed
 invariant_of-self-else-not-listed g c =
     let l = (goal.at.invariant_of-self-else-not-listed g c).After-len-rows in
-    (lawful g l (inr ((λ i. (told g l i).restless), λ may. grind arith)), led g l)
+    lawful g l (inr ((λ i. (told g l i).restless), λ may. grind arith))
 
 -- the rows are seen so, whatever is listed
 seen : (g : _) (c : After-len-rows g)

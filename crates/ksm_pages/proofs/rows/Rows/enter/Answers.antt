@@ -1,6 +1,6 @@
-use Rattle.ksm_pages.proofs.Names.{ap, arith, Entry, in_tree_by, inr, is_in, is_some, refl, rules, true, Updates-with_value, waiting_in, with_value, ◌≡◌}
+use Rattle.ksm_pages.proofs.Names.{ap, arith, Entry, in_tree_by, inr, is_some, refl, rules, Updates-with_value, waiting_in, with_value}
 use Rattle.ksm_pages.proofs.Leading.{free_none}
-use Rattle.ksm_pages.proofs.Writing.{can_be, kept_mark, of_page, own_there, row_there, still, viewed}
+use Rattle.ksm_pages.proofs.Writing.{can_be, kept_mark, of_page, row_there, still, viewed}
 use Rattle.ksm_pages.proofs.rows.Rows.enter.Goals as goal
 use Rattle.ksm_pages.proofs.rows.Rows.enter.Goals.{After-change}
 
@@ -25,22 +25,14 @@ later c = record c.index_mut-entry.result.now {
 pub invariant_of-self-2 : goal.invariant_of-self-2
 invariant_of-self-2 c =
     let s = c.self.inside in
-    let there = c.in-Some.ensures.there in
-    let stood = c.index_mut-entry.ensures.value in
-    let led : is_in c.in_tree_by-entry.result ≡ true = grind (arith, c.in_tree_by-entry.ensures) in (
-      still s c.self.invariant.0 there stood c.self.view_is (later c) (search (rules, kept_mark))
-          (refl, λ _ own. grind arith) c.state_alone-old.ensures (grind (arith, own_there s c.self.invariant.0 there stood c.self.view_is c.requires.own, led)) c.change.ensures
-          (inr (refl, λ may. may)),
+    let stood = c.index_mut-entry.ensures.value in (
+      still s c.self.invariant.0 c.in-Some.ensures.there stood c.self.view_is (later c) (search (rules, kept_mark))
+          (refl, λ _ own. grind arith) c.state_alone-old.ensures (grind (arith, row_there, c.in_tree_by-entry.ensures)) c.change.ensures (inr (refl, λ may. may)),
       c.in_ok-lead_to.ensures.leads c.index_mut-entry.result.now (later c) (with_value s.entries c.in-Some.key (later c)) stood
-          (Updates-with_value _ _ _ (ap is_some stood)) refl refl led,
+          (Updates-with_value _ _ _ (ap is_some stood)) refl refl (grind (arith, c.in_tree_by-entry.ensures)),
     )
 
 pub returns-clause-waits : goal.returns-clause-waits
 returns-clause-waits c =
-    let s = c.self.inside in
-    let there = c.in-Some.ensures.there in
-    let stood = c.index_mut-entry.ensures.value in
-    let led : is_in c.in_tree_by-entry.result ≡ true = grind (arith, c.in_tree_by-entry.ensures) in
-    viewed s c.self.invariant.0 there stood c.self.view_is (later c) (search (rules, kept_mark))
-    (refl, λ _ own. grind arith) (waiting_in (in_tree_by c.args.group))
-    (λ _. grind (arith, own_there s c.self.invariant.0 there stood c.self.view_is c.requires.own, led, c.in_tree_by-entry.ensures))
+    viewed c.self.inside c.self.invariant.0 c.in-Some.ensures.there c.index_mut-entry.ensures.value c.self.view_is (later c) (search (rules, kept_mark))
+    (refl, λ _ own. grind arith) (waiting_in (in_tree_by c.args.group)) (λ _. grind (arith, row_there, c.in_tree_by-entry.ensures))

@@ -1,5 +1,5 @@
 use Rattle.ksm_pages.proofs.Names.{arith, false, inr, is_in, refl, rules, sym, true≢false, written, ◌∙◌, ◌≡◌}
-use Rattle.ksm_pages.proofs.Writing.{kept_mark, led_so, nothing, still, viewed}
+use Rattle.ksm_pages.proofs.Writing.{kept_mark, nothing, still_led, viewed}
 use Rattle.ksm_pages.proofs.rows.Rows.store.Goals as goal
 use Rattle.ksm_pages.proofs.rows.Rows.store.Goals.{After-take_bytes}
 
@@ -14,13 +14,9 @@ invariant_of-self c =
     let s = c.self.inside in
     let there = c.in-Some.ensures.there in
     let stood = c.index_mut.ensures.value in
-    let f = (goal.at.invariant_of-self c).After-take_bytes in (
-      rw c.take_bytes.ensures
-          (still s c.self.invariant.0 there stood c.self.view_is _ (kept_mark s c.self.invariant.0 there stood _ refl)
-          (refl, λ fits. fits) refl refl (search rules) (inr (refl, λ may. may))),
-      led_so s c.self.invariant.0 there stood c.self.invariant.1 c.take_bytes.new.self
-          (λ led. absurd (true≢false (sym led ∙ rw c.take_bytes.ensures (out f)))),
-    )
+    rw c.take_bytes.ensures
+    (still_led s c.self.invariant.0 there stood c.self.view_is _ (kept_mark s c.self.invariant.0 there stood _ refl) (refl, λ fits. fits) c.self.invariant.1
+    (λ led. absurd (true≢false (sym led ∙ out ((goal.at.invariant_of-self c).After-take_bytes)))) refl refl (search rules) (inr (refl, λ may. may)))
 
 pub returns-else-is_in : goal.returns-else-is_in
 returns-else-is_in c =

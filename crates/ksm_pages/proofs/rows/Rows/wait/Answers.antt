@@ -1,5 +1,5 @@
 use Rattle.ksm_pages.proofs.Names.{arith, Entry, inr, refl, rules}
-use Rattle.ksm_pages.proofs.Writing.{can_be, kept_mark, led_so, row_there, still, viewed}
+use Rattle.ksm_pages.proofs.Writing.{can_be, kept_mark, row_there, still_led, viewed}
 use Rattle.ksm_pages.proofs.rows.Rows.wait.Goals as goal
 use Rattle.ksm_pages.proofs.rows.Rows.wait.Goals.{After-change}
 
@@ -11,14 +11,9 @@ later c = record c.index_mut-entry.result.now { number = c.self.inside.pass }
 
 pub invariant_of-self : goal.invariant_of-self
 invariant_of-self c =
-    let s = c.self.inside in
-    let there = c.in-Some.ensures.there in
-    let stood = c.index_mut-entry.ensures.value in (
-      still s c.self.invariant.0 there stood c.self.view_is (later c) (search (rules, kept_mark))
-          (refl, λ _ own. grind arith) c.state_alone-old.ensures
-          (grind (arith, row_there)) c.change.ensures (inr (refl, λ may. may)),
-      led_so s c.self.invariant.0 there stood c.self.invariant.1 (later c) (λ led. (led, refl, refl)),
-    )
+    still_led c.self.inside c.self.invariant.0 c.in-Some.ensures.there c.index_mut-entry.ensures.value c.self.view_is (later c) (search (rules, kept_mark))
+    (refl, λ _ own. grind arith) c.self.invariant.1 (λ led. (led, refl, refl)) c.state_alone-old.ensures
+    (grind (arith, row_there)) c.change.ensures (inr (refl, λ may. may))
 
 pub returns : goal.returns
 returns c =

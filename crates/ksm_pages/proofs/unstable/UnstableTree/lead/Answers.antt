@@ -1,5 +1,5 @@
-use Rattle.ksm_pages.proofs.Names.{ap, arith, BTreeMap, Content, false, is_led, KeepsOthers, keys_at, length, list_any, MatchOption, not, number_of, on_ok_weaker, place, rules, slice_get_past, set-get_or, get_or_from_slice_get}
-use Rattle.ksm_pages.proofs.Names.{slice_get_read, sym, true≢false, ℕ, ⊤, ◌∙◌, ◌≡◌}
+use Rattle.ksm_pages.proofs.Names.{ap, arith, BTreeMap, Content, false, is_led, KeepsOthers, keys_at, length, list_any, MatchOption, not, number_of, on_ok_weaker, place, rules, slice_get_past}
+use Rattle.ksm_pages.proofs.Names.{set-get_or, get_or_from_slice_get, slice_get_read, sym, true≢false, ℕ, ⊤, ◌∙◌, ◌≡◌}
 use Rattle.ksm_pages.proofs.Leading.{beside_keeps, beside_meets, IsAs, put_keeps, put_meets}
 use Rattle.ksm_pages.proofs.unstable.UnstableTree.lead.Goals as goal
 use Rattle.ksm_pages.proofs.unstable.UnstableTree.lead.Goals.{in-Some+in_default-free_in, in_default}
