@@ -1,17 +1,5 @@
 -- The definitions, and the laws of the libraries and crates below, by their names, for proofs.
 pub use Rattle.frame_core.proofs.Above.{frames_at_most}
-pub use Rattle.frame_core.specs.Ledger.{added, blank, filled, first_ledger, frame_at, frozen, IsLoose, IsReadable, IsWritable, ledger_after, named_anew, named_at, opened, raised, reaped, shown}
-pub use Rattle.frame_core.specs.Ledger.{with_frame}
-pub use Rattle.frame_core.specs.Rule.{GenerationFits}
-pub use Rattle.frame_core.specs.State.{count_in}
-pub use Rattle.frame_core.specs.declared.event.KeeperStep.{KeeperStep}
-pub use Rattle.frame_core.specs.declared.event.KeeperStep.TheVariants.{Add, Freeze, Open, Publish, Raise, Reap, Sub, Withdraw}
-pub use Rattle.frame_core.specs.declared.frame.Kind.{Kind}
-pub use Rattle.frame_core.specs.declared.frame.Kind.TheVariants.{Dying, Free, Private, Stable}
-pub use Rattle.frame_core.specs.declared.ledger.Ledger.{Ledger}
-pub use Rattle.frame_core.specs.declared.ledger.Note.{Note}
-pub use Rattle.frame_table.specs.Kept.{Did, did, May}
-pub use Rattle.frame_table.specs.Named.{KeeperView}
 pub use Rattle.ksm_base.proofs.Changes.{contains_filter}
 pub use Rattle.ksm_base.proofs.Edits.{count_more, count_none, counts_one, find_all, find_none, find_nothing, find_passes, none_counted}
 pub use Rattle.ksm_base.proofs.Orders.{all_with_dup, all_with_row, each_has_number, filter_none, Lower, one_of_each_page, one_of_each_place, ordered_change, ordered_filter, pairs_append, pairs_head}
@@ -27,32 +15,8 @@ pub use Rattle.ksm_base.proofs.SoundScan.{settled_calmer, sound_cursor, sound_no
 pub use Rattle.ksm_base.proofs.SoundSteps.{sound_after, sound_opening}
 pub use Rattle.ksm_base.proofs.SoundVisit.{all_changed, best_dup_has_room, IsJoined}
 pub use Rattle.ksm_base.proofs.Visits.{rowwise_visits}
-pub use Rattle.ksm_base.specs.Answers.{Answer, every_row, IsAnswerOrMemory, IsScanned}
-pub use Rattle.ksm_base.specs.Apply.{effect, fresh_row, is_before, let_go, moved, scan_stopped, stored, unshare_stopped, unshared}
-pub use Rattle.ksm_base.specs.Counting.{mergeable_count}
-pub use Rattle.ksm_base.specs.Refusals.{is_of, live_dup_at}
-pub use Rattle.ksm_base.specs.Rows.{change_row, change_rows, comes_before, has_items, InPageOrder, InPlaceOrder, is_stale, item_count, merged_into, merged_state, row_at, same_page, settled}
-pub use Rattle.ksm_base.specs.Rows.{shared_state, waiting_state, with_dup, with_row, without_page, zero_state}
-pub use Rattle.ksm_base.specs.Sound.{IsDupOf, IsSound}
-pub use Rattle.ksm_base.specs.State.{BookState, default_knobs, pass_ended, place_count, tree_of, with_none_waiting}
-pub use Rattle.ksm_base.specs.Values.{frames_of, IsShape}
-pub use Rattle.ksm_base.specs.Visit.{after_cursor, best_dup, empty_from, handled, is_best, is_for_zero, is_no_rival, is_no_worse, made_dup, may_join, new_place, next_row, paired, partner, pass_begun}
-pub use Rattle.ksm_base.specs.Visit.{pass_ended_at_last, row_visited, visit, visit_begun, visit_of, visits, waits_for}
-pub use Rattle.ksm_base.specs.declared.command.Command.{Command}
-pub use Rattle.ksm_base.specs.declared.command.Command.TheVariants.{Drop, Mergeable, MoveDup, MovePage, Prune, Register, Scan, SetAcross, SetLimit, SetPagesToScan, SetRun, Store, Unmerge}
-pub use Rattle.ksm_base.specs.declared.fault.Fault.{Fault}
-pub use Rattle.ksm_base.specs.declared.fault.Fault.TheVariants.{InUse, Memory, NoFrame, UnknownPage}
 pub use Rattle.ksm_base.specs.declared.knobs.Knobs.{Knobs}
-pub use Rattle.ksm_base.specs.declared.limits.TheConstants.{MOST_FRAMES, MOST_LIVES, MOST_REFERENCES}
-pub use Rattle.ksm_base.specs.declared.page.GuestPage.{GuestPage}
-pub use Rattle.ksm_base.specs.declared.page.TheConstants.{PAGE_WORDS}
 pub use Rattle.ksm_base.specs.declared.reply.Reply.{Reply}
-pub use Rattle.ksm_base.specs.declared.reply.Reply.TheVariants.{Done, Pruned, Scanned, Unmerged}
-pub use Rattle.ksm_base.specs.declared.row.DupRow.{DupRow}
-pub use Rattle.ksm_base.specs.declared.row.PageState.{PageState}
-pub use Rattle.ksm_base.specs.declared.row.PageState.TheVariants.{Merged, Waiting, Zero}
-pub use Rattle.ksm_base.specs.declared.row.Row.{Row}
-pub use Rattle.ksm_base.specs.declared.shape.Shape.{Shape}
 pub use Rattle.ksm_book.specs.Carried.{CarriedOut, IsCarried, scanning, StoresTo, TakesSteps, UnmergesTo}
 pub use Rattle.ksm_book.specs.Commands.{Deed, dup_frame, Finds, FindsHeld, FindsNone, frame_number, idle, instead, IsIdle, leaving, Mapped, mounting, Moves, Performs, Provides, pruning, Resettles}
 pub use Rattle.ksm_book.specs.Commands.{ResettlesEach, rewriting, row_visiting, then_doing, withdrawing}
@@ -67,6 +31,17 @@ pub use Rattle.ksm_book.specs.Scanned.{ahead_before, ahead_up_to, Comes, FindsSt
 pub use Rattle.ksm_book.specs.Scanned.{VisitsPage}
 pub use Rattle.ksm_book.specs.Steps.{Allocates, AllocatesOn, along, dying_from, dying_kind, dying_on, free_kind, given_by, Gives, IsLowestFree, loads, Log, MakesSteps, needed_after, NoneOf, puts}
 pub use Rattle.ksm_book.specs.Steps.{replayed, stepped, steps_of}
+pub use Rattle.ksm_book.specs.Terms.{Add, added, after_cursor, Answer, are_paired, AreAscending, at_home_on, best_dup, blank, BookState, change_row, change_rows, comes_before, Command, count_in}
+pub use Rattle.ksm_book.specs.Terms.{default_knobs, Did, did, Done, Drop, dup_of_row, DupRow, Dying, effect, elsewhere, empty_from, every_row, Fault, filled, FindsAt, first_ledger, frame_at, Frames}
+pub use Rattle.ksm_book.specs.Terms.{frames_of, Free, Freeze, fresh_row, frozen, GenerationFits, GuestPage, handled, has, has_item, has_items, HasRoom, HasRow, InPageOrder, InPlaceOrder, InUse}
+pub use Rattle.ksm_book.specs.Terms.{is_before, is_best, is_for_zero, is_next, is_no_rival, is_no_worse, is_of, is_restless, is_stale, IsAlone, IsAnswerOrMemory, IsDupOf, IsHeld, IsLoose, IsReadable}
+pub use Rattle.ksm_book.specs.Terms.{IsScanned, IsShape, IsSound, IsVacant, IsWritable, item_count, items_on, ItemsLieOn, KeeperStep, KeeperView, Kind, Ledger, ledger_after, let_go, lies_on}
+pub use Rattle.ksm_book.specs.Terms.{live_dup_at, made_dup, Marks, May, may_join, MayPair, Memory, Mergeable, mergeable_count, Merged, merged_into, merged_state, MOST_FRAMES, MOST_LIVES}
+pub use Rattle.ksm_book.specs.Terms.{MOST_REFERENCES, moved, MoveDup, MovePage, named_anew, named_at, new_place, next_row, NoFrame, Note, nowhere, of_guest, on_its_own, Open, opened, page_beside}
+pub use Rattle.ksm_book.specs.Terms.{PAGE_WORDS, PageState, PagesView, paired, partner, pass_begun, pass_ended, pass_ended_at_last, place_count, Private, Prune, Pruned, Publish, Raise, raised, Reap}
+pub use Rattle.ksm_book.specs.Terms.{reaped, Register, relaid, Row, row_at, row_visited, same_page, Scan, scan_stopped, Scanned, seen, SetAcross, SetLimit, SetPagesToScan, SetRun, settled, Shape}
+pub use Rattle.ksm_book.specs.Terms.{shared_state, shown, Stable, Store, stored, Sub, tree_of, UnknownPage, Unmerge, Unmerged, unshare_stopped, unshared, visit, visit_begun, visit_of, visits, Waiting}
+pub use Rattle.ksm_book.specs.Terms.{waiting_state, waits_for, with_dup, with_frame, with_none_waiting, with_row, Withdraw, without_page, Zero, zero_state}
 pub use Rattle.ksm_book.specs.Whole.{BookValue, BookView, HasShown, listed, mapped, nodes_got, view_of}
 pub use Rattle.ksm_book.specs.Worked.{apart, page}
 pub use Rattle.ksm_order.proofs.Ordered.{absent_parts, any_found, none_found, with_rises, without_between, without_rises}
@@ -75,8 +50,6 @@ pub use Rattle.ksm_pages.proofs.Joined.{own_not_merged}
 pub use Rattle.ksm_pages.proofs.Options.{mapped_some, none_mapped, some_mapped}
 pub use Rattle.ksm_pages.proofs.Ranked.{last_of_take}
 pub use Rattle.ksm_pages.specs.Ahead.{EndsAt, FindsNext, last_of, mergeable_pages}
-pub use Rattle.ksm_pages.specs.Paged.{at_home_on, dup_of_row, elsewhere, FindsAt, Frames, HasRoom, HasRow, is_next, is_restless, IsAlone, IsHeld, IsVacant, items_on, ItemsLieOn, lies_on, MayPair}
-pub use Rattle.ksm_pages.specs.Paged.{nowhere, of_guest, on_its_own, page_beside, PagesView, paired as are_paired, relaid, seen}
 pub use Rattle.ksm_pages.specs.declared.ahead.Ahead.{Ahead}
 pub use Rattle.ksm_pages.specs.declared.ahead.Ahead.TheVariants.{At, End}
 pub use Rattle.ksm_pages.specs.declared.named.Named.{Named}
@@ -84,10 +57,8 @@ pub use Rattle.ksm_pages.specs.declared.pages.Find.{Find}
 pub use Rattle.ksm_pages.specs.declared.pages.Find.TheVariants.{Dup, Partner}
 pub use Rattle.ksm_pages.specs.declared.pages.Held.{Held}
 pub use Rattle.ksm_rmap.proofs.Pages.{pages_ordered}
-pub use Rattle.ksm_rmap.specs.Items.{AreAscending, has_item}
 pub use Rattle.ksm_tree.proofs.Alike.{count_alike, count_mapped, filter_mapped, find_mapped, map_alike, map_mapped, pairs_mapped}
 pub use Rattle.ksm_tree.proofs.Numbers.{on_err}
-pub use Rattle.ksm_tree.specs.NumberSets.{has, Marks}
 pub use Rattle.ksm_tree.specs.declared.dup.Best.{Best}
 pub use Rattle.std.proofs.Common.{ap, append-nil, append_assoc, arith, Bool, cond, drop, eq-eqb, Err, false, get_or, get_or-set_other, get_or-set_same, inl, inr, length, length-set, List, map, None}
 pub use Rattle.std.proofs.Common.{Ok, Option, refl, replicate, rules, set, Some, subst, suc, suc-mul, sym, take, true, true≢false, zero, ℕ, [], ◌*◌, ◌++◌, ◌+◌, ◌-◌, ◌/◌, ◌<◌, ◌^◌, ◌∙◌, ◌∷◌, ◌≡◌, ◌≢◌}

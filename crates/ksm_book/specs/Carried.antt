@@ -1,23 +1,11 @@
 -- A command carried out: what it answered, the state after it, the steps that it made on the frames, and where each
 -- page lies then (own).
 use Rattle.std.specs.Prelude.{◌≡◌, ℕ, ◌==◌, Bool, List, take, Option, Some, None, Ok, Err, MatchBool, MatchOption}
-use Rattle.ksm_base.specs.declared.row.Row.{Row}
-use Rattle.ksm_base.specs.declared.command.Command.{Command}
-use Rattle.ksm_base.specs.declared.command.Command.TheVariants.{Register, Drop, Store, Scan, Prune, Unmerge, MovePage, MoveDup, SetRun, SetAcross, SetLimit}
-use Rattle.ksm_base.specs.declared.reply.Reply.TheVariants.{Done, Scanned, Pruned, Unmerged}
-use Rattle.ksm_base.specs.declared.fault.Fault.{Fault}
-use Rattle.ksm_base.specs.declared.fault.Fault.TheVariants.{NoFrame, InUse}
-use Rattle.ksm_base.specs.Answers.{Answer, IsAnswerOrMemory, shared_rows, every_row}
-use Rattle.ksm_base.specs.Apply.{after}
-use Rattle.ksm_base.specs.Refusals.{is_of, live_dup_at}
-use Rattle.ksm_base.specs.Rows.{row_at, shared_state}
-use Rattle.ksm_base.specs.Journal.{Entry}
-use Rattle.ksm_base.specs.State.{BookState}
-use Rattle.frame_table.specs.Named.{KeeperView}
+use Rattle.ksm_book.specs.Terms.{after, Answer, BookState, Command, Done, Drop, Entry, every_row, Fault, frame_of, Frames, InUse, is_of, IsAnswerOrMemory, KeeperView, live_dup_at, Lodging, MoveDup}
+use Rattle.ksm_book.specs.Terms.{MovePage, NoFrame, Prune, Pruned, Register, Row, row_at, Scan, Scanned, SetAcross, SetLimit, SetRun, shared_rows, shared_state, Store, Unmerge, Unmerged}
 use Rattle.ksm_book.specs.Commands.{Mapped, IsIdle, TurnsAway, Admits, Resettles, ResettlesEach, Moves, FindsHeld, Performs, Deed, idle, rewriting, emptying, pruning}
 use Rattle.ksm_book.specs.Folded.{visits_beside}
 use Rattle.ksm_book.specs.Steps.{AllocatesOn}
-use Rattle.ksm_pages.specs.Paged.{Frames, Lodging, frame_of}
 use Rattle.ksm_book.specs.Whole.{BookValue, BookView, mapped, nodes_got, HasShown, view_of}
 
 -- a page with a frame of its own is stored to in place, a merged or Zero one gets a new frame first

@@ -3,19 +3,8 @@
 -- Carried.antt says which of them each command and answer make.
 use Rattle.std.specs.Prelude.{◌≡◌, ℕ, ◌-◌, ◌==◌, List, [], ◌∷◌, ◌++◌, map, filter, find, replicate, Option, Some, None, option_and_then, if◌then◌else◌}
 use Rattle.std.specs.List.{list_any}
-use Rattle.ksm_base.specs.declared.page.GuestPage.{GuestPage}
-use Rattle.ksm_base.specs.declared.row.Row.{Row}
-use Rattle.ksm_base.specs.declared.row.DupRow.{DupRow}
-use Rattle.ksm_base.specs.Rows.{shared_state, merged_into, item_count, is_stale}
-use Rattle.ksm_base.specs.State.{BookState, place_count}
-use Rattle.ksm_base.specs.Visit.{best_dup, is_for_zero, partner, new_place}
-use Rattle.frame_core.specs.declared.event.KeeperStep.{KeeperStep}
-use Rattle.frame_core.specs.declared.event.KeeperStep.TheVariants.{Reap, Raise, Open, Add, Sub, Publish, Withdraw, Freeze}
-use Rattle.frame_core.specs.declared.frame.Kind.TheVariants.{Stable, Dying}
-use Rattle.frame_core.specs.Ledger.{frame_at}
-use Rattle.frame_table.specs.Kept.{did}
-use Rattle.frame_table.specs.Named.{KeeperView}
-use Rattle.ksm_pages.specs.Paged.{Frames, lies_on}
+use Rattle.ksm_book.specs.Terms.{Add, best_dup, BookState, did, DupRow, Dying, frame_at, Frames, Freeze, GuestPage, is_for_zero, is_stale, item_count, KeeperStep, KeeperView, lies_on, merged_into}
+use Rattle.ksm_book.specs.Terms.{new_place, Open, partner, place_count, Publish, Raise, Reap, Row, shared_state, Stable, Sub, Withdraw}
 use Rattle.ksm_book.specs.Placement.{is_frame}
 use Rattle.ksm_book.specs.Steps.{MakesSteps, steps_of, dying_on, HasNoFree, IsLowestFree, puts, loads}
 

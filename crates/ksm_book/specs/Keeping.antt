@@ -2,24 +2,10 @@
 -- moves, and for the sets of its free and dying frames (own).
 use Rattle.std.specs.Prelude.{◌≡◌, ℕ, ◌+◌, ◌-◌, ◌*◌, ◌<◌, ◌≤◌, List, [], Contains, Option, Some, None, ◌≢◌, ◌∷◌, length, slice_set, Bool, false}
 use Rattle.std.specs.List.{sum_by}
-use Rattle.ksm_base.specs.declared.row.Row.{Row}
-use Rattle.ksm_base.specs.declared.row.DupRow.{DupRow}
-use Rattle.ksm_base.specs.Values.{frames_of}
-use Rattle.frame_core.specs.declared.event.KeeperStep.TheVariants.{Reap, Raise, Publish, Freeze, Sub}
-use Rattle.frame_core.specs.declared.frame.Kind.{Kind}
-use Rattle.frame_core.specs.declared.frame.Kind.TheVariants.{Private, Dying, Free, Stable}
-use Rattle.frame_core.specs.declared.ledger.Ledger.{Ledger}
-use Rattle.frame_core.specs.declared.ledger.Note.{Note}
-use Rattle.frame_core.specs.State.{count_in}
-use Rattle.frame_core.specs.Ledger.{frame_at, named_at, IsLoose}
-use Rattle.frame_table.specs.Named.{KeeperView}
-use Rattle.ksm_pages.specs.Paged.{Frames}
+use Rattle.ksm_book.specs.Terms.{count_in, DupRow, Dying, frame_at, Frames, frames_of, Free, Freeze, has, IsLoose, KeeperView, Kind, Ledger, May, MOST_REFERENCES, named_at, Note, PAGE_WORDS, Private}
+use Rattle.ksm_book.specs.Terms.{Publish, Raise, Reap, Row, Stable, Sub}
 use Rattle.ksm_book.specs.Placement.{Placed, node_of}
 use Rattle.ksm_book.specs.Steps.{Log, Allocates, HasNoFree, free_kind, dying_kind}
-use Rattle.ksm_base.specs.declared.limits.TheConstants.{MOST_REFERENCES}
-use Rattle.ksm_base.specs.declared.page.TheConstants.{PAGE_WORDS}
-use Rattle.frame_table.specs.Kept.{May}
-use Rattle.ksm_tree.specs.NumberSets.{has}
 
 -- every lawful placement is still lawful, with another frame in hand
 abbrev pub Keeps : KeeperView → KeeperView → Option ℕ → Option ℕ → Type 0

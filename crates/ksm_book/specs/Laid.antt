@@ -1,24 +1,12 @@
 -- The pages as they lie in the keeper's frames, the state of the book that they tell, and pages that leave their dups
 -- (own).
 use Rattle.std.specs.Prelude.{◌≡◌, ℕ, ◌<◌, ◌≤◌, ◌&&◌, ◌==◌, find, Ok, Err, Option, None, Some, List, [], Bool, true, ◌∷◌, length, filter, take, slice_get, option_map, if◌then◌else◌}
-use Rattle.ksm_base.specs.declared.page.GuestPage.{GuestPage}
-use Rattle.ksm_base.specs.declared.fault.Fault.TheVariants.{InUse, NoFrame}
-use Rattle.ksm_base.specs.declared.reply.Reply.TheVariants.{Done}
-use Rattle.ksm_base.specs.Answers.{Answer}
-use Rattle.ksm_base.specs.declared.row.DupRow.{DupRow}
-use Rattle.ksm_base.specs.declared.row.Row.{Row}
-use Rattle.ksm_base.specs.Rows.{change_row, has_items, row_at, change_rows, shared_state}
-use Rattle.ksm_base.specs.Sound.{IsSound}
-use Rattle.ksm_base.specs.State.{BookState}
-use Rattle.ksm_base.specs.Values.{IsShape}
-use Rattle.frame_table.specs.Named.{KeeperView}
+use Rattle.ksm_book.specs.Terms.{Answer, BookState, change_row, change_rows, Done, DupRow, Fault, GuestPage, has_items, InUse, is_before, IsShape, IsSound, KeeperView, let_go, NoFrame, of_guest}
+use Rattle.ksm_book.specs.Terms.{PagesView, Row, row_at, shared_state, unshared}
 use Rattle.ksm_book.specs.Placement.{Placed}
 use Rattle.ksm_book.specs.Steps.{Allocates, loads}
 use Rattle.ksm_book.specs.Commands.{FindsHeld, Mapped, Moves, TurnsAway, ResettlesEach}
 use Rattle.ksm_book.specs.Keeping.{spent}
-use Rattle.ksm_pages.specs.Paged.{PagesView, of_guest}
-use Rattle.ksm_base.specs.declared.fault.Fault.{Fault}
-use Rattle.ksm_base.specs.Apply.{is_before, let_go, unshared}
 use Rattle.ksm_book.specs.Carried.{UnmergesTo}
 
 -- where each page lies, with the keeper of the frames

@@ -1,3 +1,4 @@
+pub mod Terms
 pub mod Placement
 pub mod Steps
 pub mod Commands

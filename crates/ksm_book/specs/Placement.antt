@@ -1,20 +1,7 @@
 -- Lawful placement: how rows, dups and the keeper's frames agree (own).
 use Rattle.std.specs.Prelude.{◌≡◌, ◌≢◌, ℕ, ◌+◌, ◌<◌, ◌≤◌, ◌/◌, Bool, true, false, cond, ◌==◌, List, length, count_by, All, Option, Some, None, is_some}
-use Rattle.ksm_base.specs.declared.page.TheConstants.{PAGE_WORDS}
-use Rattle.ksm_base.specs.declared.shape.Shape.{Shape}
-use Rattle.ksm_base.specs.declared.row.PageState.{PageState}
-use Rattle.ksm_base.specs.declared.row.PageState.TheVariants.{Private as OwnPage, Waiting, Merged, Zero}
-use Rattle.ksm_base.specs.declared.row.Row.{Row}
-use Rattle.ksm_base.specs.declared.row.DupRow.{DupRow}
-use Rattle.ksm_base.specs.Values.{frames_of}
-use Rattle.ksm_base.specs.Rows.{zero_state, shared_state, merged_into}
-use Rattle.ksm_pages.specs.Paged.{Frames}
-use Rattle.frame_core.specs.declared.frame.Kind.{Kind}
-use Rattle.frame_core.specs.declared.frame.Kind.TheVariants.{Free, Filling, Private, Stable}
-use Rattle.frame_core.specs.declared.ledger.Ledger.{Ledger}
-use Rattle.frame_core.specs.declared.seat.Life.{Life}
-use Rattle.frame_core.specs.Ledger.{frame_at, named_at}
-use Rattle.frame_core.specs.Rule.{GenerationFits}
+use Rattle.ksm_book.specs.Terms.{DupRow, Filling, frame_at, Frames, frames_of, Free, GenerationFits, Kind, Ledger, Life, Merged, merged_into, named_at, OwnPage, PAGE_WORDS, PageState, Private, Row}
+use Rattle.ksm_book.specs.Terms.{Shape, shared_state, Stable, Waiting, Zero, zero_state}
 
 -- the node on which a frame lies
 abbrev pub node_of : Shape → ℕ → ℕ

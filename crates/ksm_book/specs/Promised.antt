@@ -1,22 +1,9 @@
 -- What is promised of the book and its frames between any two calls (own).
 use Rattle.std.specs.Prelude.{◌≡◌, ◌≢◌, ℕ, ◌*◌, ◌<◌, ◌≤◌, Bool, true, false, not, List, ◌++◌, map, filter, AllPairs, All, Contains, Some, None, MatchOption}
-use Rattle.ksm_base.specs.declared.limits.TheConstants.{MOST_FRAMES, MOST_LIVES}
-use Rattle.ksm_base.specs.declared.page.GuestPage.{GuestPage}
-use Rattle.ksm_base.specs.declared.shape.Shape.{Shape}
-use Rattle.ksm_base.specs.declared.row.Row.{Row}
-use Rattle.ksm_base.specs.declared.row.DupRow.{DupRow}
-use Rattle.ksm_base.specs.Rows.{zero_state, shared_state, merged_into, item_count, has_items, all_zero, row_at}
-use Rattle.ksm_base.specs.State.{BookState, place_count}
-use Rattle.ksm_base.specs.Values.{frames_of}
-use Rattle.ksm_base.specs.Visit.{new_place}
-use Rattle.frame_core.specs.declared.frame.Kind.{Kind}
-use Rattle.frame_core.specs.declared.frame.Kind.TheVariants.{Filling, Private, Stable}
-use Rattle.frame_core.specs.declared.ledger.Ledger.{Ledger}
-use Rattle.frame_core.specs.declared.seat.Life.{Life}
-use Rattle.frame_core.specs.Ledger.{frame_at, named_at}
+use Rattle.ksm_book.specs.Terms.{all_zero, BookState, DupRow, Filling, frame_at, Frames, frames_of, GuestPage, has_items, item_count, Kind, Ledger, Life, merged_into, MOST_FRAMES, MOST_LIVES}
+use Rattle.ksm_book.specs.Terms.{named_at, new_place, place_count, Private, Row, row_at, Shape, shared_state, Stable, zero_state}
 use Rattle.ksm_book.specs.Placement.{node_of, place_frame}
 use Rattle.ksm_book.specs.Commands.{frame_number}
-use Rattle.ksm_pages.specs.Paged.{Frames}
 
 -- the frames of the rows with a frame of their own, in order
 abbrev pub own_frames : List Row → Frames → List ℕ

@@ -1,14 +1,7 @@
 -- The part of its log that the keeper adds in a call, and the frames that it gives in it (own).
 use Rattle.std.specs.Prelude.{◌≡◌, ℕ, ◌+◌, ◌*◌, ◌<◌, ◌≤◌, Bool, true, false, List, [], ◌∷◌, ◌++◌, map, filter, Option, Some, None}
 use Rattle.std.specs.List.{range_with_len}
-use Rattle.ksm_base.specs.declared.shape.Shape.{Shape}
-use Rattle.frame_core.specs.declared.event.KeeperStep.{KeeperStep}
-use Rattle.frame_core.specs.declared.event.KeeperStep.TheVariants.{Raise, Put, Word}
-use Rattle.frame_core.specs.declared.frame.Kind.{Kind}
-use Rattle.frame_core.specs.declared.frame.Kind.TheVariants.{Free, Dying}
-use Rattle.frame_core.specs.declared.ledger.Ledger.{Ledger}
-use Rattle.frame_core.specs.Ledger.{frame_at, ledger_after}
-use Rattle.frame_table.specs.Named.{KeeperView}
+use Rattle.ksm_book.specs.Terms.{Dying, frame_at, Free, KeeperStep, KeeperView, Kind, Ledger, ledger_after, Put, Raise, Shape, Word}
 
 -- steps of the keeper, each with the word that it found
 abbrev pub Log : Type 0

@@ -1,17 +1,10 @@
 -- The book with the keeper of its frames, and what a command does with the keeper (own).
 use Rattle.std.specs.Prelude.{ℕ, List, [], ◌∷◌, map, take, Option, Some, None, Ok, Err}
-use Rattle.ksm_base.specs.declared.command.Command.{Command}
-use Rattle.ksm_base.specs.declared.command.Command.TheVariants.{Unmerge, MoveDup, SetRun}
-use Rattle.ksm_base.specs.declared.reply.Reply.TheVariants.{Done, Unmerged}
-use Rattle.ksm_base.specs.declared.fault.Fault.TheVariants.{NoFrame, InUse}
-use Rattle.ksm_base.specs.Refusals.{is_of}
-use Rattle.ksm_base.specs.Answers.{Answer, frame_needed, shared_rows, every_row}
-use Rattle.ksm_base.specs.State.{BookState}
-use Rattle.frame_table.specs.Named.{KeeperView}
+use Rattle.ksm_book.specs.Terms.{Answer, BookState, Command, Done, every_row, frame_needed, frame_of, Frames, InUse, is_of, KeeperView, Lodging, MoveDup, NoFrame, SetRun, shared_rows, Unmerge}
+use Rattle.ksm_book.specs.Terms.{Unmerged}
 use Rattle.ksm_book.specs.Steps.{AllocatesOn}
 use Rattle.ksm_book.specs.Commands.{Mapped}
 use Rattle.ksm_book.specs.Keeping.{NoneLeft, HasLost, HasMoved}
-use Rattle.ksm_pages.specs.Paged.{Frames, Lodging, frame_of}
 
 -- what is seen of the book: its state, the frame of each page, and the keeper
 pub record BookView : Type 0 where

@@ -1,15 +1,7 @@
 -- Worked commands: three equal pages, as they lie in the frames of two nodes, and what a command does with these. Own.
 use Rattle.std.specs.Prelude.{ℕ, ◌*◌, ◌^◌, List, [], ◌∷◌, None, Some, Ok}
 use Rattle.std.specs.List.{repeat}
-use Rattle.ksm_base.specs.declared.page.GuestPage.{GuestPage}
-use Rattle.ksm_base.specs.declared.page.TheConstants.{PAGE_WORDS}
-use Rattle.ksm_base.specs.declared.command.Command.{Command}
-use Rattle.ksm_base.specs.declared.command.Command.TheVariants.{Register, Drop, Store, Scan, SetRun}
-use Rattle.ksm_base.specs.declared.reply.Reply.TheVariants.{Done, Scanned}
-use Rattle.ksm_base.specs.declared.shape.Shape.{Shape}
-use Rattle.ksm_base.specs.State.{BookState, opening}
-use Rattle.ksm_base.specs.Apply.{after}
-use Rattle.ksm_pages.specs.Paged.{Frames, lies_on, nowhere}
+use Rattle.ksm_book.specs.Terms.{after, BookState, Command, Done, Drop, Frames, GuestPage, lies_on, nowhere, opening, PAGE_WORDS, Register, Scan, Scanned, SetRun, Shape, Store}
 
 -- two nodes of four frames
 abbrev pub shape : Shape

@@ -2,20 +2,12 @@
 //! carried out on the `State`, and then entered in the journal, whose memory was taken before the first step.
 
 ghost use Rattle.std.specs.Prelude.{◌≡◌, ◌≤◌, [], Some, IfOk, IfErr, IfSome, IsSome, option_map};
-ghost use Rattle.ksm_base.specs.Answers.{IsAnswerOrMemory};
-ghost use Rattle.ksm_base.specs.Apply.{after};
-ghost use Rattle.ksm_base.specs.Counting.{counters_of};
-ghost use Rattle.ksm_base.specs.Journal.{IsLegal, ReadsLastStored, journal_after, last_stored};
-ghost use Rattle.ksm_base.specs.Reading.{bytes_of, mappers_of, ticket_of};
-ghost use Rattle.ksm_base.specs.Refusals.{is_known};
-ghost use Rattle.ksm_base.specs.State.{opening};
-ghost use Rattle.ksm_base.specs.Values.{IsShape};
-ghost use Rattle.frame_core.specs.Ledger.{first_ledger};
+ghost use Rattle.ksm_book.specs.Terms.{after, bytes_of, counters_of, first_ledger, is_known, IsAnswerOrMemory, IsLegal};
+ghost use Rattle.ksm_book.specs.Terms.{IsShape, IsSound, journal_after, last_stored, mappers_of, nowhere, opening};
+ghost use Rattle.ksm_book.specs.Terms.{ReadsLastStored, ticket_of};
 ghost use Rattle.ksm_book.specs.Carried.{CarriedOut, CarriesOut, unjournaled};
 ghost use Rattle.ksm_book.specs.Due.{TellsDue};
-ghost use Rattle.ksm_pages.specs.Paged.{nowhere};
 ghost use Rattle.ksm_book.specs.Laid.{LoadsIf};
-ghost use Rattle.ksm_base.specs.Sound.{IsSound};
 ghost use Rattle.ksm_book.specs.Keeping.{spent};
 ghost use Rattle.ksm_book.specs.Promised.{FindsPlace, LieOn, NumbersAreSmall};
 
@@ -45,7 +37,7 @@ pub struct Book {
 
 impl Model for Book {
     ghost use Rattle.std.specs.Prelude.{◌≡◌};
-    ghost use Rattle.ksm_base.specs.Journal.{IsLegal};
+    ghost use Rattle.ksm_book.specs.Terms.{IsLegal};
     ghost use Rattle.ksm_book.specs.Carried.{JournaledBook};
     ghost use Rattle.ksm_book.specs.Due.{TellsDue};
 

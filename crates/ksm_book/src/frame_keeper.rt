@@ -2,13 +2,8 @@
 
 ghost use Rattle.std.specs.Prelude.{◌≡◌, ◌<◌, ◌≤◌, ℕ, ◌↔◌, IfErr, IfOk, IsTrue, MatchOption};
 ghost use Rattle.std.specs.Prelude.{slice_index};
-ghost use Rattle.ksm_base.specs.declared.fault.Fault.TheVariants.{Memory};
-ghost use Rattle.ksm_base.specs.Values.{frames_of, IsShape};
-ghost use Rattle.frame_core.specs.declared.event.KeeperStep.TheVariants.{Reap, Put, Raise, Open, Add, Sub, Publish};
-ghost use Rattle.frame_core.specs.declared.event.KeeperStep.TheVariants.{Withdraw, Freeze, Word};
-ghost use Rattle.frame_core.specs.Ledger.{frame_at, first_ledger};
-ghost use Rattle.frame_core.specs.State.{frame_word, count_in};
-ghost use Rattle.frame_table.specs.Kept.{May, did, Did};
+ghost use Rattle.ksm_book.specs.Terms.{Add, count_in, Did, did, first_ledger, frame_at, frame_word, frames_of, Freeze};
+ghost use Rattle.ksm_book.specs.Terms.{IsShape, May, Memory, Open, Publish, Put, Raise, Reap, Sub, Withdraw, Word};
 ghost use Rattle.ksm_book.specs.Keeping.{MayLeave};
 ghost use Rattle.ksm_book.specs.Steps.{NoneOf, IsFirstOf, free_kind, dying_kind};
 
@@ -30,7 +25,7 @@ pub struct FrameKeeper {
 }
 
 impl Model for FrameKeeper {
-    ghost use Rattle.frame_table.specs.Named.{KeeperView};
+    ghost use Rattle.ksm_book.specs.Terms.{KeeperView};
     ghost use Rattle.ksm_book.specs.Keeping.{AreSets};
 
     ghost Value = { KeeperView };

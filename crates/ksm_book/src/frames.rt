@@ -2,11 +2,9 @@
 
 ghost use Rattle.std.specs.Prelude.{◌≡◌, ◌<◌, ◌≤◌, ◌-◌, true, None, Some, is_some, IfSome, IsTrue, MatchOption, [], ◌∷◌};
 ghost use Rattle.std.specs.Prelude.{length, map, if◌then◌else◌};
+ghost use Rattle.ksm_book.specs.Terms.{frame_at, frames_of, IsReadable, IsShape, IsWritable, May, Reap, with_frame};
+ghost use Rattle.ksm_book.specs.Terms.{Withdraw};
 ghost use Rattle.ksm_base.specs.declared.page.TheConstants.{PAGE_WORDS as WORDS};
-ghost use Rattle.ksm_base.specs.Values.{frames_of, IsShape};
-ghost use Rattle.frame_core.specs.declared.event.KeeperStep.TheVariants.{Reap, Withdraw};
-ghost use Rattle.frame_core.specs.Ledger.{frame_at, with_frame, IsReadable, IsWritable};
-ghost use Rattle.frame_table.specs.Kept.{May};
 ghost use Rattle.ksm_book.specs.Keeping.{MayLeave, holding, IsLawful, HasNewFrame};
 ghost use Rattle.ksm_book.specs.Steps.{dying_from, loads, puts, stepped, MakesSteps};
 ghost use Rattle.ksm_book.specs.Commands.{Finds, FindsNone, Provides, leaving};

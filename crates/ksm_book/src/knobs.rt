@@ -1,7 +1,7 @@
 //! The commands that set a knob: each tests the range first, then what the knob must wait for.
 
 ghost use Rattle.std.specs.Prelude.{◌≡◌};
-ghost use Rattle.ksm_base.specs.Refusals.{changes_while_shared};
+ghost use Rattle.ksm_book.specs.Terms.{changes_while_shared};
 ghost use Rattle.ksm_book.specs.Carried.{CarriesOut};
 
 use crate::stale::drop_stale;

@@ -1,12 +1,7 @@
 //! What the book has the keeper do with the frames of a dup that moves.
 
 ghost use Rattle.std.specs.Prelude.{◌≡◌, ◌<◌, ◌≤◌, ◌+◌, replicate};
-ghost use Rattle.ksm_base.specs.Values.{frames_of};
-ghost use Rattle.ksm_base.specs.declared.limits.TheConstants.{MOST_REFERENCES};
-ghost use Rattle.frame_core.specs.declared.event.KeeperStep.TheVariants.{Add, Publish};
-ghost use Rattle.frame_core.specs.Ledger.{frame_at, with_frame};
-ghost use Rattle.frame_table.specs.Kept.{did};
-ghost use Rattle.frame_table.specs.Named.{KeeperView};
+ghost use Rattle.ksm_book.specs.Terms.{Add, did, frame_at, frames_of, KeeperView, MOST_REFERENCES, Publish, with_frame};
 ghost use Rattle.ksm_book.specs.Commands.{mounting};
 ghost use Rattle.ksm_book.specs.Keeping.{with_more, MayMount, once_mounted};
 ghost use Rattle.ksm_book.specs.Steps.{MakesSteps};

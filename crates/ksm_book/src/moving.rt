@@ -1,9 +1,9 @@
 //! The command that moves a dup to another frame: its refusals, and the move.
 
 ghost use Rattle.std.specs.Prelude.{◌≡◌};
+ghost use Rattle.ksm_book.specs.Terms.{seen};
 ghost use Rattle.ksm_book.specs.Carried.{CarriesOut};
 ghost use Rattle.ksm_book.specs.Laid.{HasRemounted, MayMove};
-ghost use Rattle.ksm_pages.specs.Paged.{seen};
 
 use crate::frame_keeper::FrameKeeper;
 use crate::frames::find_frame;

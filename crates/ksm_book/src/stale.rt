@@ -1,10 +1,9 @@
 //! The stale dups go, and their places name no frame any more.
 
 ghost use Rattle.std.specs.Prelude.{◌≡◌, count_by, filter};
-ghost use Rattle.ksm_base.specs.Rows.{InPlaceOrder, has_items, is_stale};
+ghost use Rattle.ksm_book.specs.Terms.{has_items, InPlaceOrder, is_stale, seen};
 ghost use Rattle.ksm_book.specs.Commands.{Performs, pruning};
 ghost use Rattle.ksm_book.specs.Laid.{IsLaid, lying};
-ghost use Rattle.ksm_pages.specs.Paged.{seen};
 
 use crate::frame_keeper::FrameKeeper;
 use frame_table::FrameTable;

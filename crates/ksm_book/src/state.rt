@@ -2,22 +2,13 @@
 //! the order of the definitions, and then changes the pages and their frames.
 
 ghost use Rattle.std.specs.Prelude.{◌≡◌, ◌≤◌, ◌||◌, ℕ, List, true, None, Some, IfOk, IfErr};
-ghost use Rattle.ksm_base.specs.Values.{IsShape};
-ghost use Rattle.ksm_base.specs.State.{opening};
-ghost use Rattle.ksm_base.specs.Apply.{stored};
-ghost use Rattle.ksm_base.specs.Rows.{change_row, row_at};
-ghost use Rattle.ksm_base.specs.Counting.{counters_of};
-ghost use Rattle.ksm_base.specs.Reading.{bytes_of};
-ghost use Rattle.ksm_base.specs.declared.fault.Fault.TheVariants.{Memory};
-ghost use Rattle.ksm_base.specs.Sound.{IsSound};
-ghost use Rattle.frame_core.specs.Ledger.{first_ledger};
+ghost use Rattle.ksm_book.specs.Terms.{bytes_of, change_row, counters_of, first_ledger, has_item, IsAlone, IsKnown};
+ghost use Rattle.ksm_book.specs.Terms.{IsShape, IsSound, Memory, nowhere, opening, page_beside, row_at, stored};
 ghost use Rattle.ksm_book.specs.Carried.{CarriesOut};
 ghost use Rattle.ksm_book.specs.Whole.{view_of};
 ghost use Rattle.ksm_book.specs.Keeping.{spent};
 ghost use Rattle.ksm_book.specs.Laid.{LoadsIf};
-ghost use Rattle.ksm_rmap.specs.Items.{has_item};
 ghost use Rattle.ksm_book.specs.Due.{names, TellsDue};
-ghost use Rattle.ksm_pages.specs.Paged.{IsAlone, IsKnown, nowhere, page_beside};
 ghost use Rattle.ksm_book.specs.Promised.{FindsPlace, LieOn, NumbersAreSmall};
 
 use crate::due::Due;
@@ -41,8 +32,7 @@ pub struct State {
 }
 
 impl Model for State {
-    ghost use Rattle.ksm_base.specs.Sound.{IsSound};
-    ghost use Rattle.ksm_pages.specs.Paged.{seen};
+    ghost use Rattle.ksm_book.specs.Terms.{IsSound, seen};
     ghost use Rattle.ksm_book.specs.Whole.{BookValue};
     ghost use Rattle.ksm_book.specs.Laid.{IsLaid, state_of};
 

@@ -2,11 +2,9 @@
 //! frames of their own again, and pages come back into the scan. Each goes along the pages in order.
 
 ghost use Rattle.std.specs.Prelude.{◌≡◌, ◌<◌, All, IfErr, IfOk, true};
-ghost use Rattle.ksm_base.specs.Refusals.{is_of};
-ghost use Rattle.ksm_base.specs.Rows.{change_rows};
+ghost use Rattle.ksm_book.specs.Terms.{change_rows, is_of, IsHeld, seen};
 ghost use Rattle.ksm_book.specs.Carried.{CarriesOut};
 ghost use Rattle.ksm_book.specs.Laid.{IsLaid, HasLeft, MayNotLeave, Unshares};
-ghost use Rattle.ksm_pages.specs.Paged.{IsHeld, seen};
 
 use crate::frame_keeper::FrameKeeper;
 use crate::frames::{release_if, take_frame};

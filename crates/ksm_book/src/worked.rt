@@ -2,14 +2,10 @@
 //! nothing to run.
 
 ghost use Rattle.std.specs.Prelude.{◌≡◌, [], ◌∷◌, None, Some, Ok, Err};
-ghost use Rattle.frame_core.specs.declared.event.KeeperStep.TheVariants.{Add, Sub, Publish, Withdraw};
-ghost use Rattle.ksm_base.specs.declared.command.Command.TheVariants.{Register, Store, Scan, Unmerge, MovePage};
-ghost use Rattle.ksm_base.specs.declared.command.Command.TheVariants.{MoveDup, SetRun};
-ghost use Rattle.ksm_base.specs.declared.fault.Fault.TheVariants.{NoFrame};
-ghost use Rattle.ksm_base.specs.declared.reply.Reply.TheVariants.{Done, Scanned, Unmerged};
+ghost use Rattle.ksm_book.specs.Terms.{Add, Done, lies_on, MoveDup, MovePage, NoFrame, nowhere, Publish, Register};
+ghost use Rattle.ksm_book.specs.Terms.{Scan, Scanned, SetRun, Store, Sub, Unmerge, Unmerged, Withdraw};
 ghost use Rattle.ksm_book.specs.Whole.{nodes_got};
 ghost use Rattle.ksm_book.specs.Worked.{alone, apart, full, merged, page, stale, three, together};
-ghost use Rattle.ksm_pages.specs.Paged.{lies_on, nowhere};
 ghost use Rattle.ksm_book.specs.Carried.{scanning};
 ghost use Rattle.ksm_book.specs.Commands.{emptying, pruning};
 
