@@ -2,14 +2,12 @@
 use Rattle.ksm_book.proofs.Names.{All, arith, blank, cases_lt, change_row, cond_both, default_knobs, DupRow, false, find_all, FindsNone, first_ledger, frame_at, Frames, get_or, get_or-replicate}
 use Rattle.ksm_book.proofs.Names.{get_or_past, GuestPage, HasNewFrame, IfSome, inl, InPageOrder, IsLaid, IsServed, IsShape, KeeperView, Keeps, Knobs, leaving, Ledger, length-replicate, lies_on}
 use Rattle.ksm_book.proofs.Names.{LiesWith, List, lying, MakesSteps, map, MayLeave, None, nowhere, Option, PagesView, Placed, Provides, refl, relaid, Resettles, Row, row_at, Shape, shared_state, Some}
-use Rattle.ksm_book.proofs.Names.{spent, subst, TurnedAway, with_row, ℕ, [], ◌≡◌, ◌≤◌, ◌⊎◌}
+use Rattle.ksm_book.proofs.Names.{spent, subst, TurnedAway, with_row, [], ℕ, ◌≡◌, ◌≤◌, ◌⊎◌}
 use Rattle.ksm_base.specs.declared.row.PageState.TheVariants.{Private as OwnPage}
 use Rattle.ksm_book.proofs.ByPage.{found_page, row_of_page}
-use Rattle.ksm_book.proofs.Moves.{inserted, remapped, Serves, swapped}
-use Rattle.ksm_book.proofs.Shown.{provides_does}
-use Rattle.ksm_book.proofs.Keeping.{held_inside, searched_placed, searched_spends, spent_kept}
-use Rattle.ksm_book.proofs.Made.{none_made, step_made}
-use Rattle.ksm_book.proofs.Noted.{noted}
+use Rattle.ksm_book.proofs.Moves.{inserted, noted, remapped, Serves, swapped}
+use Rattle.ksm_book.proofs.Carried.{provides_does}
+use Rattle.ksm_book.proofs.Made.{held_inside, none_made, reaps_spend, searched_placed, spent_kept, step_made}
 
 -- a row may stand in the stead of another on its frame: same home and bytes, and the same state, or neither is shared
 abbrev pub LodgesAs : Row → Row → Type 0
@@ -38,12 +36,10 @@ may_leave {hand = Some g} h = grind (arith, held_inside h.placed)
 -- pages lie lawfully once it was left
 pub laid_left : {hand : Option ℕ} {p : PagesView} {k : KeeperView} → LiesWith hand p k → (w : KeeperView) → MakesSteps k w (leaving hand) → IsLaid p w
 laid_left {hand = None} h w m = rw (none_made m) h
-laid_left {hand = Some g} h w m = record {
-  small = h.small;
-  same = rw m.after h.same;
-  placed = rw (step_made m).1 (noted h.placed g (held_inside h.placed).0 _ None (grind (arith, held_inside h.placed)) (grind arith));
-  spent = grind (arith, h.spent, step_made m, spent_kept);
-}
+laid_left {hand = Some g} {p} h w m =
+    let placed : Placed p.shape p.knobs.merge_across_nodes w.ledger p.rows p.frame p.dups None = rw (step_made m).1
+    (noted h.placed g (held_inside h.placed).0 _ None (grind (arith, held_inside h.placed)) (grind arith)) in
+    grind (arith, h, placed, step_made m, spent_kept)
 
 -- the row of a page changes, the page lies on the frame that was in hand, if one was, and its own comes into the hand
 pub lies_changed : {hand : Option ℕ} {p : PagesView} {k : KeeperView} {page : GuestPage} {row : Row} → LiesWith hand p k → (c : Row → Row)
@@ -52,14 +48,8 @@ pub lies_changed : {hand : Option ℕ} {p : PagesView} {k : KeeperView} {page : 
 lies_changed {hand} h c rise found keeps new = grind (arith, swapped hand c _ rise found keeps h.placed new)
 
 module _ {p : PagesView} {k : KeeperView} (h : IsLaid p k) where
-  abbrev across : ℕ
-  across = p.knobs.merge_across_nodes
-
-  abbrev sh : Shape
-  sh = p.shape
-
   -- pages lie lawfully with other rows and frames that are placed lawfully beside the same dups
-  pub laid_rows : {rows : List Row} {frame : Frames} (w : KeeperView) → w.table ≡ k.table → spent k.ledger ≤ spent w.ledger → Placed sh across w.ledger rows frame p.dups None
+  pub laid_rows : {rows : List Row} {frame : Frames} (w : KeeperView) → w.table ≡ k.table → spent k.ledger ≤ spent w.ledger → Placed p.shape p.knobs.merge_across_nodes w.ledger rows frame p.dups None
       → IsLaid (record p { rows = rows; frame = frame }) w
   laid_rows w e more placed = grind arith
 
@@ -122,6 +112,4 @@ module _ {p : PagesView} {k w : KeeperView} (h : IsLaid p k) (rise : InPageOrder
 -- where no frame of a node was found, pages that lie lawfully are turned away, and no page changed
 pub turned : {p : PagesView} {k w : KeeperView} {node : ℕ} → IsLaid p k → FindsNone k w node → TurnedAway p p k w node
 turned {k = k} {w} h none =
-    let placed = kept k h.same w _ (searched_placed _ none.reaped) h.placed in
-    let spends = searched_spends _ none.reaped in
-    grind arith
+    grind (arith, kept k h.same w _ (searched_placed _ none.reaped) h.placed, reaps_spend _ _ _ none.reaped)

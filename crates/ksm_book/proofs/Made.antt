@@ -1,6 +1,12 @@
--- Parts of a log, and lists of steps that were made, one after the other.
-use Rattle.ksm_book.proofs.Names.{Allocates, along, append-nil, append_assoc, arith, did, drop, get_or, given_by, Gives, KeeperStep, KeeperView, Ledger, ledger_after, length, length-take-le, List}
-use Rattle.ksm_book.proofs.Names.{Log, MakesSteps, map-append, needed_after, refl, replayed, set, Shape, stepped, steps_of, suc, take, take_more, zero, ℕ, [], ◌++◌, ◌+◌, ◌<◌, ◌∷◌, ◌≡◌}
+-- Steps of the keeper that were made, one after the other; what they make of a placement, of the lives spent and of the sets of
+-- free and dying frames; and frames that are found, filled and mounted.
+use Rattle.ksm_book.proofs.Names.{Add, added, All, Allocates, along, ap, append-nil, append_assoc, AreSets, arith, blank, Bool, cases_eq, cases_lt, cond, did, drop, DupRow, Dying, dying_from}
+use Rattle.ksm_book.proofs.Names.{dying_kind, dying_on, filter_passes, Finds, FindsNone, frame_at, Frames, frames_of, Free, free_kind, Freeze, get_or, get_or-set_other, get_or-set_same, get_or_past}
+use Rattle.ksm_book.proofs.Names.{given_by, Gives, HasNewFrame, holding, inl, inr, IsLawful, KeeperStep, KeeperView, Keeps, Kind, Ledger, ledger_after, length, length-set, length-take-le, List, loads}
+use Rattle.ksm_book.proofs.Names.{Log, MakesSteps, map, map-append, Marks, MayLeave, mounting, named_anew, needed_after, None, NoneOf, Note, once_mounted, Open, opened, Option, PAGE_WORDS, Placed}
+use Rattle.ksm_book.proofs.Names.{puts, Raise, raised, Reap, reaped, refl, replayed, replicate, Row, set, set-get_or, set-set, set_past, Shape, Some, spent, spent_on, Stable, stepped, steps_of, Sub}
+use Rattle.ksm_book.proofs.Names.{suc, sum_by-set, take, take_more, true, with_frame, with_more, zero, [], ℕ, ◌*◌, ◌++◌, ◌+◌, ◌-◌, ◌<◌, ◌∙◌, ◌∷◌, ◌≡◌, ◌≢◌, ◌≤◌, ◌⊎◌}
+use Rattle.ksm_book.proofs.Moves.{noted}
 
 -- a log is replayed part by part
 pub replayed_append : (sh : Shape) (k : Ledger) (xs ys : Log) → replayed sh k (xs ++ ys) ≡ replayed sh (replayed sh k xs) ys
@@ -78,3 +84,206 @@ first_made {v} {w} {e} {es} m = by _ m.after m.are
 -- a keeper that made one step went on by that step, with some word that it found
 pub step_made : {v w : KeeperView} {e : KeeperStep} → MakesSteps v w (e ∷ []) → (found : ℕ) × (w ≡ did v e found)
 step_made m = let first = first_made m in (first.0, none_made first.1)
+
+-- the lives spent, where one frame's note is another, differ by those of this frame
+pub spent_set : (k : Ledger) (g : ℕ) (fr : Note) → g < length k.frames → spent (with_frame k g fr) + spent_on (frame_at k g) ≡ spent k + spent_on fr
+spent_set k g fr lt = sum_by-set _ _ g fr _ lt
+
+-- where a frame has spent no fewer lives, neither has the table
+pub spent_kept : (k : Ledger) (g : ℕ) (fr : Note) → spent_on (frame_at k g) ≤ spent_on fr → spent k ≤ spent (with_frame k g fr)
+spent_kept k g fr le = grind (arith, cases_lt, spent_set, set_past)
+
+-- a frame with a reference is one that the keeper knows
+pub held_within : (k : Ledger) (f : ℕ) → 1 ≤ (frame_at k f).base → f < length k.frames
+held_within k f some = grind (arith, get_or_past)
+
+module _ {sh : Shape} {across : ℕ} {rows : List Row} {frame : Frames} {dups : List DupRow} where
+  -- a frame in hand is one of the table, and has a reference
+  pub held_inside : {k : Ledger} {g : ℕ} → Placed sh across k rows frame dups (Some g)
+      → (g < frames_of sh) × (1 ≤ (frame_at k g).base)
+  held_inside {k} {g} p = grind (arith, held_within k g, p.bases g)
+
+-- a frame that the keeper knows, on which nothing is
+abbrev IsLeft : Ledger → ℕ → Type 0
+IsLeft k f = (f < length k.frames) × ((frame_at k f).base ≡ 0)
+
+-- what holds of each of two notes holds where one is put among others
+pub set_holds : (P : Note → Type 0) (xs : List Note) (i h : ℕ) (y : Note) → P y → P (get_or xs h blank) → P (get_or (set xs i y) h blank)
+set_holds P xs i h y new old = grind (arith, get_or-set_same, get_or-set_other, set_past, cases_lt, cases_eq)
+
+module _ (v : KeeperView) (g found : ℕ) where
+  abbrev new : Note
+  new = reaped v.table.shape.last_generation (frame_at v.ledger g)
+
+  still_left : (h : ℕ) → IsLeft v.ledger h → IsLeft (did v (Reap g) found).ledger h
+  still_left h left = grind (arith, length-set, set_holds (λ x. x.base ≡ 0) v.ledger.frames g h new refl left.1)
+
+  reap_placed : {hand : Option ℕ} → IsLeft v.ledger g → Keeps v (did v (Reap g) found) hand hand
+  reap_placed {hand} left across rows frame dups p =
+      let reaps = noted p g (rw (← p.frames_long) left.0) new hand (grind arith) (λ f ne. refl) in
+      grind arith
+
+-- frames on which nothing is were reaped: rows and dups lie lawfully
+reaps_placed : {hand : Option ℕ} (fs : List ℕ) (v w : KeeperView) → MakesSteps v w (map Reap fs)
+    → All (IsLeft v.ledger) fs → Keeps v w hand hand
+reaps_placed [] v w m left across rows frame dups p = rw (none_made m) p
+reaps_placed (f ∷ fs) v w m left across rows frame dups p =
+    let first = first_made m in
+    reaps_placed fs (did v (Reap f) first.0) w first.1
+    (λ i d lt. still_left v f first.0 _ (left (suc i) d (omega arith)))
+    across rows frame dups (reap_placed v f first.0 (left 0 f (omega arith)) across rows frame dups p)
+
+-- reaping spends no fewer lives
+pub reaps_spend : (fs : List ℕ) (v w : KeeperView) → MakesSteps v w (map Reap fs) → spent v.ledger ≤ spent w.ledger
+reaps_spend [] v w m = grind (arith, m, none_made m)
+reaps_spend (f ∷ fs) v w m =
+    let first = first_made m in
+    grind (arith, spent_kept, reaps_spend fs (did v (Reap f) first.0) w first.1)
+
+-- the dying frames of a node were reaped: rows and dups lie lawfully
+pub searched_placed : {v w : KeeperView} (node : ℕ) → MakesSteps v w (map Reap (dying_on v.table.shape v.ledger node))
+    → {hand : Option ℕ} → Keeps v w hand hand
+searched_placed {v} {w} node m across rows frame dups p =
+    reaps_placed _ v w m (λ i d lt. grind (arith, filter_passes, get_or_past, p.kinds)) across rows frame dups p
+
+module _ (k : Ledger) (g : ℕ) (lt : g < length k.frames) where
+  -- the frame has the note that it got
+  pub at_again : (a : Note) → frame_at (with_frame k g a) g ≡ a
+  at_again a = grind (arith, get_or-set_same)
+
+  -- a change of the frame's note that follows another is one change by both
+  pub follow : {l m : Ledger} (a : Note) (F : Note → Note) → m ≡ with_frame l g (F (frame_at l g)) → l ≡ with_frame k g a → m ≡ with_frame k g (F a)
+  follow a F is was = grind (arith, at_again, set-set)
+
+module _ {v w : KeeperView} {shape : Shape} {node g : ℕ} (same : shape ≡ v.table.shape) (less : node < shape.nodes) (l : IsLawful v None)
+    (finds : Finds v w node g) where
+  -- rows and dups lie lawfully once the frame is found
+  pub found_placed : Placed v.table.shape l.0 w.ledger l.1 l.2 l.3 None
+  found_placed = searched_placed _ finds.reaped l.0 l.1 l.2 l.3 l.4
+
+  -- the frame found is one of the table
+  pub found_inside : g < frames_of v.table.shape
+  found_inside = grind (arith, same)
+
+  -- the frame found is one that the keeper knows
+  pub found_within : g < length w.ledger.frames
+  found_within = grind (arith, found_placed, found_inside)
+
+  -- once the frame found is raised it is ready to be filled
+  pub raised_ready : {r : KeeperView} (n : ℕ) → r ≡ did w (Raise g) n
+      → (g < frames_of v.table.shape) × (g < length r.ledger.frames) × (frame_at r.ledger g ≡ raised (frame_at w.ledger g))
+      × (length (frame_at r.ledger g).content ≡ PAGE_WORDS)
+  raised_ready n is = grind (arith, length-set, at_again, found_placed, found_inside)
+
+  -- a frame that was found and filled is in hand with its bytes
+  pub took : {u : KeeperView} {bytes : List ℕ} → length bytes ≡ PAGE_WORDS → u.ledger ≡ with_frame w.ledger g (opened (holding (raised (frame_at w.ledger g)) bytes))
+      → HasNewFrame v u node bytes g
+  took {u} {bytes} long is =
+      let own : Note = opened (holding (raised (frame_at w.ledger g)) bytes) in
+      let free : (frame_at w.ledger g).kind ≡ Free = grind (arith, finds.lowest.there) in
+      let now = ap (λ z. frame_at z g) is ∙ at_again w.ledger g found_within own in
+      let more = spent_kept w.ledger g own (grind arith) in
+      let before = reaps_spend _ _ _ finds.reaped in
+      let keeps : Keeps v u None (Some g) = λ across rows frame dups p.
+      let q = searched_placed _ finds.reaped _ _ _ _ p in
+      rw is (noted q g found_inside own _ (grind arith) (grind arith)) in
+      grind (arith, found_inside)
+
+-- n references that came to a frame change its note alone
+pub adds_ledger : (n : ℕ) {v w : KeeperView} (f : ℕ) → f < length v.ledger.frames → MakesSteps v w (replicate n (Add f))
+    → w.ledger ≡ with_frame v.ledger f (with_more (frame_at v.ledger f) n)
+adds_ledger zero {v} f lt m = grind (arith, none_made m, set-get_or v.ledger.frames f blank)
+adds_ledger (suc n) {v} f lt m =
+    let first = first_made m in
+    let note = frame_at v.ledger f in
+    follow v.ledger f lt (added note) (λ x. with_more x n) (adds_ledger n f (grind (arith, length-set)) first.1) refl
+    ∙ ap (λ b. with_frame v.ledger f (record note { base = b })) (omega arith)
+
+-- a frame that was raised, filled and opened, has got its references and is named anew is mounted
+pub once : (k : Ledger) (left g place count : ℕ) (words : List ℕ) → g < length k.frames → 1 ≤ count → words ≡ (frame_at k left).content
+    → named_anew (with_frame k g (with_more (opened (holding (raised (frame_at k g)) words)) (count - 1))) place g ≡ once_mounted k left g place count
+once k left g place count words lt some are = grind (arith, set-set, get_or-set_same)
+
+-- the words of a dying frame stay where a free one is raised
+pub words_kept : (v w : KeeperView) (f g found : ℕ) → (frame_at v.ledger g).kind ≡ Free → (frame_at v.ledger f).kind ≡ Dying → w ≡ did v (Raise g) found
+    → (frame_at w.ledger f).content ≡ (frame_at v.ledger f).content
+words_kept v w f g found free dying is = grind (arith, get_or-set_other)
+
+-- a frame is raised, words of another are loaded and stored there, it is opened, and references come
+pub mounts : (v a b c d e : KeeperView) (f g count found opened' : ℕ) (bytes : List ℕ) → a ≡ did v (Raise g) found → b ≡ stepped a (loads f 0 bytes)
+    → c ≡ stepped b (puts g 0 bytes) → d ≡ did c (Open g) opened' → MakesSteps d e (replicate (count - 1) (Add g)) → MakesSteps v e (mounting f g count bytes)
+mounts v a b c d e f g count found opened' bytes raises loads' stores opens adds =
+    made_then (made_one v a _ _ raises)
+    (made_then (made_part a b _ loads') (made_then (made_part b c _ stores) (made_then (made_one c d _ _ opens) adds)))
+
+-- where none of the first n frames is dying, the dying ones are those of the others
+passed : (k : Ledger) (low n total more : ℕ) → total ≡ n + more → NoneOf dying_kind k low (low + n) → dying_from k low total ≡ dying_from k (low + n) more
+passed k low zero total more sum none = grind arith
+passed k low (suc n) zero more sum none = absurd (omega arith)
+passed k low (suc n) (suc total) more sum none =
+    grind (arith, none low, passed k (low + 1) n total more (omega arith) (λ f ge lt. none f (omega arith) (omega arith)))
+
+-- where no frame of a range is dying, there are no dying ones
+pub none_dies : (k : Ledger) (from end : ℕ) → from ≤ end → NoneOf dying_kind k from end → dying_from k from (end - from) ≡ []
+none_dies k from end le none = passed k from (end - from) (end - from) 0 (omega arith) (λ f ge lt. none f ge (omega arith))
+
+-- the first dying frame of a range comes first among the dying ones
+pub next_dies : (k : Ledger) (from to end : ℕ) → from ≤ to → to < end → NoneOf dying_kind k from to → dying_kind (frame_at k to).kind ≡ true
+    → dying_from k from (end - from) ≡ to ∷ dying_from k (to + 1) (end - (to + 1))
+next_dies k from to end le lt none there =
+    let past = passed k from (to - from) (end - from) (suc (end - (to + 1))) (omega arith) (λ f ge lt. none f ge (omega arith)) in
+    let at : from + (to - from) ≡ to = omega arith in
+    grind arith
+
+-- a node without a free or dying frame is searched by no step, and in vain
+pub in_vain : (v : KeeperView) (node : ℕ) → let size = v.table.shape.frames_per_node in NoneOf free_kind v.ledger (node * size) (node * size + size)
+    → NoneOf dying_kind v.ledger (node * size) (node * size + size) → FindsNone v v node
+in_vain v node free dying =
+    let size = v.table.shape.frames_per_node in
+    grind (arith, made_none, passed v.ledger (node * size) size size 0 (omega arith) dying)
+
+-- a step on one frame leaves the note of another, also where the step found that it could not be made
+pub other_if : (made : Bool) (k : Ledger) (f g : ℕ) (note : Note) → g ≢ f → frame_at (cond made (with_frame k f note) k) g ≡ frame_at k g
+other_if made k f g note differs = grind (arith, get_or-set_other)
+
+-- a note that was put at a frame is there, if there is such a frame, and the others are as they were
+pub ruleset put_there = (cases_lt, get_or-set_same, get_or-set_other, get_or_past, length-set)
+
+-- what is known of a frame
+abbrev note : KeeperView → ℕ → Note
+note v frame = frame_at v.ledger frame
+
+-- a set was marked at a frame by its kind, or it stays and the kind is among those asked for exactly if it was
+abbrev Tracks : (Kind → Bool) → KeeperView → KeeperView → ℕ → List ℕ → List ℕ → Type 0
+Tracks asked v w frame words words' = Marks words words' frame (asked (note w frame).kind)
+    ⊎ ((words' ≡ words) × (asked (note w frame).kind ≡ asked (note v frame).kind))
+
+-- where no other frame changed, a set that was marked so, or stays so, is right again
+module _ {v w : KeeperView} (frame : ℕ) (table : w.table ≡ v.table)
+    (others : (f : ℕ) → f ≢ frame → note w f ≡ note v f) where
+  both : {free dying free' dying' : List ℕ} → AreSets v free dying → Tracks free_kind v w frame free free'
+      → Tracks dying_kind v w frame dying dying' → AreSets w free' dying'
+  both are f d = grind arith
+
+-- both sets after a step on a frame
+module _ {v w : KeeperView} (found frame : ℕ) {free dying : List ℕ} (are : AreSets v free dying) where
+  -- where a frame was reaped, and marked in both sets by its kind, they are right
+  pub sets_reaped : w ≡ did v (Reap frame) found → {free' dying' : List ℕ}
+      → Marks free free' frame (free_kind (note w frame).kind)
+      → Marks dying dying' frame (dying_kind (note w frame).kind) → AreSets w free' dying'
+  sets_reaped is f d = both frame (rw is) (λ g ne. grind (arith, other_if)) are (inl f) (inl d)
+
+  -- where a shown frame was frozen, or not, and marked by its kind among the dying ones, both sets are right
+  pub sets_frozen : w ≡ did v (Freeze frame) found → (note v frame).kind ≡ Stable → {dying' : List ℕ}
+      → Marks dying dying' frame (dying_kind (note w frame).kind)
+      → AreSets w free dying'
+  sets_frozen is shown marks =
+      let now : free_kind (note w frame).kind ≡ free_kind (note v frame).kind = grind (arith, put_there) in
+      both frame (rw is) (λ g ne. grind (arith, other_if)) are (inr (refl, now)) (inl marks)
+
+  -- a frame in use that has lost its last reference, and was put among the dying ones: both sets are right
+  pub sets_taken : w ≡ did v (Sub frame) found → MayLeave v frame → (note w frame).base ≡ 0 → {dying' : List ℕ} → Marks dying dying' frame true
+      → AreSets w free dying'
+  sets_taken is may none marks =
+      let dies : (note w frame).kind ≡ Dying = grind (arith, put_there) in
+      both frame (rw is) (λ g ne. grind (arith, get_or-set_other)) are (inr (refl, grind arith)) (inl (grind arith))

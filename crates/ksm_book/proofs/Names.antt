@@ -18,19 +18,18 @@ pub use Rattle.ksm_base.proofs.Visits.{rowwise_visits}
 pub use Rattle.ksm_base.specs.declared.knobs.Knobs.{Knobs}
 pub use Rattle.ksm_base.specs.declared.reply.Reply.{Reply}
 pub use Rattle.ksm_book.specs.Carried.{CarriedOut, IsCarried, scanning, StoresTo, TakesSteps, UnmergesTo}
-pub use Rattle.ksm_book.specs.Commands.{Deed, dup_frame, Finds, FindsHeld, FindsNone, frame_number, idle, instead, IsIdle, leaving, Mapped, mounting, Moves, Performs, Provides, pruning, Resettles}
-pub use Rattle.ksm_book.specs.Commands.{ResettlesEach, rewriting, row_visiting, then_doing, withdrawing}
+pub use Rattle.ksm_book.specs.Commands.{Allocates, AllocatesOn, along, Deed, dup_frame, dying_from, dying_kind, dying_on, Finds, FindsHeld, FindsNone, frame_number, free_kind, given_by, Gives, idle}
+pub use Rattle.ksm_book.specs.Commands.{instead, is_frame, IsIdle, IsLowestFree, leaving, loads, Log, MakesSteps, Mapped, mounting, Moves, needed_after, NoneOf, Performs, Provides, pruning, puts}
+pub use Rattle.ksm_book.specs.Commands.{replayed, Resettles, ResettlesEach, rewriting, row_visiting, stepped, steps_of, then_doing, withdrawing}
 pub use Rattle.ksm_book.specs.Due.{AreDue, comes_later, due_visited, DueView, FindsFirst, freed, hidden_from, names, pages_of, part_before, part_visited, StaysBefore, takes_over, TakesOver, TellsDue}
 pub use Rattle.ksm_book.specs.Due.{waits_on, with_rows}
 pub use Rattle.ksm_book.specs.Folded.{begun, IsStill, next_visited, page_visited, pages_ahead, pages_visited, restless_at, restless_row, row_done, Stage, visited, visits_beside}
-pub use Rattle.ksm_book.specs.Keeping.{AreSets, HasLost, HasMoved, HasNewFrame, holding, IsLawful, Keeps, MayLeave, MayMount, NoneLeft, once_mounted, spent, spent_on, with_more}
+pub use Rattle.ksm_book.specs.Placement.{Agrees, AreSets, DupFits, FitsBase, HasLost, HasMoved, HasNewFrame, holding, in_hand, IsInLife, IsLawful, IsServed, Keeps, MayLeave, MayMount, node_of}
+pub use Rattle.ksm_book.specs.Placement.{NoneLeft, once_mounted, place_frame, Placed, RowFits, spent, spent_on, uses, with_more}
 pub use Rattle.ksm_book.specs.Laid.{HasLeft, HasRemounted, is_shared_of, IsLaid, left_by, LiesWith, lying, MayMove, MayNotLeave, state_of, TurnedAway, Unshares}
-pub use Rattle.ksm_book.specs.Placement.{Agrees, DupFits, FitsBase, in_hand, is_frame, IsInLife, IsServed, node_of, place_frame, Placed, RowFits, uses}
 pub use Rattle.ksm_book.specs.Promised.{dup_frames, FindsPlace, is_in_use, IsOutlived, LieOn, own_frames, StandsOn}
 pub use Rattle.ksm_book.specs.Scanned.{ahead_before, ahead_up_to, Comes, FindsStill, FindsUpTo, HasVisited, is_nowhere, is_quiet, last_visited, passes_ended, Reached, StaysStill, Stops, up_to}
 pub use Rattle.ksm_book.specs.Scanned.{VisitsPage}
-pub use Rattle.ksm_book.specs.Steps.{Allocates, AllocatesOn, along, dying_from, dying_kind, dying_on, free_kind, given_by, Gives, IsLowestFree, loads, Log, MakesSteps, needed_after, NoneOf, puts}
-pub use Rattle.ksm_book.specs.Steps.{replayed, stepped, steps_of}
 pub use Rattle.ksm_book.specs.Terms.{Add, added, after_cursor, Answer, are_paired, AreAscending, at_home_on, best_dup, blank, BookState, change_row, change_rows, comes_before, Command, count_in}
 pub use Rattle.ksm_book.specs.Terms.{default_knobs, Did, did, Done, Drop, dup_of_row, DupRow, Dying, effect, elsewhere, empty_from, every_row, Fault, filled, FindsAt, first_ledger, frame_at, Frames}
 pub use Rattle.ksm_book.specs.Terms.{frames_of, Free, Freeze, fresh_row, frozen, GenerationFits, GuestPage, handled, has, has_item, has_items, HasRoom, HasRow, InPageOrder, InPlaceOrder, InUse}

@@ -1,8 +1,6 @@
 pub mod Terms
 pub mod Placement
-pub mod Steps
 pub mod Commands
-pub mod Keeping
 pub mod Laid
 pub mod Whole
 pub mod Carried

@@ -4,8 +4,8 @@ ghost use Rattle.std.specs.Prelude.{◌≡◌, ◌<◌, ◌≤◌, ℕ, ◌↔�
 ghost use Rattle.std.specs.Prelude.{slice_index};
 ghost use Rattle.ksm_book.specs.Terms.{Add, count_in, Did, did, first_ledger, frame_at, frame_word, frames_of, Freeze};
 ghost use Rattle.ksm_book.specs.Terms.{IsShape, May, Memory, Open, Publish, Put, Raise, Reap, Sub, Withdraw, Word};
-ghost use Rattle.ksm_book.specs.Keeping.{MayLeave};
-ghost use Rattle.ksm_book.specs.Steps.{NoneOf, IsFirstOf, free_kind, dying_kind};
+ghost use Rattle.ksm_book.specs.Placement.{MayLeave};
+ghost use Rattle.ksm_book.specs.Commands.{NoneOf, IsFirstOf, free_kind, dying_kind};
 
 use frame_core::Kind;
 use frame_table::{FrameTable, Keeper};
@@ -26,7 +26,7 @@ pub struct FrameKeeper {
 
 impl Model for FrameKeeper {
     ghost use Rattle.ksm_book.specs.Terms.{KeeperView};
-    ghost use Rattle.ksm_book.specs.Keeping.{AreSets};
+    ghost use Rattle.ksm_book.specs.Placement.{AreSets};
 
     ghost Value = { KeeperView };
 
@@ -113,7 +113,7 @@ impl FrameKeeper {
     }
 
     /// One reference less on a frame. With the last it is dying.
-    #[tactic(auto, using(crate::proofs::Keeping::put_there))]
+    #[tactic(auto, using(crate::proofs::Made::put_there))]
     pub fn sub(&mut self, table: &FrameTable, frame: u32)
         requires own { self.old.table ≡ table.now }
         requires may { MayLeave self.old frame }
@@ -141,7 +141,7 @@ impl FrameKeeper {
     }
 
     /// Takes a free frame into its next life, to be filled.
-    #[tactic(auto, using(crate::proofs::Keeping::put_there))]
+    #[tactic(auto, using(crate::proofs::Made::put_there))]
     pub fn raise(&mut self, table: &FrameTable, frame: u32)
         requires own { self.old.table ≡ table.now }
         requires may { May self.old (Raise frame) }

@@ -5,9 +5,9 @@ ghost use Rattle.std.specs.Prelude.{length, map, if◌then◌else◌};
 ghost use Rattle.ksm_book.specs.Terms.{frame_at, frames_of, IsReadable, IsShape, IsWritable, May, Reap, with_frame};
 ghost use Rattle.ksm_book.specs.Terms.{Withdraw};
 ghost use Rattle.ksm_base.specs.declared.page.TheConstants.{PAGE_WORDS as WORDS};
-ghost use Rattle.ksm_book.specs.Keeping.{MayLeave, holding, IsLawful, HasNewFrame};
-ghost use Rattle.ksm_book.specs.Steps.{dying_from, loads, puts, stepped, MakesSteps};
-ghost use Rattle.ksm_book.specs.Commands.{Finds, FindsNone, Provides, leaving};
+ghost use Rattle.ksm_book.specs.Placement.{MayLeave, holding, IsLawful, HasNewFrame};
+ghost use Rattle.ksm_book.specs.Commands.{dying_from, loads, puts, stepped, MakesSteps, Finds, FindsNone, Provides};
+ghost use Rattle.ksm_book.specs.Commands.{leaving};
 
 use crate::frame_keeper::FrameKeeper;
 use frame_table::FrameTable;
@@ -49,7 +49,7 @@ pub fn find_frame(
 }
 
 /// Whether no frame of a node is free or dying: then a search for one would make no step, and find none.
-#[tactic(auto, using(crate::proofs::Keeping::in_vain))]
+#[tactic(auto, using(crate::proofs::Made::in_vain))]
 #[inline(always)]
 pub fn is_used_up(keeper: &FrameKeeper, shape: Shape, node: u32) -> bool
     requires shape { shape ≡ keeper.now.table.shape }

@@ -2,9 +2,8 @@
 
 ghost use Rattle.std.specs.Prelude.{◌≡◌, ◌<◌, ◌≤◌, ◌+◌, replicate};
 ghost use Rattle.ksm_book.specs.Terms.{Add, did, frame_at, frames_of, KeeperView, MOST_REFERENCES, Publish, with_frame};
-ghost use Rattle.ksm_book.specs.Commands.{mounting};
-ghost use Rattle.ksm_book.specs.Keeping.{with_more, MayMount, once_mounted};
-ghost use Rattle.ksm_book.specs.Steps.{MakesSteps};
+ghost use Rattle.ksm_book.specs.Commands.{mounting, MakesSteps};
+ghost use Rattle.ksm_book.specs.Placement.{with_more, MayMount, once_mounted};
 
 use crate::frame_keeper::FrameKeeper;
 use crate::frames::{load, write};
@@ -26,7 +25,7 @@ fn add_times(keeper: &mut FrameKeeper, table: &FrameTable, frame: u32, count: u6
 }
 
 /// A free frame gets the bytes of a dying one and so many references, and the place names it.
-#[tactic(auto, using(crate::proofs::Keeping::words_kept, crate::proofs::Keeping::mounts))]
+#[tactic(auto, using(crate::proofs::Made::words_kept, crate::proofs::Made::mounts))]
 pub fn mount(
     keeper: &mut FrameKeeper,
     table: &FrameTable,

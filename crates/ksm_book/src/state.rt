@@ -6,7 +6,7 @@ ghost use Rattle.ksm_book.specs.Terms.{bytes_of, change_row, counters_of, first_
 ghost use Rattle.ksm_book.specs.Terms.{IsShape, IsSound, Memory, nowhere, opening, page_beside, row_at, stored};
 ghost use Rattle.ksm_book.specs.Carried.{CarriesOut};
 ghost use Rattle.ksm_book.specs.Whole.{view_of};
-ghost use Rattle.ksm_book.specs.Keeping.{spent};
+ghost use Rattle.ksm_book.specs.Placement.{spent};
 ghost use Rattle.ksm_book.specs.Laid.{LoadsIf};
 ghost use Rattle.ksm_book.specs.Due.{names, TellsDue};
 ghost use Rattle.ksm_book.specs.Promised.{FindsPlace, LieOn, NumbersAreSmall};
@@ -100,7 +100,7 @@ impl State {
     }
 
     /// The bytes of a page, loaded from the words of its frame, if it has one.
-    #[tactic(auto, using(crate::proofs::Shown::part_did, crate::proofs::Shown::quiet_loads))]
+    #[tactic(auto, using(crate::proofs::Carried::part_did, crate::proofs::Carried::quiet_loads))]
     pub fn read(&mut self, table: &FrameTable, page: GuestPage) -> Option<PageBytes>
         requires own { self.old.keeper.table ≡ table.now }
         ensures own { self.new.keeper.table ≡ self.old.keeper.table }

@@ -79,7 +79,7 @@ fn unshare_each(
 }
 
 // All pages of a guest become mergeable.
-#[tactic(auto, using(crate::proofs::Unmerged::stay_in_scan, crate::proofs::Along::along_none, crate::proofs::Along::further, crate::proofs::Along::not_far))]
+#[tactic(auto, using(crate::proofs::Singles::stay_in_scan, crate::proofs::Along::along_none, crate::proofs::Along::further, crate::proofs::Along::not_far))]
 fn make_mergeable(pages: &mut Pages, guest: u16)
     ensures { seen pages.new ≡ record (seen pages.old) {
       rows = change_rows (is_of guest) (λ r. record r { mergeable = true }) pages.old.rows;

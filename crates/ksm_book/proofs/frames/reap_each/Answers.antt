@@ -1,6 +1,5 @@
 use Rattle.ksm_book.proofs.Names.{arith, refl}
-use Rattle.ksm_book.proofs.Keeping.{other_if, next_dies, none_dies}
-use Rattle.ksm_book.proofs.Made.{made_none, made_one, made_then}
+use Rattle.ksm_book.proofs.Made.{made_none, made_one, made_then, next_dies, none_dies, other_if}
 use Rattle.ksm_book.proofs.frames.reap_each.Goals as goal
 
 pub dying-preserved : goal.dying-preserved

@@ -1,6 +1,5 @@
 use Rattle.ksm_book.proofs.Names.{ap, arith, holding, KeeperView, opened, rules}
-use Rattle.ksm_book.proofs.Keeping.{at_again, follow, found_within, raised_ready, took}
-use Rattle.ksm_book.proofs.Made.{made_one, made_part, made_then}
+use Rattle.ksm_book.proofs.Made.{at_again, follow, found_within, made_one, made_part, made_then, raised_ready, took}
 use Rattle.ksm_book.proofs.frames.take_frame.Goals as goal
 
 pub write-requires : goal.write-requires

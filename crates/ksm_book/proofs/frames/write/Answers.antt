@@ -1,6 +1,5 @@
 use Rattle.ksm_book.proofs.Names.{ap, arith, filled, frame_at, get_or, holding, length, PAGE_WORDS, rules, sym, with_frame, ◌∙◌, ◌≡◌}
-use Rattle.ksm_book.proofs.Keeping.{at_again, follow}
-use Rattle.ksm_book.proofs.Made.{along_one, word_written}
+use Rattle.ksm_book.proofs.Made.{along_one, at_again, follow, word_written}
 use Rattle.ksm_book.proofs.frames.write.Goals as goal
 
 pub loop-i-preserved : goal.loop-i-preserved

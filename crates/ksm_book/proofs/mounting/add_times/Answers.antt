@@ -1,6 +1,5 @@
 use Rattle.ksm_book.proofs.Names.{Add, arith, refl, replicate-append-replicate}
-use Rattle.ksm_book.proofs.Keeping.{adds_ledger, at_again, held_within}
-use Rattle.ksm_book.proofs.Made.{made_none, made_then}
+use Rattle.ksm_book.proofs.Made.{adds_ledger, at_again, held_within, made_none, made_then}
 use Rattle.ksm_book.proofs.mounting.add_times.Goals as goal
 
 pub loop-done-init : goal.loop-done-init

@@ -1,5 +1,5 @@
 use Rattle.ksm_book.proofs.Names.{ap, holding, KeeperView, opened, with_more, ◌-◌, ◌∙◌}
-use Rattle.ksm_book.proofs.Keeping.{follow, once, words_kept}
+use Rattle.ksm_book.proofs.Made.{follow, once, words_kept}
 use Rattle.ksm_book.proofs.mounting.mount.Goals as goal
 
 pub returns-clause-ledger : goal.returns-clause-ledger

@@ -1,6 +1,6 @@
 use Rattle.ksm_book.proofs.Names.{arith, list_any_at}
 use Rattle.ksm_book.proofs.Moves.{found_in}
-use Rattle.ksm_book.proofs.Remounts.{has_remounted, may_freeze, may_mount, stays}
+use Rattle.ksm_book.proofs.Sharing.{has_remounted, may_freeze, may_mount, stays}
 use Rattle.ksm_book.proofs.Laying.{turned}
 use Rattle.ksm_book.proofs.moving.remount.Goals as goal
 

@@ -1,7 +1,6 @@
 use Rattle.ksm_book.proofs.Names.{ap, left_by, relaid, rules, seen, Some, sym, ◌∙◌, ◌≡◌}
 use Rattle.ksm_book.proofs.Laying.{may_left, turned}
-use Rattle.ksm_book.proofs.Singles.{row_held}
-use Rattle.ksm_book.proofs.Unmerged.{left_alone, left_any, left_shared, left_some, left_still}
+use Rattle.ksm_book.proofs.Singles.{left_alone, left_any, left_shared, left_some, left_still, row_held}
 use Rattle.ksm_book.proofs.unmerging.leave.Goals as goal
 use Rattle.ksm_book.proofs.unmerging.leave.Goals.{else-is_some-2, Joined-is_some-2, then-is_some-2}
 

@@ -1,6 +1,6 @@
 use Rattle.ksm_book.proofs.Names.{is_of, seen, ◌-◌, ◌≡◌}
 use Rattle.ksm_book.proofs.Along.{IsAlong, position}
-use Rattle.ksm_book.proofs.Unmerged.{in_scan}
+use Rattle.ksm_book.proofs.Singles.{in_scan}
 use Rattle.ksm_book.proofs.unmerging.make_mergeable.Given as goal
 
 abbrev pub invariant-pages : goal.invariant-pages

@@ -1,7 +1,7 @@
 use Rattle.ksm_book.proofs.Names.{arith, filter_none, rules, ◌∙◌}
 use Rattle.ksm_book.proofs.Along.{along_none}
-use Rattle.ksm_book.proofs.Unmerged.{unsharing_end, unsharing_home, unsharing_next, unsharing_stop}
-use Rattle.ksm_book.proofs.Shown.{each_does}
+use Rattle.ksm_book.proofs.Singles.{unsharing_end, unsharing_home, unsharing_next, unsharing_stop}
+use Rattle.ksm_book.proofs.Carried.{each_does}
 use Rattle.ksm_book.proofs.unmerging.unshare_each.Goals as goal
 
 pub pages-init : goal.pages-init

@@ -1,6 +1,6 @@
 use Rattle.ksm_book.proofs.Names.{seen, ◌-◌}
 use Rattle.ksm_book.proofs.Along.{position}
-use Rattle.ksm_book.proofs.Unmerged.{IsUnsharing}
+use Rattle.ksm_book.proofs.Singles.{IsUnsharing}
 use Rattle.ksm_book.proofs.unmerging.unshare_each.Given as goal
 
 abbrev pub invariant-pages : goal.invariant-pages

@@ -1,5 +1,5 @@
 use Rattle.ksm_book.proofs.Names.{arith}
-use Rattle.ksm_book.proofs.Keeping.{sets_frozen}
+use Rattle.ksm_book.proofs.Made.{sets_frozen}
 use Rattle.ksm_book.proofs.frame_keeper.FrameKeeper.freeze.Goals as goal
 
 pub invariant_of-self : goal.invariant_of-self

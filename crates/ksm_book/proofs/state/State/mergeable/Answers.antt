@@ -1,6 +1,5 @@
 use Rattle.ksm_book.proofs.Names.{refl, seen}
-use Rattle.ksm_book.proofs.Singles.{carried_so, lawful}
-use Rattle.ksm_book.proofs.Unmerged.{guest_refused, mergeable_carried}
+use Rattle.ksm_book.proofs.Singles.{carried_so, guest_refused, lawful, mergeable_carried}
 use Rattle.ksm_book.proofs.state.State.mergeable.Goals as goal
 
 pub returns-then-is_none : goal.returns-then-is_none

@@ -1,5 +1,6 @@
 use Rattle.ksm_book.proofs.Names.{arith, MayMove, refl, seen, state_of}
-use Rattle.ksm_book.proofs.Singles.{carried_so, place_is, remount_carried}
+use Rattle.ksm_book.proofs.Carried.{place_is}
+use Rattle.ksm_book.proofs.Singles.{carried_so, remount_carried}
 use Rattle.ksm_book.proofs.state.State.move_dup.Goals as goal
 use Rattle.ksm_book.proofs.state.State.move_dup.Goals.{Joined-else-knobs-eq0}
 

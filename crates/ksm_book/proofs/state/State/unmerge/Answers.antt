@@ -1,6 +1,5 @@
 use Rattle.ksm_book.proofs.Names.{refl, seen}
-use Rattle.ksm_book.proofs.Singles.{carried_so, lawful}
-use Rattle.ksm_book.proofs.Unmerged.{guest_refused, unmerge_carried}
+use Rattle.ksm_book.proofs.Singles.{carried_so, guest_refused, lawful, unmerge_carried}
 use Rattle.ksm_book.proofs.state.State.unmerge.Goals as goal
 
 pub returns-then-is_none : goal.returns-then-is_none

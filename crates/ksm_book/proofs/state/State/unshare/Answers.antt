@@ -1,6 +1,5 @@
 use Rattle.ksm_book.proofs.Names.{refl, sym, ◌∙◌}
-use Rattle.ksm_book.proofs.Singles.{carried_so, lawful}
-use Rattle.ksm_book.proofs.Unmerged.{unshare_ends, unshare_none, unshare_stops}
+use Rattle.ksm_book.proofs.Singles.{carried_so, lawful, unshare_ends, unshare_none, unshare_stops}
 use Rattle.ksm_book.proofs.state.State.unshare.Goals as goal
 
 pub invariant_of-self : goal.invariant_of-self
