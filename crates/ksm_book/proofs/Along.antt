@@ -3,7 +3,7 @@ use Rattle.ksm_book.proofs.Names.{after_cursor, All, All-filter, All-head, any-f
 use Rattle.ksm_book.proofs.Names.{comes_before, Contains-from_any, each_at_page, false, filter, filter_all, filter_mapped, filter_none, find, find_all, find_mapped, find_none, find_passes}
 use Rattle.ksm_book.proofs.Names.{found_first, get_or, get_or_from_slice_get, GuestPage, has_item, if◌then◌else◌, inl, InPageOrder, inr, is_before, is_next, List, map-id, map_alike, map_mapped}
 use Rattle.ksm_book.proofs.Names.{mapped_some, min, None, none_mapped, not, not_both, one_before, Option, option_map, pairs_head, pairs_tail, Row, row_at, same_page, same_page_eq, slice_get}
-use Rattle.ksm_book.proofs.Names.{slice_get-get_or, slice_get_within, Some, subst, suc, sym, take, true, zero, ℕ, [], ⊤, ◌&&◌, ◌*◌, ◌++◌, ◌+◌, ◌<◌, ◌∙◌, ◌∷◌, ◌≡◌, ◌≤◌}
+use Rattle.ksm_book.proofs.Names.{slice_get-get_or, slice_get_within, Some, subst, suc, sym, take, true, zero, [], ℕ, ⊤, ◌&&◌, ◌*◌, ◌++◌, ◌+◌, ◌<◌, ◌∙◌, ◌∷◌, ◌≡◌, ◌≤◌}
 use Rattle.ksm_book.proofs.ByPage.{row_of_page}
 
 -- the first page comes before the second
@@ -22,8 +22,7 @@ behind_first cursor [] page more rise is = cc
 behind_first cursor (p ∷ pages) page more rise is =
     let behind = pairs_head Before p _ rise in
     elim (cases_Bool (after_cursor cursor p)) [
-      | inl here ↦
-          grind (arith, filter_all, after_later)
+      | inl here ↦ grind (arith, filter_all, after_later)
       | inr before ↦
           let found = sym (grind arith) ∙ is in
           let later = All-head (Before p) page _ (subst (All (Before p)) found (All-filter _ (Before p) _ behind)) in
@@ -38,8 +37,7 @@ place_splits (p ∷ pages) zero page rise at =
     grind (arith, filter_none, pairs_head Before p pages rise)
 place_splits (p ∷ pages) (suc n) page rise at =
     let first = pairs_head Before p pages rise n page (slice_get_within _ n _ at) in
-    let parts = place_splits pages n page (pairs_tail Before p _ rise) at in
-    grind (arith, get_or_from_slice_get pages n page page at, not_both)
+    grind (arith, place_splits pages n page (pairs_tail Before p _ rise) at, get_or_from_slice_get pages n page page at, not_both)
 
 -- a page that a list has stands at an index of the list
 pub place_of : (page : GuestPage) (pages : List GuestPage) → has_item page pages ≡ true → (n : ℕ) × (slice_get pages n ≡ Some page)
@@ -106,11 +104,8 @@ module _ {asked : Row → Bool} {f : Row → Row} (keeps : (r : Row) → (f r).p
 
     -- and those that pass a test more strict were passed
     pub passed_all : (test : Row → Bool) → ((r : Row) → test r ≡ true → asked r ≡ true) → filter (passed test last) rows ≡ filter test rows
-    passed_all test stricter = grind (
-      arith,
-      map-id,
-      filter_mapped (λ x. x) (passed test last) test rows (λ k d lt. grind (arith, none_left k d lt, stricter (get_or rows k d))),
-    )
+    passed_all test stricter =
+        grind (arith, map-id, filter_mapped (λ x. x) (passed test last) test rows (λ k d lt. grind (arith, none_left k d lt, stricter)))
 
   module _ (rise : InPageOrder rows) {page : GuestPage}
       (told : option_map (λ r. r.page) (find (next_of asked last) now) ≡ Some page) where
@@ -126,9 +121,8 @@ module _ {asked : Row → Bool} {f : Row → Row} (keeps : (r : Row) → (f r).p
 
     place : All (λ r. asked r ≡ true → after_cursor last r.page ≡ not (comes_before r.page page)) rows
     place k d lt asks =
-        let r = get_or rows k d in
         let low = found_first (λ (x : Row). x.page) (next_of asked last) rows row rise next_is.1 k d lt in
-        grind (arith, low, next_is.2, after_later last page r.page, passes, one_before page r.page, same_page_eq page r.page)
+        grind (arith, low, next_is.2, after_later last page, passes, one_before page, same_page_eq page)
 
     at_page : row_at page rows ≡ Some row
     at_page = subst (λ q. row_at q rows ≡ Some row) next_is.2
@@ -136,26 +130,18 @@ module _ {asked : Row → Bool} {f : Row → Row} (keeps : (r : Row) → (f r).p
 
     -- it is as it was
     pub there : row_at page now ≡ Some row
-    there = ap (row_at page) a.are
-        ∙ find_mapped change (λ r. same_page r.page page) (λ r. same_page r.page page) rows (λ k d lt. grind (arith, keeps (get_or rows k d)))
-        ∙ ap (option_map change) at_page ∙ (grind (arith, passes))
+    there =
+        let same = find_mapped change (λ r. same_page r.page page) (λ r. same_page r.page page) rows (grind (arith, keeps)) in
+        grind (arith, a.are, at_page, passes)
 
     -- once it is changed, the cursor is there
     pub along_next : IsAlong asked f rows (change_row page f now) (Some page)
-    along_next = record {
-      are = rw a.are (map_mapped _ change _ rows
-          (λ k d lt. grind (
-            arith,
-            keeps (get_or rows k d),
-            row_of_page page rows row rise at_page k d lt,
-            place k d lt,
-            passes,
-            same_page_eq,
-            one_before,
-            not_both,
-            before_irrefl,
-          )));
-    }
+    along_next =
+        let own = row_of_page page rows row rise at_page in
+        record {
+          are = rw a.are (map_mapped _ change _ rows
+              (λ k d lt. grind (arith, keeps, own k d lt, place k d lt, passes, same_page_eq, one_before, not_both, before_irrefl)));
+        }
 
     -- the rows changed are those asked for before it
     pub along_stop : now ≡ change_rows (λ r. asked r && is_before (Some row) r) f rows

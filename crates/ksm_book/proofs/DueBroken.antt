@@ -2,12 +2,11 @@
 -- bytes may come to join its dup by that, so no other page becomes due. And commands by which no page becomes due.
 use Rattle.ksm_book.proofs.Names.{All, All-filter, all_changed, all_with_row, Answer, AreDue, arith, BookState, BookView, Bool, bytes_eq, bytes_eq-Decides, change_row, Command, count_with_row}
 use Rattle.ksm_book.proofs.Names.{count_without_page, dup_of_item, DupRow, effect, Err, false, filter, find_all, find_none, fresh_row, get_or, GuestPage, has_item, InPageOrder, IsAlone}
-use Rattle.ksm_book.proofs.Names.{IsAnswerOrMemory, IsCarried, IsDupOf, IsSound, item_count, List, MatchOption, may_join, merged_into, merged_state, names, nat_tests, None, Ok, Option, own_not_merged}
-use Rattle.ksm_book.proofs.Names.{page_beside, refl, Reply, Row, row_at, same_page, same_page_refl, same_page_sym, shared_state, Some, stored, sym, tree_of, true, waiting_state, waits_for, waits_on}
-use Rattle.ksm_book.proofs.Names.{with_row, without_page, ℕ, ◌&&◌, ◌==◌, ◌||◌, ◌≡◌}
-use Rattle.ksm_book.proofs.DueKept.{count_kept, more_due, on_still, WaitsElse, own_due}
+use Rattle.ksm_book.proofs.Names.{IsAnswerOrMemory, IsCarried, IsDupOf, IsSound, item_count, List, MatchOption, may_join, merged_into, names, nat_tests, None, Ok, Option, own_not_merged, page_beside}
+use Rattle.ksm_book.proofs.Names.{refl, Reply, Row, row_at, same_page, same_page_refl, same_page_sym, shared_state, Some, stored, tree_of, true, waiting_state, waits_for, waits_on, with_row}
+use Rattle.ksm_book.proofs.Names.{without_page, ℕ, ◌&&◌, ◌==◌, ◌||◌, ◌≡◌}
+use Rattle.ksm_book.proofs.DueKept.{count_kept, more_due, on_still, one_waits, own_due, WaitsElse}
 use Rattle.ksm_book.proofs.ByPage.{found_page, row_of_page}
-use Rattle.ksm_book.proofs.DueAlike.{one_waits}
 use Rattle.ksm_book.proofs.RowVisits.{filled_by}
 
 module _ (b : BookState) (sound : IsSound b) (page : GuestPage) (row : Row) (found : row_at page b.rows ≡ Some row) where
@@ -15,32 +14,18 @@ module _ (b : BookState) (sound : IsSound b) (page : GuestPage) (row : Row) (fou
   abbrev beside : Option GuestPage
   beside = page_beside b.knobs b.rows (Some row)
 
-  is_beside : merged_state row.state ≡ true → All (λ r. waits_for b.knobs row r ≡ true → names r.page beside ≡ true) b.rows
-  is_beside merged k d lt waits = grind (arith, find_none, one_waits, same_page_refl)
-
-  -- so is a row that waits, of the tree and content of a dup into which the row is merged
+  -- a row that waits, and is not of that page, is not of the tree and content of a dup into which the row is merged
   is_of_dup : All (λ r. waiting_state r.state ≡ true → names r.page beside ≡ false
       → All (λ e. merged_into e.number row.state ≡ true
       → (e.tree == tree_of b.knobs r && bytes_eq e.bytes r.bytes) ≡ false) b.dups) b.rows
   is_of_dup k d lt waiting apart j e lt_e into =
       let r = get_or b.rows k d in
       let dup = get_or b.dups j e in
-      let merged : (merged_state row.state ≡ true) × (waiting_state row.state ≡ false) = grind arith in
       let of_dup = find_all (λ x. same_page x.page page) (λ x. merged_into dup.number x.state ≡ true → IsDupOf b.knobs b.dups x dup.number dup)
       b.rows row found (dup_of_item b sound j e lt_e) into in
       let it = row_of_page page b.rows row sound.rows_rise found k d lt in
-      grind (
-        arith,
-        nat_tests,
-        of_dup.tree,
-        of_dup.bytes,
-        merged,
-        it,
-        found_page page b.rows row found,
-        is_beside merged.0 k d lt,
-        bytes_eq-Decides dup.bytes r.bytes,
-        bytes_eq-Decides r.bytes row.bytes,
-      )
+      let none : waits_for b.knobs row r ≡ false = grind (arith, find_none, one_waits, same_page_refl) in
+      grind (arith, nat_tests, of_dup.tree, of_dup.bytes, it, found_page, bytes_eq-Decides)
 
   -- of other rows each dup into which the row is not merged has as many items; that page is due, with what was
   module _ (now : List Row) (counts : (e : DupRow) → merged_into e.number row.state ≡ false
@@ -49,12 +34,9 @@ module _ (b : BookState) (sound : IsSound b) (page : GuestPage) (row : Row) (fou
       (covers : (p : GuestPage) → (names p beside || has_item p old) ≡ true → has_item p new ≡ true) where
     left_still : All (WaitsElse (record b { rows = now }) new) b.rows
     left_still k d lt restless out =
-        let r = get_or b.rows k d in
-        let apart : names r.page beside ≡ false = grind (arith, covers r.page) in
-        let on : waits_on b r ≡ true = was k d lt restless (grind (arith, covers r.page)) in
-        let waiting : waiting_state r.state ≡ true = grind arith in
-        on_still b now b.dups b.next r (λ none j e lt_e. let dup = get_or b.dups j e in
-        grind (arith, none j e lt_e, counts dup, is_of_dup k d lt waiting apart j e lt_e)) on
+        let on : waits_on b (get_or b.rows k d) ≡ true = was k d lt restless (grind (arith, covers)) in
+        on_still b now b.dups b.next (get_or b.rows k d) (λ none j e lt_e.
+        grind (arith, none j e lt_e, counts (get_or b.dups j e), is_of_dup k d lt (grind arith) (grind (arith, covers)) j e lt_e)) on
 
 -- where the page that waits beside another was added to what is due
 module _ (b : BookState) (page : GuestPage) (old new : List GuestPage) (was : AreDue b old)
@@ -70,25 +52,23 @@ module _ (b : BookState) (page : GuestPage) (old new : List GuestPage) (was : Ar
       let now = change_row page (stored bytes) b.rows in
       all_changed (WaitsElse (record b { rows = now }) later) of_page (stored bytes) b.rows
       (grind (arith, same_page_sym))
-      (λ k d lt _. left_still b sound page row found now (λ e none.
-      count_kept e.number of_page (stored bytes) b.rows (λ i x lt_x same.
-      rw (row_of_page _ _ row sound.rows_rise found i x lt_x same) (sym none)))
-      old later was (λ p is. grind (arith, told p, added p)) k d lt)
+      (λ k d lt _. left_still b sound page row found now
+      (λ e none. count_kept e.number of_page (stored bytes) b.rows (grind (arith, row_of_page, sound.rows_rise)))
+      old later was (grind (arith, told, added)) k d lt)
 
   -- and once the other is dropped
   pub left_dropped : AreDue (record b { rows = without_page page b.rows }) new
   left_dropped =
-      let now = without_page page b.rows in
-      All-filter _ (WaitsElse (record b { rows = now }) new) _ (left_still b sound page row found now (λ e none.
-      grind (arith, count_without_page (λ r. merged_into e.number r.state) page b.rows row sound.rows_rise found))
-      old new was (λ p is. grind (arith, told p)))
+      All-filter _ (WaitsElse (record b { rows = without_page page b.rows }) new) _ (left_still b sound page row found (without_page page b.rows)
+      (λ e none. grind (arith, count_without_page (λ r. merged_into e.number r.state) page b.rows row sound.rows_rise found))
+      old new was (grind (arith, told)))
 
 -- where the page was added to what is due
 module _ (b : BookState) (page : GuestPage) (old new : List GuestPage)
     (added : (p : GuestPage) → has_item p new ≡ (same_page page p || has_item p old)) (was : AreDue b old) where
   -- that is so of the book as it is
   pub added_due : AreDue b new
-  added_due = more_due b old new (λ p is. grind (arith, added p)) was
+  added_due = grind (arith, more_due, added)
 
   -- and of the book once the page has come
   pub added_come : row_at page b.rows ≡ None → (node : ℕ) (bytes : List ℕ)
@@ -98,8 +78,7 @@ module _ (b : BookState) (page : GuestPage) (old new : List GuestPage)
       let now = with_row fresh b.rows in
       all_with_row (WaitsElse (record b { rows = now }) new) fresh b.rows (grind (arith, added page, same_page_refl))
       (λ k d lt restless out. on_still b now b.dups b.next (get_or b.rows k d) (λ none i x lt_x.
-      let number = (get_or b.dups i x).number in
-      grind (arith, none i x lt_x, count_with_row (λ s. merged_into number s.state) fresh b.rows absent))
+      grind (arith, none i x lt_x, count_with_row (λ s. merged_into (get_or b.dups i x).number s.state) fresh b.rows absent))
       (added_due k d lt restless out))
 
 -- where fewer dups are there, what is due stays so
@@ -125,6 +104,5 @@ pub stored_due : (b : BookState) (page : GuestPage) (bytes : List ℕ) (pages : 
     → AreDue (record b { rows = change_row page (stored bytes) b.rows }) pages
 stored_due b page bytes pages rise alone was waits =
     let own = filled_by (λ r. shared_state r.state ≡ false) alone in
-    let on = find_all (λ r. same_page r.page page) (WaitsElse b pages) b.rows own.0 own.1 was in
     own_due b page (stored bytes) own.0 rise own.1 (own_not_merged _ own.2, refl) pages pages
-    (λ restless out. grind (arith, on, found_page page b.rows own.0 own.1, own, waits)) (λ p _ is. is) was
+    (grind (arith, find_all (λ r. same_page r.page page) (WaitsElse b pages) b.rows own.0 own.1 was, found_page, own, waits)) (λ p _ is. is) was

@@ -1,19 +1,18 @@
 -- The visit of a page that is due, by what was found of it: it takes over from none, but where a row further on waits
 -- for it; and which pages are due then.
-use Rattle.ksm_book.proofs.Names.{ap, AreDue, arith, before_differs, best_dup, BookState, BookValue, BookView, change_row, Comes, comes_before, Deed, due_visited, Dup, each_at_page, false, Find}
-use Rattle.ksm_book.proofs.Names.{find_all, find_passes, freed, GuestPage, has_item, hidden_from, is_restless, IsAlone, IsLaid, IsSound, KeeperView, List, None, not, not_both, one_before, Option}
-use Rattle.ksm_book.proofs.Names.{own_not_merged, page, page_visited, PagesView, Partner, refl, restless_at, row_at, row_visited, same_page, same_page_eq, same_page_refl, same_page_sym, settled, Some}
+use Rattle.ksm_book.proofs.Names.{ap, AreDue, arith, before_differs, best_dup, BookState, BookValue, BookView, change_row, Comes, comes_before, due_visited, Dup, each_at_page, false, Find, find_all}
+use Rattle.ksm_book.proofs.Names.{find_passes, freed, GuestPage, has_item, hidden_from, is_restless, IsAlone, IsLaid, IsSound, KeeperView, List, None, not, not_both, one_before, Option}
+use Rattle.ksm_book.proofs.Names.{own_not_merged, page_visited, PagesView, Partner, refl, restless_at, row_at, row_visited, same_page, same_page_eq, same_page_refl, same_page_sym, settled, Some}
 use Rattle.ksm_book.proofs.Names.{state_of, StaysBefore, subst, sym, takes_over, TakesOver, true, view_of, visits, VisitsPage, waits_for, waits_tells, WaitsFor, with_rows, ℕ, ◌&&◌, ◌||◌, ◌∙◌, ◌∷◌}
 use Rattle.ksm_book.proofs.Names.{◌≡◌}
 use Rattle.ksm_base.specs.declared.row.PageState.TheVariants.{Private}
 use Rattle.ksm_pages.specs.Paged.{Finds}
-use Rattle.ksm_book.proofs.DueKept.{calm_undue, IsDueNoMore, own_due, row_undue}
+use Rattle.ksm_book.proofs.DueKept.{calm_stays, calm_undue, freed_found, freed_sound, IsDueNoMore, narrowed_over, own_due, row_undue}
 use Rattle.ksm_book.proofs.RowVisits.{filled_by, finds_it, Meets, page_is, restless_own, shared_visited, there_is, waits_visited}
 use Rattle.ksm_book.proofs.Singles.{book}
 use Rattle.ksm_pages.specs.declared.pages.Find.TheVariants as finds
-use Rattle.ksm_book.proofs.DueAlike.{calm_stays, freed_found, freed_sound, narrowed_over}
 use Rattle.ksm_book.proofs.ByPage.{found_page}
-use Rattle.ksm_book.proofs.Reached.{agrees, changed_comes, comes_as, comes_by, comes_to}
+use Rattle.ksm_book.proofs.Reached.{changed_comes, comes_by, comes_to}
 
 -- by what was found of a page, this was done then, where the page takes over from none and is due no longer
 abbrev pub Leaves : Find → GuestPage → BookView → BookView → Type 0
@@ -30,11 +29,10 @@ module _ {p : PagesView} {k : KeeperView} {cursor : Option GuestPage} {passes : 
         → comes_before other page ≡ false → TakesOver (state_of p cursor passes) page other
     partner_takes other at none =
         let met = filled_by _ at.so.4 in
-        let of_it = waits_tells p.knobs at.row met.0 (find_passes (waits_for p.knobs at.row) p.rows _ met.1) in
         record {
           row = at.row;
           found = at.found;
-          takes = grind (arith, at.so, met.1, one_before, of_it.other, page_is at);
+          takes = grind (arith, at.so, met.1, one_before, waits_tells, find_passes, page_is at);
           waiter = met.0;
           waits = met.1;
           is = met.2;
@@ -45,10 +43,8 @@ module _ {p : PagesView} {k : KeeperView} {cursor : Option GuestPage} {passes : 
         → has_item page due ≡ true → AreDue v.state due → AreDue (state_of q cursor passes) due
     changed_keeps at due there was =
         rw at.so.3
-        (own_due (state_of p cursor passes) at.row.page
-        (λ r. record r { unchanged = true; state = Private }) at.row at.sound.rows_rise
-        (there_is at) (own_not_merged _ (restless_own at.row at.so.0), refl) due due (grind (arith, page_is at))
-        (λ g _ is. is)
+        (own_due (state_of p cursor passes) at.row.page (λ r. record r { unchanged = true; state = Private }) at.row at.sound.rows_rise
+        (there_is at) (own_not_merged _ (restless_own at.row at.so.0), refl) due due (grind (arith, page_is at)) (λ g _ is. is)
         (grind (arith, at.is)))
 
   module _ (v w : BookValue) (page : GuestPage) where
@@ -69,7 +65,6 @@ module _ {p : PagesView} {k : KeeperView} {cursor : Option GuestPage} {passes : 
         → Finds p q page f → Leaves f page (book q k cursor passes) (view_of w)
         → Comes v w (λ s. due_visited s page) × IsDueNoMore page v.state w.state
     left_due finds.Gone q lawful told is did =
-        let same : q ≡ p = grind arith in
         let stays : view_of w ≡ view_of v = grind arith in
         let calm : restless_at page v.state.rows ≡ false = grind arith in (
           comes_by v w _ _ (changed_comes v w (λ b. b) stays) (λ _ deed _. sym (calm_stays (v.state, deed) page calm)),
@@ -97,11 +92,8 @@ module _ {b : BookState} {page other : GuestPage} (sound : IsSound b) (at : Take
   there : row_at at.row.page b.rows ≡ Some at.row
   there = grind (arith, taker_is)
 
-  passes : waits_for b.knobs at.row at.waiter ≡ true
-  passes = find_passes (waits_for b.knobs at.row) b.rows _ at.waits
-
   tells : WaitsFor b.knobs at.row at.waiter
-  tells = waits_tells _ _ _ passes
+  tells = waits_tells _ _ _ (find_passes (waits_for b.knobs at.row) b.rows _ at.waits)
 
   -- the row that waits is found at the other page
   pub waits_at : row_at other b.rows ≡ Some at.waiter
@@ -114,10 +106,6 @@ module _ {b : BookState} {page other : GuestPage} (sound : IsSound b) (at : Take
   later : comes_before page other ≡ true
   later = grind (arith, taker_is)
 
-  due_is : (deed : Deed)
-      → due_visited (b, deed) page ≡ page_visited (record b { rows = change_row other settled b.rows }, deed) page
-  due_is deed = grind (arith, taker_is, freed_found b sound at.row at.waiter at.waits there)
-
 -- the other row waits no more
 module _ (v m w : BookValue) {page other : GuestPage} (sound : IsSound v.state) (at : TakesOver v.state page other)
     (freeing : view_of m ≡ with_rows (view_of v) (change_row other settled v.state.rows)) where
@@ -126,16 +114,16 @@ module _ (v m w : BookValue) {page other : GuestPage} (sound : IsSound v.state) 
 
   -- where the page was visited then, that is the visit of what is due
   pub taken_comes : Comes m w (λ s. page_visited s page) → Comes v w (λ s. due_visited s page)
-  taken_comes visits = comes_as w (agrees v (λ _ deed _. sym (due_is sound at deed))) (λ from s before. visits from _ (frees from s before))
+  taken_comes visits = comes_by v w _ _ (λ from s before. visits from _ (frees from s before))
+      (λ _ deed _. grind (arith, taker_is sound at, freed_found v.state sound at.row at.waiter at.waits (there sound at)))
 
   -- where that visit was refused, nothing changed but which rows from the page on wait
   pub taken_refused : Comes m w (λ s. s) → StaysBefore page v w
   taken_refused none = λ from s before.
-      let reached = none from _ (frees from s before) in (
-        ap (hidden_from page) reached.0 ∙ narrowed_over (λ q. comes_before q page) s.0 (λ r. same_page r.page other)
-            (λ k d lt same. rw (same_page_eq _ other same) (not_both page other (later sound at))),
-        reached.1,
-      )
+      let reached = none from _ (frees from s before) in
+      let over = narrowed_over (λ q. comes_before q page) s.0 (λ r. same_page r.page other)
+      (λ k d lt same. rw (same_page_eq _ other same) (not_both page other (later sound at))) in
+      (ap (hidden_from page) reached.0 ∙ over, reached.1)
 
   module _ (old more new : List GuestPage)
       (added : (p : GuestPage) → has_item p more ≡ (same_page other p || has_item p old))
@@ -149,7 +137,7 @@ module _ (v m w : BookValue) {page other : GuestPage} (sound : IsSound v.state) 
         let still : AreDue b (page ∷ new) = own_due v.state at.waiter.page settled at.waiter sound.rows_rise
         (subst (λ q. row_at q v.state.rows ≡ Some at.waiter) at.is (waits_at sound at)) (grind (arith, tells sound at)) old (page ∷ new)
         (λ _ out. absurd (grind (arith, added other, gone other, at.is, same_page_refl, before_differs page other (later sound at))))
-        (λ p apart is. grind (arith, added p, gone p, at.is, same_page_sym)) due in
+        (grind (arith, added, gone, at.is, same_page_sym)) due in
         rw state (row_undue b (freed_sound v.state sound at.row at.waiter at.waits) at.row
         (freed_found v.state sound at.row at.waiter at.waits (there sound at)) (grind (arith, at.takes)) new (rw (taker_is sound at) still)
         (λ _. grind (arith, at.takes)))

@@ -1,15 +1,18 @@
--- A pass over what is due comes to what the pass of the definitions comes to.
-use Rattle.ksm_book.proofs.Names.{after_cursor, ahead_before, ahead_up_to, All, ap, AreAscending, AreDue, arith, BookState, BookValue, Bool, Comes, comes_before, Deed, due_visited, each_at_page}
-use Rattle.ksm_book.proofs.Names.{false, filter, filter_all, FindsFirst, FindsNext, fold, fold-append, get_or, get_or_from_slice_get, GuestPage, has_item, hidden_from, InPageOrder, IsSound, IsStill}
-use Rattle.ksm_book.proofs.Names.{length, List, map-id, mergeable_pages, None, one_before, Option, page, page_visited, pages_ahead, pages_visited, part_before, part_visited, pass_begun, refl}
-use Rattle.ksm_book.proofs.Names.{restless_at, same_page_eq, slice_get-get_or, slice_get_within, Some, Stage, StaysBefore, StaysStill, Stops, subst, suc, sym, take, take-suc, take_all, true, up_to}
-use Rattle.ksm_book.proofs.Names.{view_of, zero, ℕ, [], ◌∙◌, ◌∷◌, ◌≡◌, ◌≤◌}
-use Rattle.ksm_book.proofs.DueAlike.{calm_stays, narrowed, narrowed_alike, one_due}
-use Rattle.ksm_book.proofs.DueKept.{still_undue, undue_rests}
-use Rattle.ksm_book.proofs.Along.{has_filter, place_of, place_splits}
+-- A pass over what is due comes to what the pass of the definitions comes to; and where it stops, rows from a page on
+-- wait no more.
+use Rattle.ksm_book.proofs.Names.{after_cursor, ahead_before, ahead_up_to, All, ap, AreAscending, AreDue, arith, BookState, BookValue, BookView, Bool, change_row, Comes, comes_before, Deed}
+use Rattle.ksm_book.proofs.Names.{due_visited, each_at_page, every_row, false, filter, filter_all, find, FindsFirst, FindsNext, fold, fold-append, get_or, get_or_from_slice_get, GuestPage, has_item}
+use Rattle.ksm_book.proofs.Names.{hidden_from, if◌then◌else◌, InPageOrder, is_next, IsAlone, IsSound, length, List, map-id, map_alike, mergeable_pages, None, not, on_its_own, one_before, Option}
+use Rattle.ksm_book.proofs.Names.{option_map, ordered_change, page_visited, pages_ahead, pages_visited, part_before, part_visited, pass_begun, refl, restless_at, Row, row_at, same_page_eq}
+use Rattle.ksm_book.proofs.Names.{same_page_sym, settled, shared_state, slice_get-get_or, slice_get_within, Some, Stage, StaysBefore, StaysStill, Stops, suc, sym, take, take-suc, take_all, true}
+use Rattle.ksm_book.proofs.Names.{up_to, view_of, with_rows, zero, [], ℕ, ◌∙◌, ◌∷◌, ◌≡◌, ◌≤◌, ◌⊎◌}
+use Rattle.ksm_book.proofs.DueKept.{at_own_page, calm_stays, narrowed, narrowed_alike, one_due, still_undue, undue_rests}
+use Rattle.ksm_book.proofs.Along.{along, along_end, along_next, has_filter, IsAlong, passed, place_of, place_splits}
 use Rattle.ksm_book.proofs.Reached.{agrees, begins, comes_by, comes_to, first}
 use Rattle.ksm_book.proofs.Folded.{ascending_ahead, begun_ahead, every_page, Goes, restless_mergeable}
 use Rattle.ksm_book.proofs.Walked.{before_it, is_ahead, IsVisit, IsWalking, resting, Rests}
+use Rattle.ksm_book.proofs.ByPage.{found_page, row_of_page}
+use Rattle.ksm_book.proofs.Singles.{change_still}
 
 -- the visit of a page that is due is one that a walk may make
 pub visits_due : IsVisit due_visited
@@ -44,11 +47,12 @@ module _ (b : BookState) (deed : Deed) (sound : IsSound b) (start : b.cursor ≡
       ∙ fold-append visit from (take n all) (page ∷ []) in
       let made = one_due (ours n).0 was.0.0 (ours n).1 page in
       let goes : Goes b (due_visited (ours n) page).0 = (made.0.0, made.0.1 ∙ was.0.1) in
+      let low = as_first (λ q. comes_before q page) n splits.0 (ours n).0 was.0 in
+      let high = as_first (up_to (Some page)) (suc n) splits.1 (due_visited (ours n) page).0 goes in
       rw (more due_visited (b, deed)) (
         goes,
-        more page_visited (pass_begun b, deed) ∙ ap (λ z. page_visited z page) was.1
-            ∙ (λ i. page_visited (as_first (λ q. comes_before q page) n splits.0 (ours n).0 was.0 i, (ours n).1) page)
-            ∙ made.1 ∙ (λ i. (sym (as_first (up_to (Some page)) (suc n) splits.1 (due_visited (ours n) page).0 goes) i, (due_visited (ours n) page).1)),
+        more page_visited (pass_begun b, deed) ∙ ap (λ z. page_visited z page) (was.1 ∙ (λ i. (low i, (ours n).1)))
+            ∙ made.1 ∙ (λ i. (sym high i, (due_visited (ours n) page).1)),
       )
 
   -- our visits of the pages ahead that pass a test are those of the definitions, where only such pages wait
@@ -57,7 +61,7 @@ module _ (b : BookState) (deed : Deed) (sound : IsSound b) (start : b.cursor ≡
       pages_visited (pass_begun b, deed) (filter t all) ≡ (narrowed t due.0, due.1)
   alike t n fits are =
       let like = first_alike n fits in
-      rw are (like.1 ∙ (λ i. (as_first t n are (ours n).0 like.0 i, (ours n).1)))
+      grind (arith, are, like.1, as_first t n are (ours n).0 like.0)
 
   -- the visits of all pages that are due are those of the whole pass
   pub whole_part : fold due_visited (b, deed) (ahead_up_to None b) ≡ part_visited None (b, deed)
@@ -72,17 +76,17 @@ module _ (b : BookState) (deed : Deed) (sound : IsSound b) (start : b.cursor ≡
       (hidden_from page due.0, due.1) ≡ part_before page (b, deed)
   before_part page there =
       let at = place_of page all there in
-      rw (begun_ahead b) (sym (alike (λ q. comes_before q page) at.0 (grind (arith, slice_get_within)) (place_splits all at.0 page rise at.1).0))
+      grind (arith, begun_ahead b, alike (λ q. comes_before q page) at.0, slice_get_within all at.0 page at.1, place_splits all at.0 page rise at.1)
 
 -- a pass begins at a book
 module _ (old : BookValue) (sound : IsSound old.state) (start : old.state.cursor ≡ None) where
   -- where nothing is due, the whole pass changes nothing but which rows wait
   pub whole_still : AreDue old.state [] → StaysStill old (part_visited None)
   whole_still are from s before =
-      subst (IsStill s) ((agrees old {f = λ z. z} {g = part_visited None} (λ _ deed _.
+      let same = agrees old {f = λ z. z} {g = part_visited None} (λ _ deed _.
       sym (resting due_visited (ahead_up_to None old.state) (old.state, deed)
-      (λ k d lt. undue_rests old.state [] sound are _ refl)) ∙ whole_part old.state deed sound start)).same from s before)
-      (assumption)
+      (λ k d lt. undue_rests old.state [] sound are _ refl)) ∙ whole_part old.state deed sound start) in
+      grind (arith, same.same from s before)
 
 -- a walk has reached a book in which some pages are due
 module _ {old mid : BookValue} {last : Option GuestPage} (due : List GuestPage)
@@ -100,16 +104,13 @@ module _ {old mid : BookValue} {last : Option GuestPage} (due : List GuestPage)
   part_stops next new page first start stays restless hides =
       let rests = rests_due (λ q. comes_before q page) first.2 in
       let there = is_ahead visits_due w page first.1 rests restless in
+      let before = before_it visits_due w page first.1 rests in
       record {
         within = refl;
         ahead = there;
         comes = comes_by old new (λ s. let due = fold due_visited s (ahead_before page s.0) in (hidden_from page due.0, due.1)) _
-            (λ from s before. grind (
-              arith,
-              hides,
-              stays from _ (w.comes from s before),
-              (before_it visits_due w page first.1 rests).same from s before,
-            )) (λ _ deed _. before_part old.state deed w.began start page there);
+            (λ from s began. grind (arith, hides, stays from _ (w.comes from s began), before.same from s began))
+            (λ _ deed _. before_part old.state deed w.began start page there);
       }
 
 -- the pages behind a page that was visited are due, if those behind the page reached were, and only which rows wait changed
@@ -123,3 +124,44 @@ due_walks mid new reached page all sound found comes still was = rw (comes_to mi
 -- as a walk begins before all pages, those that scans visit are due
 pub due_begins : (b : BookState) → InPageOrder b.rows → AreDue b (filter (after_cursor None) (mergeable_pages b.rows))
 due_begins b rise k d lt restless out = grind (arith, has_filter, restless_mergeable, each_at_page, rise)
+
+-- it waits no more where it comes to be on its own
+pub alone_settled : (page : GuestPage) (rows : List Row) → InPageOrder rows → IsAlone page rows
+    → change_row page on_its_own rows ≡ change_row page settled rows
+alone_settled page rows rise alone =
+    map_alike _ _ rows (λ k d lt. grind (arith, at_own_page page rows rise k d lt, same_page_sym))
+
+-- a row waits no more, if it does not come before a page
+abbrev pub hide : GuestPage → Row → Row
+hide page r = if not (comes_before r.page page) then settled r else r
+
+-- up to a cursor, no row from a page on waits
+pub record Hides (page : GuestPage) (old now : BookValue) (last : Option GuestPage) : Type 0 where
+  pub are : view_of now ≡ with_rows (view_of old) (along every_row (hide page) last old.state.rows)
+
+module _ {page : GuestPage} {old now : BookValue} {last : Option GuestPage} (h : Hides page old now last) where
+  so_far : IsAlong every_row (hide page) old.state.rows now.state.rows last
+  so_far = record { are = ap (λ (v : BookView). v.state.rows) h.are }
+
+  -- where no row is left, none from the page on waits
+  pub hiding_end : find (is_next None last) now.state.rows ≡ None → view_of now ≡ record (view_of old) { state = hidden_from page old.state }
+  hiding_end ended = h.are ∙ ap (with_rows (view_of old)) (sym so_far.are ∙ along_end (grind arith) so_far ended)
+
+  module _ (rise : InPageOrder old.state.rows) (at : GuestPage)
+      (told : option_map (λ r. r.page) (find (is_next None last) now.state.rows) ≡ Some at) where
+    hiding_next : (w : BookValue) → view_of w ≡ with_rows (view_of now) (change_row at (hide page) now.state.rows)
+        → Hides page old w (Some at)
+    hiding_next w hides = grind (arith, along_next, so_far)
+
+    -- a shared page, or one that comes before, is left as it is
+    pub hiding_over : (row : Row) → row_at at now.state.rows ≡ Some row
+        → (shared_state row.state ≡ true) ⊎ (comes_before at page ≡ true) → Hides page old now (Some at)
+    hiding_over row found why =
+        let order : InPageOrder now.state.rows = rw so_far.are (ordered_change (passed every_row last) (hide page) _ (grind arith) rise) in
+        hiding_next now (grind (arith, change_still at (hide page) now.state.rows, row_of_page at _ row order found, found_page))
+
+    -- any other page waits no more
+    pub hiding_more : (w : BookValue) → comes_before at page ≡ false
+        → view_of w ≡ with_rows (view_of now) (change_row at settled now.state.rows)
+        → Hides page old w (Some at)
+    hiding_more w behind stops = hiding_next w (stops ∙ ap (with_rows (view_of now)) (map_alike _ _ _ (grind (arith, same_page_eq))))

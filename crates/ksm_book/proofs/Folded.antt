@@ -1,15 +1,13 @@
 -- The visits of a pass are a fold over its pages: what they keep, and what the parts of a scan come to.
-use Rattle.ksm_book.proofs.Names.{after_cursor, Ahead, ahead_before, AllPairs-filter, and_right, ap, append-nil, AreAscending, arith, At, begun, best_dup, BookState, Bool, cases_Bool, change_row}
-use Rattle.ksm_book.proofs.Names.{comes_before, Deed, drop, drop_all, drop_more, DupRow, each_at_page, End, EndsAt, false, filter, filter_all, filter_mapped, find_all, find_passes}
-use Rattle.ksm_book.proofs.Names.{get_or, get_or_from_slice_get, GuestPage, handled, has_item, idle, inl, InPageOrder, inr, is_none, is_nowhere, is_restless, is_some, IsSound, IsStill, last_of}
-use Rattle.ksm_book.proofs.Names.{last_of_take, last_visited, length, length-take-le, List, map, map_mapped, mapped_some, mergeable_pages, Merged, next_row, next_visited, None, none_mapped, Option}
-use Rattle.ksm_book.proofs.Names.{option_map, page, page_visited, pages_ahead, pages_visited, PageState, paired, pairs_mapped, partner, pass_begun, pass_ended, pass_ended_at_last, passes_ended, refl}
-use Rattle.ksm_book.proofs.Names.{restless_at, restless_row, Row, row_at, row_done, row_visited, rowwise_visits, settled, slice_get, slice_get_within, Some, sound_cursor}
-use Rattle.ksm_book.proofs.Names.{sound_row_visited, sound_settings, sound_visit_begun, Stage, subst, suc, suc-mul, sym, take, take_all, then_doing, true, true≢false}
-use Rattle.ksm_book.proofs.Names.{up_to, visit, visit_begun, visit_of, visits, visits_beside, Waiting, with_none_waiting, Zero, zero, ℕ, [], ⊤, ◌*◌, ◌+◌, ◌-◌, ◌<◌, ◌||◌, ◌∙◌, ◌∷◌, ◌≡◌, ◌≤◌}
+use Rattle.ksm_book.proofs.Names.{after_cursor, Ahead, ahead_before, AllPairs-filter, and_right, ap, append-nil, AreAscending, arith, At, begun, BookState, Bool, cases_Bool, comes_before, Deed, drop}
+use Rattle.ksm_book.proofs.Names.{drop_all, drop_more, each_at_page, EndsAt, false, filter, filter_all, filter_mapped, find_all, find_passes, get_or_from_slice_get, GuestPage, has_item, idle, inl}
+use Rattle.ksm_book.proofs.Names.{InPageOrder, inr, is_none, is_nowhere, is_restless, is_some, IsSound, IsStill, last_of, last_of_take, last_visited, length, length-take-le, List, map, map_mapped}
+use Rattle.ksm_book.proofs.Names.{mapped_some, mergeable_pages, next_row, next_visited, None, Option, option_map, page_visited, pages_ahead, pages_visited, PageState, pairs_mapped, pass_begun}
+use Rattle.ksm_book.proofs.Names.{pass_ended_at_last, passes_ended, refl, restless_at, Row, row_at, row_visited, rowwise_visits, settled, slice_get, slice_get_within, Some, sound_cursor}
+use Rattle.ksm_book.proofs.Names.{sound_row_visited, sound_settings, sound_visit_begun, Stage, subst, suc, suc-mul, sym, take, take_all, then_doing, true, true≢false, up_to, visit, visit_begun}
+use Rattle.ksm_book.proofs.Names.{visit_of, visits, visits_beside, zero, [], ℕ, ⊤, ◌*◌, ◌+◌, ◌-◌, ◌<◌, ◌||◌, ◌∙◌, ◌∷◌, ◌≡◌, ◌≤◌}
 use Rattle.ksm_book.proofs.Along.{Before, behind_first, place_of, place_splits}
 use Rattle.ksm_book.proofs.ByPage.{found_page, row_of_page}
-use Rattle.ksm_base.specs.declared.row.PageState.TheVariants.{Private}
 
 -- the next row is that of the first page ahead
 pub next_first : (cursor : Option GuestPage) (rows : List Row)
@@ -21,17 +19,13 @@ some_next : (c : BookState) {page : GuestPage} {more : List GuestPage} → pages
     → (row : Row) × (next_row c.cursor c.rows ≡ Some row) × (row.page ≡ page)
 some_next c is = mapped_some _ _ (grind (arith, next_first))
 
--- where no page is ahead there is no next row
-pub none_next : (c : BookState) → pages_ahead c ≡ [] → next_row c.cursor c.rows ≡ None
-none_next c is = none_mapped (λ (r : Row). r.page) _ (next_first c.cursor c.rows ∙ ap (λ l. slice_get l 0) is)
-
 -- a pass with a page ahead does not end
 pub pass_goes_on : (c : BookState) (page : GuestPage) (more : List GuestPage) → pages_ahead c ≡ page ∷ more → pass_ended_at_last c ≡ c
 pass_goes_on c page more is = rw (and_right _ _ (ap is_none (some_next c is).1))
 
 ascending_mergeable : (rows : List Row) → InPageOrder rows → AreAscending (mergeable_pages rows)
 ascending_mergeable rows rise =
-    let S : Row → Row → Type 0 = λ a b. comes_before a.page b.page ≡ true in
+    let S : Row → Row → Type 0 = λ a b. Before a.page b.page in
     pairs_mapped S _ (λ _. ⊤) _ (λ a b _ _ before. before) _ (λ i d lt. tt) (AllPairs-filter S _ _ rise)
 
 -- the pages ahead ascend where the rows are in page order
@@ -54,31 +48,16 @@ elsewhere cursor passes b = record b { cursor = cursor; passes = passes }
 pub mergeable_kept : (change : Row → Row)
     → ((r : Row) → ((change r).page ≡ r.page) × ((change r).mergeable ≡ r.mergeable))
     → (rows : List Row) → mergeable_pages (map change rows) ≡ mergeable_pages rows
-mergeable_kept change keeps rows = grind (
-  arith,
-  filter_mapped change (λ r. r.mergeable) (λ r. r.mergeable) rows (λ i d lt. (keeps (get_or rows i d)).1),
-  map_mapped,
-)
+mergeable_kept change keeps rows =
+    grind (arith, filter_mapped change (λ r. r.mergeable) (λ r. r.mergeable) rows (grind (arith, keeps)), map_mapped)
 
 -- a row with another state; the flag that its bytes have stayed is put, or stays
 abbrev pub becomes : Bool → PageState → Row → Row
 becomes put state r = record r { unchanged = put || r.unchanged; state = state }
 
 -- scans visit the same pages after the visit of a row
-module _ (b : BookState) (row : Row) where
-  own_keeps : (put : Bool) (state : PageState) → mergeable_pages (change_row row.page (becomes put state) b.rows) ≡ mergeable_pages b.rows
-  own_keeps put state = mergeable_kept _ (grind arith) b.rows
-
-  paired_keeps : (w : Option Row) → mergeable_pages (paired w b row).rows ≡ mergeable_pages b.rows
-  paired_keeps (Some w) = mergeable_kept _ (grind arith) b.rows
-  paired_keeps None = own_keeps false Waiting
-
-  handled_keeps : (d : Option DupRow) → mergeable_pages (handled d b row).rows ≡ mergeable_pages b.rows
-  handled_keeps (Some d) = own_keeps false (Merged d.number)
-  handled_keeps None = grind (arith, own_keeps false Zero, paired_keeps (partner b.knobs b.rows row), own_keeps true Private)
-
-  row_keeps : mergeable_pages (row_visited b row).rows ≡ mergeable_pages b.rows
-  row_keeps = grind (arith, handled_keeps (best_dup b.knobs b.rows b.dups row))
+row_keeps : (b : BookState) (row : Row) → mergeable_pages (row_visited b row).rows ≡ mergeable_pages b.rows
+row_keeps b row = grind (arith, mergeable_kept)
 
 -- a book is sound then, and scans visit the same pages as in another
 abbrev pub Goes : BookState → BookState → Type 0
@@ -87,16 +66,12 @@ Goes old new = IsSound new × (mergeable_pages new.rows ≡ mergeable_pages old.
 -- what is so of a page whose row no visit may change, and of that of each row that one may, is so of each page
 pub by_row : (P : GuestPage → Type 0) (page : GuestPage) (rows : List Row) → (restless_at page rows ≡ false → P page)
     → ((r : Row) → row_at r.page rows ≡ Some r → is_restless r ≡ true → P r.page) → P page
-by_row P page rows calm some = by _ refl
-  where
-    by : (o : Option Row) → row_at page rows ≡ o → P page
-    by None found = calm (ap restless_row found)
-    by (Some r) found = elim (cases_Bool (is_restless r)) [
-      | inl restless ↦
-          let at = found_page page rows r found in
-          subst P at (some r (ap (λ q. row_at q rows) at ∙ found) restless)
-      | inr stays ↦ calm (ap restless_row found ∙ stays)
-    ]
+by_row P page rows calm some = elim (cases_Bool (restless_at page rows)) [
+  | inl is ↦
+      let r : (r : Row) × (row_at page rows ≡ Some r) × (is_restless r ≡ true) = grind arith in
+      let at = found_page page rows r.0 r.1 in subst P at (some r.0 (grind arith) r.2)
+  | inr stays ↦ calm stays
+]
 
 -- a deed and then no step is that deed alone
 pub then_idle : (deed : Deed) → then_doing deed (idle deed.frame) ≡ deed
@@ -104,7 +79,7 @@ then_idle deed = grind (arith, append-nil deed.steps)
 
 -- n visits and then k come to the same as n + k visits
 pub beside_on : (n k m : ℕ) (s : Stage) → m ≡ n + k → visits_beside m s ≡ visits_beside k (visits_beside n s)
-beside_on n zero m s sum = let same : m ≡ n = omega arith in rw same
+beside_on n zero m s sum = grind arith
 beside_on n (suc k) m s sum =
     (let more : m ≡ suc (n + k) = omega arith in rw more) ∙ ap (λ s. visits_beside 1 s)
     (beside_on n k (n + k) s refl)
@@ -124,21 +99,12 @@ visits_mergeable n s = rw (beside_state n s) (grind (arith, (rowwise_visits n s.
 -- the visit of a page keeps a book sound, and which pages scans visit
 pub page_goes : (s : Stage) (page : GuestPage) → IsSound s.0 → Goes s.0 (page_visited s page).0
 page_goes s page sound = by_row (λ p. Goes s.0 (page_visited s p).0) page s.0.rows (grind arith)
-    (λ r found restless.
-    rw (found, restless) (sound_row_visited s.0 r (grind (arith, row_of_page)) sound, row_keeps s.0 r))
+    (λ r found restless. grind (arith, sound_row_visited s.0 r (grind (arith, row_of_page)), row_keeps s.0 r))
 
 -- so do the visits of pages
 pub pages_go : (pages : List GuestPage) (s : Stage) → IsSound s.0 → Goes s.0 (pages_visited s pages).0
 pages_go [] s sound = (sound, refl)
-pages_go (page ∷ pages) s sound =
-    let first = page_goes s page sound in
-    let more = pages_go pages (page_visited s page) first.0 in (more.0, more.1 ∙ first.1)
-
-next_is_page : (s : Stage) (row : Row) → InPageOrder s.0.rows → next_row s.0.cursor s.0.rows ≡ Some row
-    → page_visited s row.page ≡ row_done s row
-next_is_page s row rise next =
-    let there = find_all _ (λ r. row_at r.page s.0.rows ≡ Some r) _ row next (each_at_page _ rise) in
-    grind (arith, find_passes _ s.0.rows row next, then_idle s.1)
+pages_go (page ∷ pages) s sound = grind (arith, page_goes s page sound, pages_go pages (page_visited s page))
 
 -- visits of pages do the same wherever the cursor stands and however many passes have ended
 module _ (cursor : Option GuestPage) (passes : ℕ) where
@@ -183,12 +149,12 @@ first_visited : (s : Stage) (page : GuestPage) (more : List GuestPage) → IsSou
     → Led s (stood s (page ∷ [])) more 1
 first_visited s page more sound is =
     let next = some_next (begun s).0 is in
-    let visit = next_is_page (begun s) next.0 sound.rows_rise next.1 in
+    let there = find_all _ (λ r. row_at r.page (begun s).0.rows ≡ Some r) _ next.0 next.1 (each_at_page _ sound.rows_rise) in
     let went = page_goes (begun s) page sound in (
       sound_cursor _ _ went.0,
       ap (filter (after_cursor (Some page))) went.1 ∙ behind_first _ _ page more (ascending_mergeable _ sound.rows_rise) is,
       refl,
-      grind (arith, visit, next.1, next.2),
+      grind (arith, next.1, next.2, find_passes _ (begun s).0.rows next.0 next.1, then_idle s.1),
     )
 
 -- visits are those of the pages ahead, one after another; the pass ends with the last of them
@@ -218,16 +184,13 @@ module _ (s : Stage) (sound : IsSound s.0) where
   pub ascending : AreAscending (ahead s)
   ascending = ascending_ahead (visit_begun s.0) begun_sound.rows_rise
 
-  made_first : (n : ℕ) → n < length (ahead s) → Led s (stood s (take (suc n) (ahead s))) (drop (suc n) (ahead s)) (suc n)
-  made_first n lt = visits_folded n s (ahead s) begun_sound refl lt
-
   -- the visit behind those of the first n pages ahead begins where these have led
   pub begun_folded : (n : ℕ) (page : GuestPage) → slice_get (ahead s) n ≡ Some page
       → begun (visits_beside n s) ≡ stood s (take n (ahead s))
   begun_folded zero page at = refl
   begun_folded (suc n) page at =
       let lt = slice_get_within (ahead s) (suc n) page at in
-      let made = made_first n (omega arith) in
+      let made = visits_folded n s (ahead s) begun_sound refl (omega arith) in
       grind (arith, made.2, made.3, pass_goes_on (stood s (take (suc n) (ahead s))).0 _ _ (made.1 ∙ drop_more (ahead s) (suc n) page lt))
 
 -- a pass has gone through all pages where so many visits end nowhere
@@ -241,18 +204,13 @@ nowhere_is b most ahead ends =
     first [] ahead ends = grind arith
     first (page ∷ pages) ahead ends = grind arith
 
-settled_ahead : (b : BookState) → pages_ahead (with_none_waiting b) ≡ pages_ahead b
-settled_ahead b = grind (arith, mergeable_kept)
-
 -- as a pass begins the pages ahead are the same
 pub begun_ahead : (b : BookState) → pages_ahead (pass_begun b) ≡ pages_ahead b
-begun_ahead b = grind (arith, settled_ahead b)
+begun_ahead b = grind (arith, mergeable_kept)
 
 -- where there is a page to visit, one is ahead once a visit begins
 pub some_ahead : (b : BookState) → 1 ≤ length (mergeable_pages b.rows) → 1 ≤ length (pages_ahead (visit_begun b))
-some_ahead b some =
-    let within = slice_get_within (pages_ahead b) 0 in
-    grind (arith, next_first b.cursor b.rows, settled_ahead b, settled_ahead (pass_ended b), every_page b.rows)
+some_ahead b some = grind (arith, slice_get_within (pages_ahead b) 0, next_first b.cursor b.rows, begun_ahead, every_page b.rows)
 
 -- scans visit a restless page
 pub restless_mergeable : (page : GuestPage) (rows : List Row) → restless_at page rows ≡ true → has_item page (mergeable_pages rows) ≡ true
@@ -277,20 +235,18 @@ module _ (s : Stage) (sound : IsSound s.0) where
   page_made most page some ends =
       let n = most - 1 in
       let one : suc n ≡ most = omega arith in
-      let made = made_first s sound n (omega arith) in
-      let first = (place_splits (ahead s) n page (ascending s sound) ends.1).1 in
+      let made = visits_folded n s (ahead s) (begun_sound s sound) refl (omega arith) in
       let stays = pass_goes_on (stood s (take (suc n) (ahead s))).0 _ _ (made.1 ∙ drop_more (ahead s) (suc n) page (omega arith)) in
-      grind (arith, made.3, last_of_take (ahead s) n (visit_begun s.0).cursor ends.1)
+      grind (arith, made.3, place_splits (ahead s) n page (ascending s sound) ends.1, last_of_take (ahead s) n (visit_begun s.0).cursor ends.1)
 
   -- as many visits as there are pages ahead are the visits of all of them, and then the end of the pass
   pass_made : 1 ≤ length (ahead s) → visits_beside (length (ahead s)) s ≡ ended s 1
   pass_made some =
       let n = length (ahead s) - 1 in
       let one : suc n ≡ length (ahead s) = omega arith in
-      let made = made_first s sound n (omega arith) in
-      let none = none_next (stood s (take (suc n) (ahead s))).0 (made.1 ∙ drop_all (suc n) (ahead s) (omega arith)) in
+      let made = visits_folded n s (ahead s) (begun_sound s sound) refl (omega arith) in
       let all = filter_all (up_to None) (ahead s) (λ k d lt. refl) in
-      grind (arith, made.2, made.3, take_all (suc n) (ahead s) (omega arith))
+      grind (arith, made, next_first (stood s (take (suc n) (ahead s))).0.cursor, drop_all, take_all)
 
 module _ (s : Stage) (sound : IsSound s.0) (some : 1 ≤ length (mergeable_pages s.0.rows)) where
   abbrev size : ℕ
@@ -312,9 +268,7 @@ module _ (s : Stage) (sound : IsSound s.0) (some : 1 ≤ length (mergeable_pages
       → (1 < times → ((visit_begun s.0).cursor ≡ None) × IsStill (begun s) (passed s))
       → ended s times ≡ visits_beside (times * size) s
   passes_made zero one more = absurd (omega arith)
-  passes_made (suc zero) one more =
-      let once : 1 * size ≡ size = omega arith in
-      rw once (sym (pass_made s sound (some_ahead s.0 some)))
+  passes_made (suc zero) one more = grind (arith, pass_made s sound (some_ahead s.0 some))
   passes_made (suc (suc n)) one more =
       let whole = more (omega arith) in
       sym (again whole.0 whole.1 (suc n)) ∙ ap (visits_beside size) (passes_made (suc n) (omega arith) (λ lt. whole))
@@ -334,27 +288,21 @@ module _ (s : Stage) (sound : IsSound s.0) (page : GuestPage) (there : has_item 
   stands : slice_get (ahead s) place ≡ Some page
   stands = (place_of _ _ there).1
 
-  first_is : before_it ≡ take place (ahead s)
-  first_is = (place_splits _ _ _ (ascending s sound) stands).0
-
-  still_ahead : ahead_before page stopped.0 ≡ before_it
-  still_ahead = grind (arith, pages_go, begun_sound, pages_stay)
+  first_are : ahead_before page stopped.0 ≡ take place (ahead s)
+  first_are = grind (arith, pages_go, begun_sound, pages_stay, place_splits _ _ _ (ascending s sound) stands)
 
   many : length (ahead_before page stopped.0) ≡ place
-  many = grind (arith, still_ahead, first_is, length-take-le, slice_get_within)
+  many = grind (arith, first_are, length-take-le, slice_get_within)
 
   -- visits of the pages ahead before the page, with the cursor at the last, are as many visits and one more begun
   pub stopped_made : (record stopped.0 { cursor = last_of stopped.0.cursor (ahead_before page stopped.0) }, stopped.1)
       ≡ begun (visits_beside (length (ahead_before page stopped.0)) s)
-  stopped_made =
-      let folded = begun_folded s sound place page stands in
-      grind (arith, many, first_is, still_ahead, pages_stay before_it (begun s))
+  stopped_made = grind (arith, begun_folded s sound place page stands, many, place_splits _ _ _ (ascending s sound) stands, first_are, pages_stay before_it (begun s))
 
   -- where so many visits would visit the page, fewer pages ahead come before it
   pub stopped_fewer : {most : ℕ} (a : Ahead) → 1 ≤ most → EndsAt (ahead s) most a
       → up_to (last_visited a) page ≡ true
       → length (ahead_before page stopped.0) < most
-  stopped_fewer {most} (At last) some comes passes =
+  stopped_fewer {most} a some comes passes =
       let order = ascending s sound (most - 1) place page in
       grind (arith, many, stands, get_or_from_slice_get, slice_get_within (ahead s) place page stands)
-  stopped_fewer (End made) some comes passes = omega (arith, many, slice_get_within (ahead s) place page stands)

@@ -6,11 +6,9 @@ pub mod Laying
 pub mod Sharing
 pub mod Dues
 pub mod DueKept
-pub mod DueAlike
 pub mod Singles
 pub mod DueBroken
 pub mod Along
-pub mod Hiding
 pub mod Promised
 pub mod Folded
 pub mod DuePasses

@@ -1,5 +1,5 @@
 -- What was reached of a scan: it begins with no step, and tells the state of the book.
-use Rattle.ksm_book.proofs.Names.{ap, BookState, BookValue, BookView, Comes, Deed, idle, mapped, Performs, Reached, refl, Stage, subst, sym, view_of, ◌∙◌, ◌≡◌}
+use Rattle.ksm_book.proofs.Names.{ap, arith, BookState, BookValue, Comes, Deed, idle, Reached, refl, Stage, subst, view_of, ◌≡◌}
 use Rattle.ksm_book.proofs.Made.{made_none}
 
 -- the state of a book, and a deed without a step
@@ -21,10 +21,7 @@ comes_own v w change comes = ap (λ k. k.table) (comes v (first v) (begins v)).1
 -- where the state alone changed, that change was reached
 pub changed_comes : (v w : BookValue) (f : BookState → BookState) → view_of w ≡ record (view_of v) { state = f v.state }
     → Comes v w (λ s. (f s.0, s.1))
-changed_comes v w f same from s before = (
-  ap (λ (x : BookView). x.state) same ∙ ap f before.0,
-  subst (λ (x : BookView). Performs (mapped (view_of from)) (mapped x) s.1) (sym same) before.1,
-)
+changed_comes v w f same from s before = grind (arith, same, before)
 
 -- two changes come to the same of whatever was reached with a book
 pub record Agree (v : BookValue) (f g : Stage → Stage) : Type 0 where
@@ -33,10 +30,7 @@ pub record Agree (v : BookValue) (f g : Stage → Stage) : Type 0 where
 -- so they do where they come to the same of the book's state, with whatever deed was reached
 pub agrees : (v : BookValue) {f g : Stage → Stage}
     → ((from : BookValue) (deed : Deed) → Reached from v (v.state, deed) → f (v.state, deed) ≡ g (v.state, deed)) → Agree v f g
-agrees v {f} {g} each = record {
-  same = λ from s before.
-      subst (λ (b : BookState). Reached from v (b, s.1) → f (b, s.1) ≡ g (b, s.1)) before.0 (each from s.1) before;
-}
+agrees v {f} {g} each = record { same = λ from s before. grind (arith, each from s.1, before) }
 
 -- what comes of the one comes of the other then
 pub comes_as : {v : BookValue} (w : BookValue) {f g : Stage → Stage} → Agree v f g → Comes v w f → Comes v w g

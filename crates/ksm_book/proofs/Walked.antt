@@ -2,7 +2,7 @@
 use Rattle.ksm_book.proofs.Names.{after_cursor, ahead_before, ahead_up_to, All, All-cons, All-filter, and_parts, ap, AreAscending, arith, BookState, BookValue, Bool, cases_Bool, Comes, comes_before}
 use Rattle.ksm_book.proofs.Names.{Deed, false, filter, filter_none, filter_passes, find_all, fold, fold-append, get_or, get_or_from_slice_get, GuestPage, has_item, HasVisited, inl, inr, is_restless}
 use Rattle.ksm_book.proofs.Names.{IsSound, IsStill, List, mergeable_pages, not, one_before, Option, page_visited, pages_ahead, pairs_head, pairs_tail, Reached, refl, restless_at, same_page_eq}
-use Rattle.ksm_book.proofs.Names.{slice_get_within, Some, Stage, StaysStill, subst, suc, sym, take, take-suc, true, true≢false, up_to, ℕ, [], ◌&&◌, ◌-◌, ◌<◌, ◌∙◌, ◌∷◌, ◌≡◌}
+use Rattle.ksm_book.proofs.Names.{slice_get_within, Some, Stage, StaysStill, subst, suc, sym, take, take-suc, true, up_to, [], ℕ, ◌&&◌, ◌-◌, ◌<◌, ◌∙◌, ◌∷◌, ◌≡◌}
 use Rattle.ksm_book.proofs.Along.{Before, FitsPage, after_later, has_filter, place_of, place_splits, position}
 use Rattle.ksm_book.proofs.Reached.{Agree, agrees, comes_to}
 use Rattle.ksm_book.proofs.Folded.{ascending_ahead, by_row, Goes, page_goes, restless_mergeable}
@@ -44,10 +44,8 @@ module _ (visit : Visit) where
           let behind = All-cons (λ q. after_cursor reached q ≡ true) p pages here
           (λ k d lt. after_later reached p (get_or pages k d) here (pairs_head Before p pages rise k d lt)) in
           let same : s ≡ c = ap (fold visit s) (sym (filter_none passed (p ∷ pages) (grind (arith, behind)))) ∙ came in
-          resting (filter t (p ∷ pages)) s (λ k d lt. subst (λ z. Rests visit z (get_or (filter t (p ∷ pages)) k d)) (its ∙ ap (λ (z : Stage). z.0) (sym same))
-          (rest _ (All-filter t (λ q. after_cursor reached q ≡ true) (p ∷ pages) behind k d lt)
-          (filter_passes t (p ∷ pages) k d lt)))
-          ∙ same
+          let there = All-filter t (λ q. after_cursor reached q ≡ true) (p ∷ pages) behind in
+          resting (filter t (p ∷ pages)) s (λ k d lt. grind (arith, its, same, rest _ (there k d lt) (filter_passes t (p ∷ pages) k d lt))) ∙ same
       | inr over ↦
           rw (near 0 p (omega arith) (ap not over))
           (more t pages (visit s p) c (rw over at came) its (pairs_tail Before p pages rise)
@@ -71,23 +69,13 @@ module _ (visit : Visit) where
           | inl there ↦
               let at = place_of page pages there in
               let splits = place_splits pages at.0 page rise at.1 in
-              grind (
-                arith,
-                splits.0,
-                splits.1,
-                before,
-                take-suc pages at.0 page (slice_get_within pages at.0 page at.1),
-                get_or_from_slice_get pages at.0 page page at.1,
-                fold-append visit s (take at.0 pages) (page ∷ []),
-              )
+              let more = take-suc pages at.0 page (slice_get_within pages at.0 page at.1) in
+              let is = get_or_from_slice_get pages at.0 page page at.1 in
+              grind (arith, splits.0, splits.1, before, fold-append visit s (take at.0 pages) (page ∷ []))
           | inr off ↦
               more (λ p. not (comes_before page p)) pages s came refl its rise
               (λ k d lt out. grind (arith, after_later reached page (get_or pages k d) behind))
-              (λ q after up. elim (cases_Bool (comes_before q page)) [
-                | inl low ↦ between q after low
-                | inr high ↦
-                    subst (Rests visit b) (same_page_eq page q (grind (arith, one_before page q))) (out off)
-              ])
+              (λ q after up deed. grind (arith, between q after, one_before page q, same_page_eq page q, out off))
               ∙ sym (subst (λ z. Rests visit z page) its (out off) came.1)
         ]
 
@@ -172,8 +160,9 @@ pub rests_where : (b : BookState) (reached : Option GuestPage) (test : GuestPage
     → after_cursor reached q ≡ true → test q ≡ true → Rests page_visited b q
 rests_where b reached test none q =
     by_row (λ p. after_cursor reached p ≡ true → test p ≡ true → Rests page_visited b p) q b.rows
-    (λ calm _ _. visits_page.calm b q calm) (λ r found restless after inside. absurd (true≢false (sym inside
-    ∙ find_all _ (λ s. is_restless s ≡ true → after_cursor reached s.page ≡ true → test s.page ≡ false) _ r found none restless after)))
+    (λ calm _ _. visits_page.calm b q calm) (λ r found restless after inside.
+    let behind = find_all _ (λ s. is_restless s ≡ true → after_cursor reached s.page ≡ true → test s.page ≡ false) _ r found none in
+    absurd (grind (arith, behind)))
 
 -- how many pages there may be behind a cursor
 abbrev pub room_behind : Option GuestPage → ℕ

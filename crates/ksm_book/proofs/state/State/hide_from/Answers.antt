@@ -1,5 +1,5 @@
 use Rattle.ksm_book.proofs.Names.{ap, arith, BookValue, every_row, find, is_next, None, option_map, Row, row_at, Some, subst, view_of, with_rows, ◌≡◌}
-use Rattle.ksm_book.proofs.Hiding.{hide, hiding_end, hiding_more, hiding_over}
+use Rattle.ksm_book.proofs.DuePasses.{hide, hiding_end, hiding_more, hiding_over}
 use Rattle.ksm_book.proofs.Along.{along_none}
 use Rattle.ksm_book.proofs.state.State.hide_from.Goals as goal
 use Rattle.ksm_book.proofs.state.State.hide_from.Goals.{else-not-held, then-not-held+then-not-comes_before}

@@ -1,4 +1,4 @@
-use Rattle.ksm_book.proofs.Hiding.{Hides}
+use Rattle.ksm_book.proofs.DuePasses.{Hides}
 use Rattle.ksm_book.proofs.Along.{position}
 use Rattle.ksm_book.proofs.Names.{◌-◌}
 use Rattle.ksm_book.proofs.state.State.hide_from.Given as goal

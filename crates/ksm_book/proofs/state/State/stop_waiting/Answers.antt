@@ -1,5 +1,5 @@
 use Rattle.ksm_book.proofs.Names.{arith, BookValue, change_row, IsAlone, IsSound, PagesView, seen, settled, settled_calmer, sound_changed, state_of, subst, sym, ◌≡◌}
-use Rattle.ksm_book.proofs.Hiding.{alone_settled}
+use Rattle.ksm_book.proofs.DuePasses.{alone_settled}
 use Rattle.ksm_book.proofs.Laying.{laid_mapped}
 use Rattle.ksm_book.proofs.state.State.stop_waiting.Goals as goal
 
