@@ -24,23 +24,24 @@ pub use Rattle.ksm_book.specs.Commands.{replayed, Resettles, ResettlesEach, rewr
 pub use Rattle.ksm_book.specs.Due.{AreDue, comes_later, due_visited, DueView, FindsFirst, freed, hidden_from, names, pages_of, part_before, part_visited, StaysBefore, takes_over, TakesOver, TellsDue}
 pub use Rattle.ksm_book.specs.Due.{waits_on, with_rows}
 pub use Rattle.ksm_book.specs.Folded.{begun, IsStill, next_visited, page_visited, pages_ahead, pages_visited, restless_at, restless_row, row_done, Stage, visited, visits_beside}
+pub use Rattle.ksm_book.specs.Laid.{HasLeft, HasRemounted, is_shared_of, IsLaid, left_by, LiesWith, lying, MayMove, MayNotLeave, state_of, TurnedAway, Unshares}
 pub use Rattle.ksm_book.specs.Placement.{Agrees, AreSets, DupFits, FitsBase, HasLost, HasMoved, HasNewFrame, holding, in_hand, IsInLife, IsLawful, IsServed, Keeps, MayLeave, MayMount, node_of}
 pub use Rattle.ksm_book.specs.Placement.{NoneLeft, once_mounted, place_frame, Placed, RowFits, spent, spent_on, uses, with_more}
-pub use Rattle.ksm_book.specs.Laid.{HasLeft, HasRemounted, is_shared_of, IsLaid, left_by, LiesWith, lying, MayMove, MayNotLeave, state_of, TurnedAway, Unshares}
 pub use Rattle.ksm_book.specs.Promised.{dup_frames, FindsPlace, is_in_use, IsOutlived, LieOn, own_frames, StandsOn}
 pub use Rattle.ksm_book.specs.Scanned.{ahead_before, ahead_up_to, Comes, FindsStill, FindsUpTo, HasVisited, is_nowhere, is_quiet, last_visited, passes_ended, Reached, StaysStill, Stops, up_to}
 pub use Rattle.ksm_book.specs.Scanned.{VisitsPage}
-pub use Rattle.ksm_book.specs.Terms.{Add, added, after_cursor, Answer, are_paired, AreAscending, at_home_on, best_dup, blank, BookState, change_row, change_rows, comes_before, Command, count_in}
-pub use Rattle.ksm_book.specs.Terms.{default_knobs, Did, did, Done, Drop, dup_of_row, DupRow, Dying, effect, elsewhere, empty_from, every_row, Fault, filled, FindsAt, first_ledger, frame_at, Frames}
-pub use Rattle.ksm_book.specs.Terms.{frames_of, Free, Freeze, fresh_row, frozen, GenerationFits, GuestPage, handled, has, has_item, has_items, HasRoom, HasRow, InPageOrder, InPlaceOrder, InUse}
-pub use Rattle.ksm_book.specs.Terms.{is_before, is_best, is_for_zero, is_next, is_no_rival, is_no_worse, is_of, is_restless, is_stale, IsAlone, IsAnswerOrMemory, IsDupOf, IsHeld, IsLoose, IsReadable}
-pub use Rattle.ksm_book.specs.Terms.{IsScanned, IsShape, IsSound, IsVacant, IsWritable, item_count, items_on, ItemsLieOn, KeeperStep, KeeperView, Kind, Ledger, ledger_after, let_go, lies_on}
-pub use Rattle.ksm_book.specs.Terms.{live_dup_at, made_dup, Marks, May, may_join, MayPair, Memory, Mergeable, mergeable_count, Merged, merged_into, merged_state, MOST_FRAMES, MOST_LIVES}
-pub use Rattle.ksm_book.specs.Terms.{MOST_REFERENCES, moved, MoveDup, MovePage, named_anew, named_at, new_place, next_row, NoFrame, Note, nowhere, of_guest, on_its_own, Open, opened, page_beside}
-pub use Rattle.ksm_book.specs.Terms.{PAGE_WORDS, PageState, PagesView, paired, partner, pass_begun, pass_ended, pass_ended_at_last, place_count, Private, Prune, Pruned, Publish, Raise, raised, Reap}
-pub use Rattle.ksm_book.specs.Terms.{reaped, Register, relaid, Row, row_at, row_visited, same_page, Scan, scan_stopped, Scanned, seen, SetAcross, SetLimit, SetPagesToScan, SetRun, settled, Shape}
-pub use Rattle.ksm_book.specs.Terms.{shared_state, shown, Stable, Store, stored, Sub, tree_of, UnknownPage, Unmerge, Unmerged, unshare_stopped, unshared, visit, visit_begun, visit_of, visits, Waiting}
-pub use Rattle.ksm_book.specs.Terms.{waiting_state, waits_for, with_dup, with_frame, with_none_waiting, with_row, Withdraw, without_page, Zero, zero_state}
+pub use Rattle.ksm_book.specs.Terms.{Add, added, after_cursor, Ahead, Answer, are_paired, AreAscending, At, at_home_on, best_dup, blank, BookState, change_row, change_rows, comes_before, Command}
+pub use Rattle.ksm_book.specs.Terms.{count_in, default_knobs, Did, did, Done, Drop, dup_of_row, DupRow, Dying, effect, elsewhere, empty_from, End, EndsAt, every_row, Fault, filled, Find, FindsAt}
+pub use Rattle.ksm_book.specs.Terms.{FindsNext, first_ledger, frame_at, Frames, frames_of, Free, Freeze, fresh_row, frozen, GenerationFits, GuestPage, handled, has, has_item, has_items, HasRoom}
+pub use Rattle.ksm_book.specs.Terms.{HasRow, InPageOrder, InPlaceOrder, InUse, is_before, is_best, is_for_zero, is_next, is_no_rival, is_no_worse, is_of, is_restless, is_stale, IsAlone}
+pub use Rattle.ksm_book.specs.Terms.{IsAnswerOrMemory, IsDupOf, IsHeld, IsLoose, IsReadable, IsScanned, IsShape, IsSound, IsVacant, IsWritable, item_count, items_on, ItemsLieOn, KeeperStep}
+pub use Rattle.ksm_book.specs.Terms.{KeeperView, Kind, Ledger, ledger_after, let_go, lies_on, live_dup_at, made_dup, Marks, May, may_join, MayPair, Memory, Mergeable, mergeable_count, mergeable_pages}
+pub use Rattle.ksm_book.specs.Terms.{Merged, merged_into, merged_state, MOST_FRAMES, MOST_LIVES, MOST_REFERENCES, moved, MoveDup, MovePage, named_anew, named_at, new_place, next_row, NoFrame, Note}
+pub use Rattle.ksm_book.specs.Terms.{nowhere, of_guest, on_its_own, Open, opened, page_beside, PAGE_WORDS, PageState, PagesView, paired, partner, pass_begun, pass_ended, pass_ended_at_last}
+pub use Rattle.ksm_book.specs.Terms.{place_count, Private, Prune, Pruned, Publish, Raise, raised, Reap, reaped, Register, relaid, Row, row_at, row_visited, same_page, Scan, scan_stopped, Scanned}
+pub use Rattle.ksm_book.specs.Terms.{seen, SetAcross, SetLimit, SetPagesToScan, SetRun, settled, Shape, shared_state, shown, Stable, Store, stored, Sub, tree_of, UnknownPage, Unmerge, Unmerged}
+pub use Rattle.ksm_book.specs.Terms.{unshare_stopped, unshared, visit, visit_begun, visit_of, visits, Waiting, waiting_state, waits_for, with_dup, with_frame, with_none_waiting, with_row, Withdraw}
+pub use Rattle.ksm_book.specs.Terms.{without_page, Zero, zero_state}
 pub use Rattle.ksm_book.specs.Whole.{BookValue, BookView, HasShown, listed, mapped, nodes_got, view_of}
 pub use Rattle.ksm_book.specs.Worked.{apart, page}
 pub use Rattle.ksm_order.proofs.Ordered.{absent_parts, any_found, none_found, with_rises, without_between, without_rises}
@@ -48,11 +49,8 @@ pub use Rattle.ksm_pages.proofs.Found.{find_changed, find_changed_other, find_pu
 pub use Rattle.ksm_pages.proofs.Joined.{own_not_merged}
 pub use Rattle.ksm_pages.proofs.Options.{mapped_some, none_mapped, some_mapped}
 pub use Rattle.ksm_pages.proofs.Ranked.{last_of_take}
-pub use Rattle.ksm_pages.specs.Ahead.{EndsAt, FindsNext, last_of, mergeable_pages}
-pub use Rattle.ksm_pages.specs.declared.ahead.Ahead.{Ahead}
-pub use Rattle.ksm_pages.specs.declared.ahead.Ahead.TheVariants.{At, End}
+pub use Rattle.ksm_pages.specs.Ahead.{last_of}
 pub use Rattle.ksm_pages.specs.declared.named.Named.{Named}
-pub use Rattle.ksm_pages.specs.declared.pages.Find.{Find}
 pub use Rattle.ksm_pages.specs.declared.pages.Find.TheVariants.{Dup, Partner}
 pub use Rattle.ksm_pages.specs.declared.pages.Held.{Held}
 pub use Rattle.ksm_rmap.proofs.Pages.{pages_ordered}
@@ -60,7 +58,7 @@ pub use Rattle.ksm_tree.proofs.Alike.{count_alike, count_mapped, filter_mapped, 
 pub use Rattle.ksm_tree.proofs.Numbers.{on_err}
 pub use Rattle.ksm_tree.specs.declared.dup.Best.{Best}
 pub use Rattle.std.proofs.Common.{ap, append-nil, append_assoc, arith, Bool, cond, drop, eq-eqb, Err, false, get_or, get_or-set_other, get_or-set_same, inl, inr, length, length-set, List, map, None}
-pub use Rattle.std.proofs.Common.{Ok, Option, refl, replicate, rules, set, Some, subst, suc, suc-mul, sym, take, true, true≢false, zero, ℕ, [], ◌*◌, ◌++◌, ◌+◌, ◌-◌, ◌/◌, ◌<◌, ◌^◌, ◌∙◌, ◌∷◌, ◌≡◌, ◌≢◌}
+pub use Rattle.std.proofs.Common.{Ok, Option, refl, replicate, rules, set, Some, subst, suc, suc-mul, sym, take, true, true≢false, zero, [], ℕ, ◌*◌, ◌++◌, ◌+◌, ◌-◌, ◌/◌, ◌<◌, ◌^◌, ◌∙◌, ◌∷◌, ◌≡◌, ◌≢◌}
 pub use Rattle.std.proofs.Common.{◌≤◌, ◌⊎◌}
 pub use Rattle.std.proofs.Math.Dec.{eqb}
 pub use Rattle.std.proofs.Math.Seq.{take-append_seam, take-suc}

@@ -1,13 +1,7 @@
 -- Passes that visit only the pages that are due: what waits, and would wait again, is left as it is (own).
 use Rattle.std.specs.Prelude.{◌≡◌, Bool, true, false, not, ◌&&◌, All, List, map, Option, Some, None, is_none, if◌then◌else◌}
-use Rattle.ksm_base.specs.declared.page.GuestPage.{GuestPage}
-use Rattle.ksm_base.specs.declared.row.Row.{Row}
-use Rattle.ksm_base.specs.Rows.{change_row, change_rows, comes_before, row_at, same_page, settled, waiting_state}
-use Rattle.ksm_base.specs.State.{BookState}
-use Rattle.ksm_base.specs.Visit.{after_cursor, best_dup, is_for_zero, partner, pass_begun}
-use Rattle.ksm_rmap.specs.Items.{has_item}
-use Rattle.ksm_pages.specs.Paged.{is_restless}
-use Rattle.ksm_pages.specs.declared.row.Spot.{Spot}
+use Rattle.ksm_book.specs.Terms.{after_cursor, best_dup, BookState, change_row, change_rows, comes_before, GuestPage, has_item, is_for_zero, is_restless, partner, pass_begun, Row, row_at, same_page}
+use Rattle.ksm_book.specs.Terms.{settled, Spot, waiting_state}
 use Rattle.ksm_book.specs.Commands.{Performs}
 use Rattle.ksm_book.specs.Folded.{Stage, pages_visited, visited}
 use Rattle.ksm_book.specs.Scanned.{Reached, ahead_before, ahead_up_to}

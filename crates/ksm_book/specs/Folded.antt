@@ -1,14 +1,8 @@
 -- Visits as a fold over pages: which pages a pass still visits, and what the visit of each does to the book and to the
 -- frames (own).
 use Rattle.std.specs.Prelude.{◌≡◌, ℕ, zero, suc, Bool, false, List, fold, map, Option, Some, None, if◌then◌else◌}
-use Rattle.ksm_base.specs.declared.page.GuestPage.{GuestPage}
-use Rattle.ksm_base.specs.declared.row.Row.{Row}
-use Rattle.ksm_base.specs.Rows.{row_at, settled}
-use Rattle.ksm_base.specs.State.{BookState}
-use Rattle.ksm_pages.specs.Ahead.{mergeable_pages, pages_behind}
-use Rattle.ksm_pages.specs.Paged.{is_restless}
+use Rattle.ksm_book.specs.Terms.{BookState, GuestPage, is_restless, mergeable_pages, next_row, pages_behind, Row, row_at, row_visited, settled, visit_begun, visit_ended}
 use Rattle.ksm_book.specs.Commands.{Deed, row_visiting, then_doing}
-use Rattle.ksm_base.specs.Visit.{next_row, row_visited, visit_begun, visit_ended}
 
 -- the pages that a pass still visits, in order
 abbrev pub pages_ahead : BookState → List GuestPage

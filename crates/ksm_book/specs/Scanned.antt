@@ -1,19 +1,10 @@
 -- What a scan asks of the book's inside, and what its parts come to (own).
 use Rattle.std.specs.Prelude.{◌≡◌, ℕ, ◌+◌, ◌-◌, ◌^◌, ◌<◌, ◌≤◌, Bool, true, false, not, ◌==◌, All, List, filter, min, Option, Some, None}
-use Rattle.ksm_base.specs.declared.page.GuestPage.{GuestPage}
-use Rattle.ksm_base.specs.declared.row.Row.{Row}
-use Rattle.ksm_base.specs.Rows.{comes_before}
-use Rattle.ksm_base.specs.Visit.{after_cursor, row_visited}
-use Rattle.ksm_pages.specs.Paged.{FindsAt, HasRow, PagesView, is_restless}
-use Rattle.ksm_pages.specs.declared.pages.Find.{Find}
-use Rattle.ksm_base.specs.State.{BookState}
-use Rattle.ksm_rmap.specs.Items.{has_item}
+use Rattle.ksm_book.specs.Terms.{after_cursor, Ahead, At, BookState, comes_before, End, Find, FindsAt, FindsNext, GuestPage, has_item, HasRow, is_restless, mergeable_pages, pages_between, PagesView}
+use Rattle.ksm_book.specs.Terms.{Row, row_visited}
 use Rattle.ksm_book.specs.Commands.{Performs, row_visiting}
 use Rattle.ksm_book.specs.Whole.{BookValue, BookView, mapped, view_of}
 use Rattle.ksm_book.specs.Folded.{IsStill, Stage, begun, pages_ahead, visits_beside}
-use Rattle.ksm_pages.specs.Ahead.{FindsNext, mergeable_pages, pages_between}
-use Rattle.ksm_pages.specs.declared.ahead.Ahead.{Ahead}
-use Rattle.ksm_pages.specs.declared.ahead.Ahead.TheVariants.{At, End}
 use Rattle.ksm_book.specs.declared.visiting.Visited.{Visited}
 use Rattle.ksm_book.specs.declared.visiting.Visited.TheVariants.{Same, Changed, Shared, Gone}
 

@@ -24,21 +24,26 @@ pub use Rattle.ksm_base.specs.Sound.{IsDupOf, IsSound}
 pub use Rattle.ksm_base.specs.State.{BookState, default_knobs, opening, pass_ended, place_count, tree_of, with_none_waiting}
 pub use Rattle.ksm_base.specs.Values.{frames_of, IsShape}
 pub use Rattle.ksm_base.specs.Visit.{after_cursor, best_dup, empty_from, handled, is_best, is_for_zero, is_no_rival, is_no_worse, made_dup, may_join, new_place, next_row, paired, partner, pass_begun}
-pub use Rattle.ksm_base.specs.Visit.{pass_ended_at_last, row_visited, visit, visit_begun, visit_of, visits, waits_for}
+pub use Rattle.ksm_base.specs.Visit.{pass_ended_at_last, row_visited, visit, visit_begun, visit_ended, visit_of, visits, waits_for}
 pub use Rattle.ksm_base.specs.declared.command.Command.{Command}
 pub use Rattle.ksm_base.specs.declared.command.Command.TheVariants.{Drop, Mergeable, MoveDup, MovePage, Prune, Register, Scan, SetAcross, SetLimit, SetPagesToScan, SetRun, Store, Unmerge}
 pub use Rattle.ksm_base.specs.declared.fault.Fault.{Fault}
 pub use Rattle.ksm_base.specs.declared.fault.Fault.TheVariants.{InUse, Memory, NoFrame, UnknownPage}
 pub use Rattle.ksm_base.specs.declared.limits.TheConstants.{MOST_FRAMES, MOST_LIVES, MOST_REFERENCES}
 pub use Rattle.ksm_base.specs.declared.page.GuestPage.{GuestPage}
-pub use Rattle.ksm_base.specs.declared.page.TheConstants.{PAGE_WORDS}
+pub use Rattle.ksm_base.specs.declared.page.TheConstants.{PAGE_WORDS, PAGE_WORDS as WORDS}
 pub use Rattle.ksm_base.specs.declared.reply.Reply.TheVariants.{Done, Pruned, Scanned, Unmerged}
 pub use Rattle.ksm_base.specs.declared.row.DupRow.{DupRow}
 pub use Rattle.ksm_base.specs.declared.row.PageState.{PageState}
 pub use Rattle.ksm_base.specs.declared.row.PageState.TheVariants.{Merged, Private as OwnPage, Waiting, Zero}
 pub use Rattle.ksm_base.specs.declared.row.Row.{Row}
 pub use Rattle.ksm_base.specs.declared.shape.Shape.{Shape}
+pub use Rattle.ksm_pages.specs.Ahead.{EndsAt, FindsNext, mergeable_pages, pages_behind, pages_between}
 pub use Rattle.ksm_pages.specs.Paged.{at_home_on, dup_of_row, elsewhere, FindsAt, frame_of, Frames, HasRoom, HasRow, is_next, is_restless, IsAlone, IsHeld, IsKnown, IsVacant, items_on, ItemsLieOn}
 pub use Rattle.ksm_pages.specs.Paged.{lies_on, Lodging, MayPair, nowhere, of_guest, on_its_own, page_beside, PagesView, paired as are_paired, relaid, seen}
+pub use Rattle.ksm_pages.specs.declared.ahead.Ahead.{Ahead}
+pub use Rattle.ksm_pages.specs.declared.ahead.Ahead.TheVariants.{At, End}
+pub use Rattle.ksm_pages.specs.declared.pages.Find.{Find}
+pub use Rattle.ksm_pages.specs.declared.row.Spot.{Spot}
 pub use Rattle.ksm_rmap.specs.Items.{AreAscending, has_item}
 pub use Rattle.ksm_tree.specs.NumberSets.{has, Marks}

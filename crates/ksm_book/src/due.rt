@@ -6,10 +6,8 @@
 //! dup with room for one more page opens none: what waits could join that dup already.
 
 ghost use Rattle.std.specs.Prelude.{◌≡◌, true, false, [], ◌||◌, ◌&&◌, not, IfErr, OnErr, OnOk, option_map};
-ghost use Rattle.ksm_base.specs.declared.page.GuestPage.{GuestPage};
-ghost use Rattle.ksm_base.specs.Rows.{same_page};
+ghost use Rattle.ksm_book.specs.Terms.{GuestPage, has_item, same_page};
 ghost use Rattle.ksm_book.specs.Due.{FindsFirst};
-ghost use Rattle.ksm_rmap.specs.Items.{has_item};
 
 use ksm_base::{Fault, GuestPage};
 use ksm_pages::{ShortOrder, Spot};

@@ -6,9 +6,7 @@
 //! the pass, the rows that it has not come to wait no more.
 
 ghost use Rattle.std.specs.Prelude.{◌≡◌, true, None, IfErr, IfOk, OnErr, OnOk};
-ghost use Rattle.ksm_base.specs.Rows.{change_row, settled};
-ghost use Rattle.ksm_rmap.specs.Items.{has_item};
-ghost use Rattle.ksm_pages.specs.Paged.{IsAlone};
+ghost use Rattle.ksm_book.specs.Terms.{change_row, has_item, IsAlone, settled};
 ghost use Rattle.ksm_book.specs.Due.{AreDue, due_visited, hidden_from, part_before, part_visited, StaysBefore, TakesOver};
 ghost use Rattle.ksm_book.specs.Due.{TellsDue, with_rows};
 ghost use Rattle.ksm_book.specs.Folded.{restless_at};

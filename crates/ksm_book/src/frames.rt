@@ -3,8 +3,7 @@
 ghost use Rattle.std.specs.Prelude.{◌≡◌, ◌<◌, ◌≤◌, ◌-◌, true, None, Some, is_some, IfSome, IsTrue, MatchOption, [], ◌∷◌};
 ghost use Rattle.std.specs.Prelude.{length, map, if◌then◌else◌};
 ghost use Rattle.ksm_book.specs.Terms.{frame_at, frames_of, IsReadable, IsShape, IsWritable, May, Reap, with_frame};
-ghost use Rattle.ksm_book.specs.Terms.{Withdraw};
-ghost use Rattle.ksm_base.specs.declared.page.TheConstants.{PAGE_WORDS as WORDS};
+ghost use Rattle.ksm_book.specs.Terms.{Withdraw, WORDS};
 ghost use Rattle.ksm_book.specs.Placement.{MayLeave, holding, IsLawful, HasNewFrame};
 ghost use Rattle.ksm_book.specs.Commands.{dying_from, loads, puts, stepped, MakesSteps, Finds, FindsNone, Provides};
 ghost use Rattle.ksm_book.specs.Commands.{leaving};

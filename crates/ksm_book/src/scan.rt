@@ -5,8 +5,7 @@
 //! repeat it are counted and not made; from then on a whole pass visits only what is due (`due_pass.rt`).
 
 ghost use Rattle.std.specs.Prelude.{◌≡◌, ◌&&◌, ◌≤◌, [], true, None, Some, IfOk, IfErr, length, option_map};
-ghost use Rattle.ksm_base.specs.Visit.{pass_begun, pass_ended_at_last};
-ghost use Rattle.ksm_pages.specs.Ahead.{EndsAt, mergeable_pages};
+ghost use Rattle.ksm_book.specs.Terms.{EndsAt, mergeable_pages, pass_begun, pass_ended_at_last};
 ghost use Rattle.ksm_book.specs.Carried.{CarriesOut};
 ghost use Rattle.ksm_book.specs.Due.{AreDue, TellsDue, part_before, part_visited};
 ghost use Rattle.ksm_book.specs.Folded.{pages_ahead, pages_visited};
