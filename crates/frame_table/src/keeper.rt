@@ -1,8 +1,8 @@
 //! The keeper gives frames, names them at places, and takes them back. Each call that changes something is one atomic
 //! step (own).
-ghost use Rattle.std.specs.Prelude.{◌≡◌, ◌<◌, ℕ, ◌↔◌, IsTrue, List, length, map, slice_index, slice_set};
+ghost use Rattle.std.specs.Prelude.{◌≡◌, ◌<◌, ℕ, ◌↔◌, IsTrue, List, length, map, slice_index, slice_index_or, slice_set};
 ghost use Rattle.frame_core.specs.declared.event.KeeperStep.TheVariants.{Reap, Put, Raise, Open, Add, Sub, Publish, Replace, Withdraw, Freeze, Word};
-ghost use Rattle.frame_core.specs.Ledger.{frame_at};
+ghost use Rattle.frame_core.specs.Ledger.{blank, frame_at};
 ghost use Rattle.frame_core.specs.State.{frame_word, count_in};
 ghost use Rattle.ksm_base.specs.Values.{frames_of};
 ghost use Rattle.frame_core.specs.declared.ledger.Note.{Note};
@@ -61,7 +61,24 @@ impl Model for Keeper {
     } };
 }
 
-// Writes down what is known of a frame from now on: field by field, so that the bytes between them are not moved too.
+// What is kept of a frame.
+#[tactic(auto, using(crate::proofs::Notes::uses_get, crate::proofs::Notes::generations_get))]
+fn note(uses: &Vec<Use>, generations: &Vec<u64>, frame: u32) -> Kept
+    requires uses { frame < length uses.now.items }
+    requires generations { frame < length generations.now.items }
+    ensures { (notes : List Note) → uses.now.items ≡ map use_of notes → generations.now.items ≡ map generation_of notes
+        → result ≡ kept_of (slice_index_or notes frame blank) }
+{
+    let Use { kind, base } = uses[frame as usize];
+    Kept {
+        kind,
+        base,
+        generation: generations[frame as usize],
+    }
+}
+
+// Writes down what is known of a frame from now on: field by field, so that the bytes between them are not moved too,
+// and the generation first, so that what stays as it was read is not stored.
 #[tactic(auto, using(crate::proofs::Notes::uses_set, crate::proofs::Notes::generations_set))]
 fn write_down(uses: &mut Vec<Use>, generations: &mut Vec<u64>, frame: u32, note: Kept)
     requires uses { frame < length uses.old.items }
@@ -69,10 +86,10 @@ fn write_down(uses: &mut Vec<Use>, generations: &mut Vec<u64>, frame: u32, note:
     ensures uses { (notes : List Note) (x : Note) → uses.old.items ≡ map use_of notes → kept_of x ≡ note → uses.new.items ≡ map use_of (slice_set notes frame x) }
     ensures generations { (notes : List Note) (x : Note) → generations.old.items ≡ map generation_of notes → kept_of x ≡ note → generations.new.items ≡ map generation_of (slice_set notes frame x) }
 {
+    generations[frame as usize] = note.generation;
     let kept = &mut uses[frame as usize];
     kept.kind = note.kind;
     kept.base = note.base;
-    generations[frame as usize] = note.generation;
 }
 
 impl Keeper {
@@ -90,7 +107,7 @@ impl Keeper {
         requires { frame < frames_of self.now.table.shape }
         ensures { result ≡ (frame_at self.now.ledger frame).kind }
     {
-        self.note(frame).kind
+        self.uses[frame as usize].kind
     }
 
     /// How many references on a frame are the keeper's own: 0 to `MOST_REFERENCES`.
@@ -98,7 +115,7 @@ impl Keeper {
         requires { frame < frames_of self.now.table.shape }
         ensures { result ≡ (frame_at self.now.ledger frame).base }
     {
-        u64::from(self.note(frame).base)
+        u64::from(self.uses[frame as usize].base)
     }
 
     /// How many times a frame was given: the life that it is in, or was in last.
@@ -106,20 +123,18 @@ impl Keeper {
         requires { frame < frames_of self.now.table.shape }
         ensures { result ≡ (frame_at self.now.ledger frame).generation }
     {
-        self.note(frame).generation
+        self.generations[frame as usize]
     }
 
-    // What is kept of a frame is its note in the ledger.
-    #[tactic(auto, using(crate::proofs::Notes::uses_get, crate::proofs::Notes::generations_get))]
-    fn note(&self, frame: u32) -> Kept
+    // The life that a frame is in.
+    fn life(&self, frame: u32) -> Life
         requires { frame < frames_of self.now.table.shape }
-        ensures { result ≡ kept_of (frame_at self.now.ledger frame) }
+        ensures frame { result.frame ≡ frame }
+        ensures generation { result.generation ≡ (frame_at self.now.ledger frame).generation }
     {
-        let Use { kind, base } = self.uses[frame as usize];
-        Kept {
-            kind,
-            base,
-            generation: self.generations[frame as usize],
+        Life {
+            frame,
+            generation: self.generation(frame),
         }
     }
 
@@ -129,8 +144,8 @@ impl Keeper {
         requires may { May self.old (Add frame) }
         ensures { Did self.old (Add frame) self.new }
     {
-        let mut note = self.note(frame);
         table.add_at(&mut self.seat, frame);
+        let mut note = note(&self.uses, &self.generations, frame);
         note.base += 1;
         write_down(&mut self.uses, &mut self.generations, frame, note);
     }
@@ -141,8 +156,8 @@ impl Keeper {
         requires may { May self.old (Sub frame) }
         ensures { Did self.old (Sub frame) self.new }
     {
-        let mut note = self.note(frame);
         table.sub_at(&mut self.seat, frame);
+        let mut note = note(&self.uses, &self.generations, frame);
         if note.base == 1 {
             note.kind = Kind::Dying;
         }
@@ -157,10 +172,10 @@ impl Keeper {
         requires may { May self.old (Reap frame) }
         ensures { (found : ℕ) × (self.new ≡ did self.old (Reap frame) found) × (IsTrue result ↔ count_in found ≡ 0) }
     {
-        let mut note = self.note(frame);
         if FrameWord::unpack(table.reap_at(&mut self.seat, frame)).count != 0 {
             return false;
         }
+        let mut note = note(&self.uses, &self.generations, frame);
         note.base = 0;
         note.kind = if note.generation == table.shape.last_generation {
             Kind::Retired
@@ -177,8 +192,8 @@ impl Keeper {
         requires may { May self.old (Raise frame) }
         ensures { Did self.old (Raise frame) self.new }
     {
-        let mut note = self.note(frame);
         let before = FrameWord::unpack(table.raise_at(&mut self.seat, frame));
+        let mut note = note(&self.uses, &self.generations, frame);
         note.kind = Kind::Filling;
         note.generation = before.generation + 1;
         write_down(&mut self.uses, &mut self.generations, frame, note);
@@ -199,8 +214,8 @@ impl Keeper {
         requires may { May self.old (Open frame) }
         ensures { self.new ≡ did self.old (Open frame) (frame_word (frame_at self.old.ledger frame).generation 0) }
     {
-        let mut note = self.note(frame);
         table.open_at(&mut self.seat, frame);
+        let mut note = note(&self.uses, &self.generations, frame);
         note.kind = Kind::Private;
         note.base = 1;
         write_down(&mut self.uses, &mut self.generations, frame, note);
@@ -214,12 +229,9 @@ impl Keeper {
         requires may { May self.old (Publish place frame) }
         ensures { self.new ≡ did self.old (Publish place frame) 0 }
     {
-        let mut note = self.note(frame);
-        let name = Life {
-            frame,
-            generation: note.generation,
-        };
+        let name = self.life(frame);
         table.publish_at(&mut self.seat, place, frame, name.word());
+        let mut note = note(&self.uses, &self.generations, frame);
         note.kind = Kind::Stable;
         write_down(&mut self.uses, &mut self.generations, frame, note);
     }
@@ -232,12 +244,9 @@ impl Keeper {
         requires may { May self.old (Replace place frame) }
         ensures { self.new ≡ did self.old (Replace place frame) 0 }
     {
-        let mut note = self.note(frame);
-        let name = Life {
-            frame,
-            generation: note.generation,
-        };
+        let name = self.life(frame);
         table.replace_at(&mut self.seat, place, frame, name.word());
+        let mut note = note(&self.uses, &self.generations, frame);
         note.kind = Kind::Stable;
         write_down(&mut self.uses, &mut self.generations, frame, note);
     }
@@ -269,11 +278,9 @@ impl Keeper {
         if table.freeze_at(&mut self.seat, frame, alone, none) != alone {
             return false;
         }
-        let note = Kept {
-            kind: Kind::Dying,
-            base: 0,
-            generation,
-        };
+        let mut note = note(&self.uses, &self.generations, frame);
+        note.kind = Kind::Dying;
+        note.base = 0;
         write_down(&mut self.uses, &mut self.generations, frame, note);
         true
     }

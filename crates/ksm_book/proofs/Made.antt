@@ -1,11 +1,12 @@
 -- Steps of the keeper that were made, one after the other; what they make of a placement, of the lives spent and of the sets of
 -- free and dying frames; and frames that are found, filled and mounted.
-use Rattle.ksm_book.proofs.Names.{Add, added, All, Allocates, along, ap, append-nil, append_assoc, AreSets, arith, blank, Bool, cases_eq, cases_lt, cond, did, drop, DupRow, Dying, dying_from}
-use Rattle.ksm_book.proofs.Names.{dying_kind, dying_on, filter_passes, Finds, FindsNone, frame_at, Frames, frames_of, Free, free_kind, Freeze, get_or, get_or-set_other, get_or-set_same, get_or_past}
-use Rattle.ksm_book.proofs.Names.{given_by, Gives, HasNewFrame, holding, inl, inr, IsLawful, KeeperStep, KeeperView, Keeps, Kind, Ledger, ledger_after, length, length-set, length-take-le, List, loads}
-use Rattle.ksm_book.proofs.Names.{Log, MakesSteps, map, map-append, Marks, MayLeave, mounting, named_anew, needed_after, None, NoneOf, Note, once_mounted, Open, opened, Option, PAGE_WORDS, Placed}
-use Rattle.ksm_book.proofs.Names.{puts, Raise, raised, Reap, reaped, refl, replayed, replicate, Row, set, set-get_or, set-set, set_past, Shape, Some, spent, spent_on, Stable, stepped, steps_of, Sub}
-use Rattle.ksm_book.proofs.Names.{suc, sum_by-set, take, take_more, true, with_frame, with_more, zero, [], ℕ, ◌*◌, ◌++◌, ◌+◌, ◌-◌, ◌<◌, ◌∙◌, ◌∷◌, ◌≡◌, ◌≢◌, ◌≤◌, ◌⊎◌}
+use Rattle.ksm_book.proofs.Names.{Add, added, All, Allocates, along, ap, append-nil, append_assoc, AreSets, arith, blank, Bool, cases_eq, cases_lt, cond, count_in, did, drop, DupRow, Dying}
+use Rattle.ksm_book.proofs.Names.{dying_from, dying_kind, dying_on, false, filter_passes, Finds, FindsNone, frame_at, Frames, frames_of, Free, free_kind, Freeze, get_or, get_or-set_other}
+use Rattle.ksm_book.proofs.Names.{get_or-set_same, get_or_past, given_by, Gives, HasNewFrame, holding, inl, inr, IsLawful, KeeperStep, KeeperView, Keeps, Kind, Ledger, ledger_after, length}
+use Rattle.ksm_book.proofs.Names.{length-set, length-take-le, List, loads, Log, MakesSteps, map, map-append, Marks, MayLeave, mounting, named_anew, needed_after, None, NoneOf, Note, once_mounted}
+use Rattle.ksm_book.proofs.Names.{Open, opened, Option, PAGE_WORDS, Placed, puts, Raise, raised, Reap, reaped, refl, replayed, replicate, Row, set, set-get_or, set-set, set_past, Shape, Some, spent}
+use Rattle.ksm_book.proofs.Names.{spent_on, Stable, stepped, steps_of, Sub, suc, sum_by-set, take, take_more, true, with_frame, with_more, zero, [], ℕ, ◌*◌, ◌++◌, ◌+◌, ◌-◌, ◌<◌, ◌∙◌, ◌∷◌, ◌≡◌, ◌≢◌}
+use Rattle.ksm_book.proofs.Names.{◌≤◌, ◌⊎◌}
 use Rattle.ksm_book.proofs.Moves.{noted}
 
 -- a log is replayed part by part
@@ -267,19 +268,19 @@ module _ {v w : KeeperView} (frame : ℕ) (table : w.table ≡ v.table)
 
 -- both sets after a step on a frame
 module _ {v w : KeeperView} (found frame : ℕ) {free dying : List ℕ} (are : AreSets v free dying) where
-  -- where a frame was reaped, and marked in both sets by its kind, they are right
-  pub sets_reaped : w ≡ did v (Reap frame) found → {free' dying' : List ℕ}
-      → Marks free free' frame (free_kind (note w frame).kind)
-      → Marks dying dying' frame (dying_kind (note w frame).kind) → AreSets w free' dying'
-  sets_reaped is f d = both frame (rw is) (λ g ne. grind (arith, other_if)) are (inl f) (inl d)
+  -- a frame that was reaped, with no reference left, and went from the dying ones: both sets are right
+  pub sets_reaped : w ≡ did v (Reap frame) found → count_in found ≡ 0 → {free' dying' : List ℕ}
+      → Marks dying dying' frame false → Marks free free' frame (free_kind (note w frame).kind) → AreSets w free' dying'
+  sets_reaped is none d f =
+      let over : dying_kind (note w frame).kind ≡ false = grind (arith, put_there) in
+      both frame (rw is) (λ g ne. grind (arith, other_if)) are (inl f) (inl (rw over d))
 
-  -- where a shown frame was frozen, or not, and marked by its kind among the dying ones, both sets are right
-  pub sets_frozen : w ≡ did v (Freeze frame) found → (note v frame).kind ≡ Stable → {dying' : List ℕ}
-      → Marks dying dying' frame (dying_kind (note w frame).kind)
-      → AreSets w free dying'
-  sets_frozen is shown marks =
-      let now : free_kind (note w frame).kind ≡ free_kind (note v frame).kind = grind (arith, put_there) in
-      both frame (rw is) (λ g ne. grind (arith, other_if)) are (inr (refl, now)) (inl marks)
+  -- a shown frame that was frozen, and put among the dying ones: both sets are right
+  pub sets_frozen : w ≡ did v (Freeze frame) found → (note v frame).kind ≡ Stable → count_in found ≡ (note v frame).base
+      → {dying' : List ℕ} → Marks dying dying' frame true → AreSets w free dying'
+  sets_frozen is shown all marks =
+      let dies : (note w frame).kind ≡ Dying = grind (arith, put_there) in
+      both frame (rw is) (λ g ne. grind (arith, other_if)) are (inr (refl, grind arith)) (inl (grind arith))
 
   -- a frame in use that has lost its last reference, and was put among the dying ones: both sets are right
   pub sets_taken : w ≡ did v (Sub frame) found → MayLeave v frame → (note w frame).base ≡ 0 → {dying' : List ℕ} → Marks dying dying' frame true

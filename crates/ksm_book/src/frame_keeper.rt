@@ -128,15 +128,17 @@ impl FrameKeeper {
 
     /// Looks whether readers still hold a dying frame: where none does it is free, or retired after its last life. Says
     /// whether none did.
+    #[inline(always)]
     pub fn reap(&mut self, table: &FrameTable, frame: u32) -> bool
         requires own { self.old.table ≡ table.now }
         requires may { May self.old (Reap frame) }
         ensures { (found : ℕ) × (self.new ≡ did self.old (Reap frame) found) × (IsTrue result ↔ count_in found ≡ 0) }
     {
         let alone = self.keeper.reap(table, frame);
-        let now = self.keeper.kind(frame);
-        self.free.mark(frame, matches!(now, Kind::Free));
-        self.dying.mark(frame, matches!(now, Kind::Dying));
+        if alone {
+            self.dying.remove(frame);
+            self.free.mark(frame, matches!(self.keeper.kind(frame), Kind::Free));
+        }
         alone
     }
 
@@ -198,9 +200,9 @@ impl FrameKeeper {
             × (IsTrue result ↔ count_in found ≡ (frame_at self.old.ledger frame).base) }
     {
         let alone = self.keeper.freeze(table, frame);
-        // It was shown, and not free.
-        let kind = self.keeper.kind(frame);
-        self.dying.mark(frame, matches!(kind, Kind::Dying));
+        if alone {
+            self.dying.add(frame);
+        }
         alone
     }
 
