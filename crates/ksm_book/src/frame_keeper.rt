@@ -137,7 +137,8 @@ impl FrameKeeper {
         let alone = self.keeper.reap(table, frame);
         if alone {
             self.dying.remove(frame);
-            self.free.mark(frame, matches!(self.keeper.kind(frame), Kind::Free));
+            self.free
+                .mark(frame, matches!(self.keeper.kind(frame), Kind::Free));
         }
         alone
     }

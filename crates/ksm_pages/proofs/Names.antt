@@ -5,26 +5,12 @@ pub use Rattle.ksm_base.proofs.Orders.{pairs_head, pairs_tail}
 pub use Rattle.ksm_base.proofs.Pages.{before_irrefl, one_before, same_page_eq, same_page_refl, same_page_sym}
 pub use Rattle.ksm_base.proofs.RowCounts.{count_change_row, count_with_row, count_without_page, each_at_page, filter_all}
 pub use Rattle.ksm_base.proofs.Sums.{states-add}
-pub use Rattle.ksm_base.specs.Apply.{fresh_row, let_go, stored, unshared}
-pub use Rattle.ksm_base.specs.Counting.{counters_from}
-pub use Rattle.ksm_base.specs.Reading.{items_of}
-pub use Rattle.ksm_base.specs.Rows.{all_zero, change_row, change_rows, comes_before, dup_numbered, InPageOrder, InPlaceOrder, item_count, merged_into, merged_state, private_state, row_at, same_page}
-pub use Rattle.ksm_base.specs.Rows.{settled, settled_state, shared_state, waiting_state, with_dup, with_row, without_page, zero_state}
-pub use Rattle.ksm_base.specs.State.{default_knobs, place_count, tree_of}
-pub use Rattle.ksm_base.specs.Visit.{after_cursor, best_dup, is_for_zero, partner, waits_for}
-pub use Rattle.ksm_base.specs.declared.knobs.Knobs.{Knobs}
-pub use Rattle.ksm_base.specs.declared.limits.TheConstants.{MOST_REFERENCES}
-pub use Rattle.ksm_base.specs.declared.page.GuestPage.{GuestPage}
-pub use Rattle.ksm_base.specs.declared.row.DupRow.{DupRow}
-pub use Rattle.ksm_base.specs.declared.row.PageState.{PageState}
-pub use Rattle.ksm_base.specs.declared.row.PageState.TheVariants.{Merged, Private, Waiting, Zero}
-pub use Rattle.ksm_base.specs.declared.row.Row.{Row}
+pub use Rattle.ksm_base.specs.Apply.{let_go, unshared}
+pub use Rattle.ksm_base.specs.Rows.{all_zero, InPlaceOrder, settled_state}
 pub use Rattle.ksm_order.proofs.Changes.{mark_of, mark_rises, same_key}
 pub use Rattle.ksm_order.proofs.Ordered.{absent_kept, absent_parts, any_found, found_parts, none_found, without_rises}
 pub use Rattle.ksm_order.proofs.Parts.{up_to_few}
 pub use Rattle.ksm_order.specs.Listed.{is_at, is_from, key_at, up_to, with_mark, without}
-pub use Rattle.ksm_order.specs.Places.{IsPlace}
-pub use Rattle.ksm_order.specs.declared.item.Item.{Item}
 pub use Rattle.ksm_pages.specs.Ahead.{FindsNext, last_of, mergeable_pages, pages_behind, pages_between}
 pub use Rattle.ksm_pages.specs.Filed.{AreFiled, AreListed, CanMove, held_in, held_under, is_useless, IsInVain, IsMade, IsMoved, IsRows, IsTally, IsUnder, key_in, named_of, one_if, StaysBegun}
 pub use Rattle.ksm_pages.specs.Filed.{StaysLed}
@@ -35,6 +21,10 @@ pub use Rattle.ksm_pages.specs.Left.{IsLeft}
 pub use Rattle.ksm_pages.specs.Ordered.{AreAscending, is_of, marked, named_by, visited, with_named, without_named}
 pub use Rattle.ksm_pages.specs.Paged.{AreAlone, AreKept, at_home_on, changed, elsewhere, Finds, FindsAt, frame_of, frame_seen, Frames, HasRoom, HasRow, is_item, is_next, IsAlone, IsHeld, IsKnown}
 pub use Rattle.ksm_pages.specs.Paged.{IsVacant, items_on, lies_on, live_at, lodging, lodgings_of, MayPair, NoneHas, of_guest, on_its_own, page_beside, PagesValue, PagesView, paired, relaid, seen}
+pub use Rattle.ksm_pages.specs.Terms.{after_cursor, AreTied, best_dup, best_of, change_row, change_rows, comes_before, counters_from, default_knobs, Dup, dup_numbered, dup_rows, DupRow, DupsState}
+pub use Rattle.ksm_pages.specs.Terms.{found_at, fresh_row, GuestPage, has_item, in_group, InPageOrder, is_for_zero, IsPlace, Item, item_count, items_of, Knobs, let_out, Merged, merged_into}
+pub use Rattle.ksm_pages.specs.Terms.{merged_state, MOST_REFERENCES, number_of, page_of, PageState, partner, place_count, Private, private_state, Row, row_at, same_page, settled, shared_state, stored}
+pub use Rattle.ksm_pages.specs.Terms.{tree_of, Waiting, waiting_state, waits_for, with_dup, with_row, without_page, Zero, zero_state}
 pub use Rattle.ksm_pages.specs.Unstable.{AreLed, digest, holder, is_led, Keeps, KeepsOthers, keys_at, meets, place, stands_as, stands_under, turned}
 pub use Rattle.ksm_pages.specs.declared.named.Named.{Named}
 pub use Rattle.ksm_pages.specs.declared.pages.Find.{Find}
@@ -49,8 +39,8 @@ pub use Rattle.ksm_pages.specs.declared.unstable.TheConstants.{GONE, NO_KEY, SPR
 pub use Rattle.ksm_pages.specs.declared.unstable.UnstableTree.{UnstableTree}
 pub use Rattle.ksm_rmap.proofs.Keys.{before_as_key, behind_as_key, same_as_key}
 pub use Rattle.ksm_rmap.proofs.Pages.{pages_ordered}
-pub use Rattle.ksm_rmap.specs.Items.{has_item, with_item}
-pub use Rattle.ksm_rmap.specs.Keys.{key_of, page_of}
+pub use Rattle.ksm_rmap.specs.Items.{with_item}
+pub use Rattle.ksm_rmap.specs.Keys.{key_of}
 pub use Rattle.ksm_tree.proofs.Alike.{change_none, count_mapped, filter_mapped, find_alike, find_mapped, map_alike, map_mapped, pairs_mapped}
 pub use Rattle.ksm_tree.proofs.Bridge.{best_found, choice_alike, choice_exists, live_count, live_placed, stale_alike}
 pub use Rattle.ksm_tree.proofs.Chained.{found_passing}
@@ -61,18 +51,14 @@ pub use Rattle.ksm_tree.proofs.Numbers.{on_err}
 pub use Rattle.ksm_tree.proofs.Rows.{eq_bytes}
 pub use Rattle.ksm_tree.proofs.Tied.{tied_counted}
 pub use Rattle.ksm_tree.proofs.Ties.{number_found, tied_absent, tied_count, tied_dropped, tied_inserted, tied_joined, tied_left, tied_made, tied_mapped, tied_pruned}
-pub use Rattle.ksm_tree.specs.Bridge.{AreTied, let_out}
-pub use Rattle.ksm_tree.specs.Chains.{in_group}
-pub use Rattle.ksm_tree.specs.Choosing.{best_of, found_at}
-pub use Rattle.ksm_tree.specs.Dups.{AreDups, change_items, dup_at, dup_of, DupsState, has_number, is_live, is_stale, items_in, rows_of as dup_rows, stands_at, with_new, without_place}
-pub use Rattle.ksm_tree.specs.Numbered.{content_of, content_order, number_of}
+pub use Rattle.ksm_tree.specs.Dups.{AreDups, change_items, dup_at, dup_of, has_number, is_live, is_stale, items_in, stands_at, with_new, without_place}
+pub use Rattle.ksm_tree.specs.Numbered.{content_of, content_order}
 pub use Rattle.ksm_tree.specs.declared.content.Content.{Content}
 pub use Rattle.ksm_tree.specs.declared.dup.Best.{Best}
-pub use Rattle.ksm_tree.specs.declared.dup.Dup.{Dup}
 pub use Rattle.slab.proofs.SlabLemmas.{Updates-with_value}
 pub use Rattle.slab.specs.Slab.{CalledAt, get, RetainsFrom, Slab, Updates as Fills, with_value}
-pub use Rattle.std.proofs.Common.{[], add-one, ap, ap₂, arith, Bool, drop, false, get_or, inl, inr, is_some, length, length-set, List, map, MutBor, None, Option, refl, rules, Some, subst, suc, sym}
-pub use Rattle.std.proofs.Common.{take, true, true≢false, unwrap_or, zero, ℕ, ◌++◌, ◌+◌, ◌-◌, ◌<◌, ◌^◌, ◌∙◌, ◌∷◌, ◌≡◌, ◌≢◌, ◌≤◌, ◌⊎◌}
+pub use Rattle.std.proofs.Common.{add-one, ap, ap₂, arith, Bool, drop, false, get_or, inl, inr, is_some, length, length-set, List, map, MutBor, None, Option, refl, rules, Some, subst, suc, sym, take}
+pub use Rattle.std.proofs.Common.{true, true≢false, unwrap_or, zero, [], ℕ, ◌++◌, ◌+◌, ◌-◌, ◌<◌, ◌^◌, ◌∙◌, ◌∷◌, ◌≡◌, ◌≢◌, ◌≤◌, ◌⊎◌}
 pub use Rattle.std.proofs.Math.ListN.{get_or-map}
 pub use Rattle.std.proofs.Math.Seq.{take-suc}
 pub use Rattle.std.proofs.lemmas.Bool.{cases_Bool, cond_both, eq-eqb, eqb-true, false_from_ne_true, not-true}

@@ -201,8 +201,17 @@ module _ {s : Inside} {p : PagesValue} {place : ℕ} {first second : GuestPage} 
         let h = get_or s.rows.held k d in
         cond_both (holds a.row.page h) (into h) h (IsLone s.knobs dups_now) (λ _. shared_lone s.knobs dups_now (Merged s.dups.next) h)
         (λ apart alone. all_with_dup (λ r. in_group (tree_of s.knobs h.row) h.row.bytes r ≡ false) dup _
-        (grind (arith, nat_tests, alone, apart, each_led s.rows there tree b.row.bytes k d lt, tree_is s.knobs are.by_node h.row,
-          eq_bytes b.row.bytes h.row.bytes, to_first, same_page_refl h.row.page))
+        (grind (
+          arith,
+          nat_tests,
+          alone,
+          apart,
+          each_led s.rows there tree b.row.bytes k d lt,
+          tree_is s.knobs are.by_node h.row,
+          eq_bytes b.row.bytes h.row.bytes,
+          to_first,
+          same_page_refl h.row.page,
+        ))
         (are.alone k d lt alone))) in
         rw (now_held, now_rows)
         (lone_changed s.knobs dups_now b.row.page into half half_order found_second
@@ -213,7 +222,7 @@ module _ {s : Inside} {p : PagesValue} {place : ℕ} {first second : GuestPage} 
     lawful_paired =
         let order : InPageOrder (rows_of rows.held) = rw both_rows (ordered_change _ _ _ (λ r. refl) half_order) in
         let tied : AreTied (rows_of rows.held) later.dups = rw whole (rw now_dups (tied_made _ _ _ _ are.order may.first_is may.second_is
-          (own_not_merged _ may.first_alone) (own_not_merged _ may.second_alone) may.fresh _ lawful.numbers_below are.tied)) in
+        (own_not_merged _ may.first_alone) (own_not_merged _ may.second_alone) may.fresh _ lawful.numbers_below are.tied)) in
         grind (arith, are, order, tied, now_alone, is_made, turned, length-set s.frames.items place frame)
 
     abbrev of_new : ℕ → Option ℕ

@@ -6,7 +6,6 @@ use Rattle.ksm_pages.proofs.Names.{sym, tree_by, tree_of, true, waiting_state, w
 use Rattle.ksm_pages.proofs.Changing.{row_told}
 use Rattle.ksm_pages.proofs.Lone.{each_held}
 use Rattle.ksm_pages.proofs.Options.{mapped_some}
-use Rattle.ksm_pages.specs.declared.row.Kind.TheVariants as kinds
 use Rattle.ksm_pages.proofs.Leaving.{AreLawful, of_page, view_of}
 
 -- a row that waits for another waits, is of another page, and has the same content

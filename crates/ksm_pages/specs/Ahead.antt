@@ -1,10 +1,7 @@
 -- Which pages scans visit, which of them are ahead, which is the next that a visit may change, and where so many visits
 -- end. (own)
 use Rattle.std.specs.Prelude.{◌≡◌, ℕ, ◌-◌, ◌<◌, ◌≤◌, true, false, All, List, [], ◌∷◌, filter, length, map, slice_get, Option, None, Some}
-use Rattle.ksm_base.specs.declared.page.GuestPage.{GuestPage}
-use Rattle.ksm_base.specs.declared.row.Row.{Row}
-use Rattle.ksm_base.specs.Rows.{comes_before}
-use Rattle.ksm_base.specs.Visit.{after_cursor}
+use Rattle.ksm_pages.specs.Terms.{after_cursor, comes_before, GuestPage, Row}
 use Rattle.ksm_pages.specs.Paged.{is_restless}
 use Rattle.ksm_pages.specs.declared.ahead.Ahead.{Ahead}
 use Rattle.ksm_pages.specs.declared.ahead.Ahead.TheVariants.{At, End}

@@ -1,11 +1,6 @@
 -- Entries in a slab, with the order of their pages, the pages that a visit may change, and a tally. (own)
 use Rattle.std.specs.Prelude.{◌≡◌, ◌↔◌, ℕ, ◌+◌, ◌≤◌, ◌<◌, ◌^◌, Bool, true, false, not, List, [], count_by, find, is_none, map, option_map, Option, None, Some, if◌then◌else◌}
-use Rattle.ksm_base.specs.declared.page.GuestPage.{GuestPage}
-use Rattle.ksm_base.specs.declared.row.PageState.{PageState}
-use Rattle.ksm_base.specs.declared.row.PageState.TheVariants.{Private}
-use Rattle.ksm_base.specs.declared.row.Row.{Row}
-use Rattle.ksm_base.specs.Rows.{merged_state, same_page, waiting_state, zero_state}
-use Rattle.ksm_rmap.specs.Items.{has_item}
+use Rattle.ksm_pages.specs.Terms.{GuestPage, has_item, merged_state, PageState, Private, Row, same_page, waiting_state, zero_state}
 use Rattle.slab.specs.Slab.{Slab, get}
 use Rattle.ksm_pages.specs.declared.named.Named.{Named}
 use Rattle.ksm_pages.specs.declared.row.Kind.TheVariants as kinds

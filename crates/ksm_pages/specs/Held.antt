@@ -1,14 +1,7 @@
 -- Rows as they are kept, in the order of their pages, each with the frame of its own if it has one. (own)
 use Rattle.std.specs.Prelude.{◌≡◌, ℕ, ◌<◌, ◌≤◌, ◌^◌, ◌%◌, Bool, true, false, not, ◌&&◌, ◌||◌, ◌==◌, bytes_eq, if◌then◌else◌}
 use Rattle.std.specs.Prelude.{All, List, [], ◌∷◌, ◌++◌, drop, filter, find, length, map, take, option_map, Option, None, Some}
-use Rattle.ksm_base.specs.declared.page.GuestPage.{GuestPage}
-use Rattle.ksm_base.specs.declared.row.PageState.{PageState}
-use Rattle.ksm_base.specs.declared.row.PageState.TheVariants.{Private, Waiting, Merged, Zero}
-use Rattle.ksm_base.specs.declared.row.Row.{Row}
-use Rattle.ksm_base.specs.Apply.{stored}
-use Rattle.ksm_base.specs.Rows.{comes_before, same_page, settled, waiting_state}
-use Rattle.ksm_order.specs.Places.{AreInOrder as AreKeysInOrder}
-use Rattle.ksm_rmap.specs.Items.{has_item}
+use Rattle.ksm_pages.specs.Terms.{AreKeysInOrder, comes_before, GuestPage, has_item, Merged, page_of, PageState, Private, Row, same_page, settled, stored, Waiting, waiting_state, Zero}
 use Rattle.ksm_pages.specs.declared.row.InTree.{InTree}
 use Rattle.ksm_pages.specs.declared.row.InTree.TheVariants.{Alone, Beside, Not}
 use Rattle.ksm_pages.specs.declared.row.Kind.{Kind}
@@ -16,7 +9,6 @@ use Rattle.ksm_pages.specs.declared.row.Kind.TheVariants as kinds
 use Rattle.ksm_pages.specs.declared.row.Entry.{Entry}
 use Rattle.ksm_pages.specs.declared.row.Spot.{Spot}
 use Rattle.ksm_pages.specs.declared.restless.Listed.{Listed}
-use Rattle.ksm_rmap.specs.Keys.{page_of}
 
 -- a row, the frame of its own, and whether the unstable tree leads to it
 pub record Held : Type 0 where

@@ -1,7 +1,6 @@
 -- What a page leaves that gets another row: the dup into which it is merged. (own)
 use Rattle.std.specs.Prelude.{◌≡◌, ℕ, List, Option}
-use Rattle.ksm_tree.specs.Bridge.{let_out}
-use Rattle.ksm_tree.specs.Dups.{DupsState, rows_of as dup_rows}
+use Rattle.ksm_pages.specs.Terms.{dup_rows, DupsState, let_out}
 use Rattle.ksm_pages.specs.Held.{Held}
 use Rattle.ksm_pages.specs.Paged.{frame_seen, lodging}
 

@@ -1,3 +1,4 @@
+pub mod Terms
 pub mod Ahead
 pub mod Ordered
 pub mod Held

@@ -1,10 +1,6 @@
 -- Pages in order, each with the key of its row, and whether a scan visits it; and the items that are kept for it. (own)
 use Rattle.std.specs.Prelude.{◌≡◌, ℕ, ◌^◌, ◌<◌, Bool, true, not, List, ◌∷◌, ◌++◌, All, AllPairs, filter, length, map, if◌then◌else◌}
-use Rattle.ksm_base.specs.declared.page.GuestPage.{GuestPage}
-use Rattle.ksm_base.specs.Rows.{comes_before, same_page}
-use Rattle.ksm_order.specs.declared.item.Item.{Item}
-use Rattle.ksm_order.specs.Listed.{AreAscending as AreItemsAscending}
-use Rattle.ksm_rmap.specs.Keys.{page_of}
+use Rattle.ksm_pages.specs.Terms.{AreItemsAscending, comes_before, GuestPage, Item, page_of, same_page}
 use Rattle.ksm_pages.specs.declared.named.Named.{Named}
 
 -- the pages ascend, so none stands twice

@@ -2,28 +2,13 @@
 -- what is seen of them (own).
 use Rattle.std.specs.Prelude.{◌≡◌, ℕ, ◌+◌, ◌<◌, ◌≤◌, ◌^◌, Bool, true, false, not, ◌&&◌, ◌||◌, ◌==◌, ◌-◌, List, slice_get, option_map, map, All, Contains, find, Option, Some, None, is_some}
 use Rattle.std.specs.Prelude.{option_and_then, MatchOption, length, if◌then◌else◌}
-use Rattle.ksm_base.specs.declared.limits.TheConstants.{MOST_REFERENCES}
-use Rattle.ksm_base.specs.declared.page.GuestPage.{GuestPage}
-use Rattle.ksm_base.specs.declared.row.PageState.TheVariants.{Private, Waiting, Merged, Zero}
-use Rattle.ksm_base.specs.declared.row.Row.{Row}
-use Rattle.ksm_base.specs.declared.row.DupRow.{DupRow}
-use Rattle.ksm_base.specs.declared.knobs.Knobs.{Knobs}
-use Rattle.ksm_base.specs.declared.shape.Shape.{Shape}
-use Rattle.ksm_base.specs.Values.{frames_of, IsShape}
-use Rattle.ksm_base.specs.Rows.{same_page, row_at, change_row, change_rows, shared_state, merged_into, merged_state, has_items, item_count, with_dup, InPageOrder, dup_numbered}
-use Rattle.ksm_base.specs.State.{tree_of}
-use Rattle.ksm_base.specs.Visit.{after_cursor, best_dup, is_for_zero, partner, waits_for}
-use Rattle.ksm_base.specs.Answers.{every_row}
-use Rattle.ksm_base.specs.Refusals.{is_of}
+use Rattle.ksm_pages.specs.Terms.{after_cursor, AreTied, best_dup, change_row, change_rows, Dup, dup_numbered, dup_rows, DupRow, DupsState, every_row, frames_of, GuestPage, has_items, in_group}
+use Rattle.ksm_pages.specs.Terms.{InPageOrder, is_for_zero, is_of, IsShape, item_count, Knobs, Merged, merged_into, merged_state, MOST_REFERENCES, PageState, partner, Private, Row, row_at, same_page}
+use Rattle.ksm_pages.specs.Terms.{Shape, shared_state, tree_of, Waiting, waits_for, with_dup, Zero}
 use Rattle.ksm_pages.specs.declared.pages.Find.{Find}
 use Rattle.ksm_pages.specs.declared.pages.Find.TheVariants as finds
 use Rattle.ksm_pages.specs.declared.pages.Held.{Held}
 use Rattle.ksm_pages.specs.Held.{Held as HeldRow, RowsView, is_alone, rows_of}
-use Rattle.ksm_tree.specs.Chains.{in_group}
-use Rattle.ksm_tree.specs.declared.dup.Dup.{Dup}
-use Rattle.ksm_base.specs.declared.row.PageState.{PageState}
-use Rattle.ksm_tree.specs.Bridge.{AreTied}
-use Rattle.ksm_tree.specs.Dups.{DupsState, rows_of as dup_rows}
 
 -- the frame of each page, if it has one
 abbrev pub Frames : Type 0

@@ -3,7 +3,7 @@ use Rattle.std.specs.Prelude.{◌≡◌, ℕ, ◌+◌, ◌*◌, ◌/◌, ◌%◌
 use Rattle.std.specs.Prelude.{if◌then◌else◌}
 use Rattle.std.specs.List.{list_any}
 use Rattle.slab.specs.Slab.{Slab, Updates, get}
-use Rattle.ksm_tree.specs.Numbered.{number_of}
+use Rattle.ksm_pages.specs.Terms.{number_of}
 use Rattle.ksm_pages.specs.declared.row.Entry.{Entry}
 use Rattle.ksm_pages.specs.declared.unstable.TheConstants.{GONE, NO_KEY, SPREAD}
 use Rattle.ksm_pages.specs.declared.unstable.UnstableTree.{UnstableTree}

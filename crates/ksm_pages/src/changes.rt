@@ -1,10 +1,8 @@
 //! What commands change: pages that come and go, get frames and bytes, and what else their rows say.
 
 ghost use Rattle.std.specs.Prelude.{◌≡◌, true, false, None, Some, Err, All, map, IfOk, OnOk, OnErr};
-ghost use Rattle.ksm_base.specs.declared.fault.Fault.TheVariants.{Memory};
-ghost use Rattle.ksm_base.specs.Apply.{fresh_row, let_go as as_let_go, stored, unshared as as_unshared};
-ghost use Rattle.ksm_base.specs.Rows.{row_at, with_row, without_page, shared_state};
-ghost use Rattle.ksm_base.specs.Rows.{settled as as_settled};
+ghost use Rattle.ksm_pages.specs.Terms.{as_let_go, as_settled, as_unshared, fresh_row, Memory, row_at, shared_state};
+ghost use Rattle.ksm_pages.specs.Terms.{stored, with_row, without_page};
 ghost use Rattle.ksm_pages.specs.Paged.{IsAlone, IsKnown, at_home_on, changed, lies_on, on_its_own, relaid, seen};
 
 use crate::left::leave;

@@ -3,11 +3,7 @@
 ghost use Rattle.std.specs.Prelude.{◌≡◌, ◌<◌, true, All, filter, find, ◌==◌, option_map};
 ghost use Rattle.std.specs.Prelude.{IfErr, IfOk, IsSome};
 ghost use Rattle.std.specs.List.{list_any};
-ghost use Rattle.ksm_base.specs.Counting.{shared_count};
-ghost use Rattle.ksm_base.specs.Reading.{items_of};
-ghost use Rattle.ksm_base.specs.Rows.{is_stale};
-ghost use Rattle.ksm_base.specs.State.{place_count};
-ghost use Rattle.ksm_base.specs.Visit.{new_place as a_new_place};
+ghost use Rattle.ksm_pages.specs.Terms.{a_new_place, is_stale, items_of, place_count, shared_count};
 ghost use Rattle.ksm_pages.specs.Paged.{IsVacant, ItemsLieOn, elsewhere, items_on, live_at, seen};
 
 use crate::left::frame_at;

@@ -1,7 +1,7 @@
 //! On which frame the page of a row lies, and how it leaves its dup before its row becomes another.
 
 ghost use Rattle.std.specs.Prelude.{◌≡◌, ⊤, MatchOption, option_and_then, slice_get};
-ghost use Rattle.ksm_tree.specs.Dups.{rows_of as dup_rows};
+ghost use Rattle.ksm_pages.specs.Terms.{dup_rows};
 ghost use Rattle.ksm_pages.specs.Held.{held_at, held_of};
 ghost use Rattle.ksm_pages.specs.Left.{IsLeft};
 ghost use Rattle.ksm_pages.specs.Paged.{frame_seen, lodging};

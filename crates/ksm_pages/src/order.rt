@@ -1,10 +1,8 @@
 //! All pages in order, with rank: a page is found by a search, and the visits of a scan are counted, not walked.
 ghost use Rattle.std.specs.Prelude.{◌≡◌, ℕ, ◌+◌, ◌≤◌, ◌<◌, ◌^◌, [], true, None, Some, IfErr, IfSome, IsTrue, OnErr, OnOk, count_by, drop, find, is_some, length, nat_lt, not, option_map};
-ghost use Rattle.ksm_base.specs.declared.page.GuestPage.{GuestPage};
-ghost use Rattle.ksm_base.specs.Visit.{after_cursor};
+ghost use Rattle.ksm_pages.specs.Terms.{after_cursor, GuestPage, page_of};
 ghost use Rattle.ksm_pages.specs.Ahead.{EndsAt, last_of, pages_behind, pages_between};
 ghost use Rattle.ksm_pages.specs.Ordered.{is_of, marked, named_by, visited, with_named, without_named};
-ghost use Rattle.ksm_rmap.specs.Keys.{page_of};
 
 use crate::ahead::Ahead;
 use crate::named::Named;
@@ -153,8 +151,8 @@ impl<P: Part> Order<P> {
         self.pages.set_mark(key_of(page), mergeable);
     }
 
-    /// Whether a page is known to be the one at a place among those that a scan visits. Then those behind that place come
-    /// behind it.
+    /// Whether a page is known to be the one at a place among those that a scan visits. Then those behind that place
+    /// come behind it.
     #[inline(always)]
     fn is_at(&self, page: GuestPage, place: usize) -> bool
         ensures within { IsTrue result → place < length (visited self.now) }

@@ -6,10 +6,7 @@
 //! visits are ahead in `scanning.rt`, and the dups by their places in `dups.rt`.
 
 ghost use Rattle.std.specs.Prelude.{◌≡◌, ◌⊎◌, [], true, false, None, All, IfOk, IfErr};
-ghost use Rattle.ksm_base.specs.declared.fault.Fault.TheVariants.{Memory};
-ghost use Rattle.ksm_base.specs.Rows.{InPageOrder, row_at, waiting_state};
-ghost use Rattle.ksm_base.specs.State.{default_knobs};
-ghost use Rattle.ksm_base.specs.Values.{IsShape};
+ghost use Rattle.ksm_pages.specs.Terms.{default_knobs, InPageOrder, IsShape, Memory, row_at, waiting_state};
 ghost use Rattle.ksm_pages.specs.Paged.{nowhere, seen};
 
 use crate::row::Spot;

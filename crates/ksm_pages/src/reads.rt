@@ -2,11 +2,8 @@
 
 ghost use Rattle.std.specs.Prelude.{◌≡◌, ◌≤◌, ◌==◌, true, false, None, Some, All, find, is_some, length, option_map};
 ghost use Rattle.std.specs.Prelude.{option_and_then, MatchOption, IfSome};
-ghost use Rattle.ksm_base.specs.Counting.{counters_from, mergeable_count};
-ghost use Rattle.ksm_base.specs.Reading.{place_of};
-ghost use Rattle.ksm_base.specs.Rows.{comes_before, row_at, private_state, waiting_state};
-ghost use Rattle.ksm_base.specs.Visit.{after_cursor};
-ghost use Rattle.ksm_base.specs.declared.row.Row.{Row};
+ghost use Rattle.ksm_pages.specs.Terms.{after_cursor, comes_before, counters_from, mergeable_count, place_of};
+ghost use Rattle.ksm_pages.specs.Terms.{private_state, Row, row_at, waiting_state};
 ghost use Rattle.ksm_pages.specs.Paged.{IsHeld, IsKnown, is_next, of_guest, page_beside, seen};
 
 use crate::left::frame_of;

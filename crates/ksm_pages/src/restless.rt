@@ -9,12 +9,8 @@
 
 ghost use Rattle.std.specs.List.Sorted.{IsPermutation};
 ghost use Rattle.std.specs.Prelude.{◌≡◌, ◌≤◌, ◌||◌, [], true, false, length, All, OnOk, IfNone, IfSome, IsTrue};
-ghost use Rattle.ksm_base.specs.declared.page.GuestPage.{GuestPage};
-ghost use Rattle.ksm_base.specs.Rows.{comes_before, same_page};
-ghost use Rattle.ksm_base.specs.Visit.{after_cursor};
-ghost use Rattle.ksm_rmap.specs.Items.{has_item};
+ghost use Rattle.ksm_pages.specs.Terms.{after_cursor, comes_before, GuestPage, has_item, IsPlace, same_page};
 ghost use Rattle.ksm_pages.specs.Filed.{IsInVain, is_useless as is_of_no_use};
-ghost use Rattle.ksm_order.specs.Places.{IsPlace};
 ghost use Rattle.ksm_pages.specs.Held.{AreInOrder, AreSmall, HasGap, IsAddedTo, IsPutAmong, low_spot};
 ghost use Rattle.slab.specs.Slab.{get};
 

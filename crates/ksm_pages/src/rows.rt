@@ -8,12 +8,8 @@
 ghost use Rattle.std.specs.Prelude.{◌≡◌, ◌⊎◌, ◌≤◌, ◌<◌, ◌^◌, true, false, [], None, Some, All, IfErr, IfOk, IfSome, MatchOption, OnErr, OnOk, ◌==◌, count_by, find, is_some, length, map, not};
 ghost use Rattle.std.specs.Prelude.{option_and_then, option_map};
 ghost use Rattle.std.specs.Fn.{FnOnceReturnsAtMut};
-ghost use Rattle.ksm_base.specs.declared.limits.TheConstants.{MOST_FRAMES};
-ghost use Rattle.ksm_base.specs.declared.page.GuestPage.{GuestPage};
-ghost use Rattle.ksm_base.specs.declared.row.PageState.TheVariants.{Merged, Waiting, Zero};
-ghost use Rattle.ksm_base.specs.Apply.{fresh_row};
-ghost use Rattle.ksm_base.specs.Rows.{InPageOrder, settled, shared_state};
-ghost use Rattle.ksm_base.specs.Visit.{after_cursor};
+ghost use Rattle.ksm_pages.specs.Terms.{after_cursor, fresh_row, GuestPage, InPageOrder, Merged, MOST_FRAMES, settled};
+ghost use Rattle.ksm_pages.specs.Terms.{shared_state, Waiting, Zero};
 ghost use Rattle.ksm_pages.specs.Ahead.{EndsAt, FindsNext, last_of, mergeable_pages, pages_behind, pages_between};
 ghost use Rattle.ksm_pages.specs.Filed.{AreFiled, AreListed, IsMade, IsTally, IsUnder, KeepsPage, key_in};
 ghost use Rattle.ksm_pages.specs.Held.{AreInTree, AreWaitersLed, IsFree, altered, held_at, held_of, is_in, on_row, out_of_tree, in_tree_by, page_in_tree, rehoused, rows_of, copied, shares};

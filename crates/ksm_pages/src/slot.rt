@@ -1,7 +1,7 @@
 //! Guesses of the keys of rows, each in the slot of its page. The table has at least twice as many slots as frames, and
 //! as rows: where more rows come, it gets twice as many slots, so a page of a large host is found in a step too.
 ghost use Rattle.std.specs.Prelude.{◌≤◌};
-ghost use Rattle.ksm_base.specs.declared.limits.TheConstants.{MOST_FRAMES};
+ghost use Rattle.ksm_pages.specs.Terms.{MOST_FRAMES};
 
 use crate::row::Entry;
 use ksm_base::GuestPage;

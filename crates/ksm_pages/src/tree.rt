@@ -1,8 +1,7 @@
 //! In which tree a row is.
 
 ghost use Rattle.std.specs.Prelude.{◌≡◌};
-ghost use Rattle.ksm_base.specs.declared.row.Row.{Row};
-ghost use Rattle.ksm_base.specs.State.{tree_of};
+ghost use Rattle.ksm_pages.specs.Terms.{Row, tree_of};
 
 use ksm_base::Knobs;
 

@@ -8,7 +8,7 @@ ghost use Rattle.std.specs.List.{list_any};
 ghost use Rattle.std.specs.Prelude.{◌≡◌, ◌==◌, ◌<◌, ℕ, Bool, List, [], None, Some, IfErr, IfSome, OnErr, OnOk, true, false, find, not, slice_index_or};
 ghost use Rattle.ksm_pages.specs.Held.{tree_by as tree_of_home};
 ghost use Rattle.ksm_pages.specs.Unstable.{Keeps, KeepsOthers, holder, if_passes, is_led, meets, other_holder, place, stands_under, turned as halves_turned};
-ghost use Rattle.ksm_tree.specs.Numbered.{number_of};
+ghost use Rattle.ksm_pages.specs.Terms.{number_of};
 
 use crate::row::Entry;
 use ksm_base::{Fault, PageBytes};

@@ -2,14 +2,11 @@
 //! page, becomes Zero, or waits.
 
 ghost use Rattle.std.specs.Prelude.{◌≡◌, true, false, None, Some, Err, All, ◌==◌, ◌&&◌, IfNone, IfOk, IsTrue, OnOk, OnErr, option_map};
-ghost use Rattle.ksm_base.specs.declared.fault.Fault.TheVariants.{Memory};
-ghost use Rattle.ksm_base.specs.declared.row.PageState.TheVariants.{Merged, Zero};
-ghost use Rattle.ksm_base.specs.Rows.{all_zero as has_only_zeroes, merged_into};
+ghost use Rattle.ksm_pages.specs.Terms.{best_of, found_at, has_only_zeroes, Memory, Merged, merged_into, Zero};
 ghost use Rattle.ksm_pages.specs.declared.pages.Find.TheVariants as finds;
 ghost use Rattle.ksm_pages.specs.Paged.{Finds, HasRoom, HasRow, IsAlone, MayPair, NoneHas, changed, is_restless, lies_on, relaid};
 ghost use Rattle.ksm_pages.specs.Paged.{paired as are_paired, seen};
 ghost use Rattle.ksm_pages.specs.Held.{is_alone};
-ghost use Rattle.ksm_tree.specs.Choosing.{best_of, found_at};
 
 use crate::pages::{Find, Glance, Pages};
 use crate::row::{Entry, InTree, Spot};

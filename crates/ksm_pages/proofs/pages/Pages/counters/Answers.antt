@@ -1,4 +1,4 @@
-use Rattle.ksm_pages.proofs.Names.{All, arith, count_by, false, live_count, PagesValue, private_state, rows_of, states-add, subst, sym, tied_counted, true, ◌&&◌, ◌-◌, ◌∙◌, ◌≡◌}
+use Rattle.ksm_pages.proofs.Names.{All, arith, count_by, false, live_count, PagesValue, private_state, rows_of, states-add, subst, sym, tied_counted, true, ◌&&◌, ◌∙◌, ◌≡◌}
 use Rattle.ksm_pages.proofs.pages.Pages.counters.Goals as goal
 
 pub returns : goal.returns

@@ -48,8 +48,16 @@ returns-then-waits-clause-found c =
     let by = partner_by s c.self.invariant c.self.view_is c.args.spot.page c.in-Some.entry.now c.in-Some.ensures
     c.are_lawful.ensures.led c.are_lawful.ensures.found c.tree_in-tree.ensures in
     rw c.group_with_best-group.ensures.kept
-    (grind (arith, known it c.tree_in-tree.ensures, c.group_with_best-group.ensures.best, c.in_default-best.is, c.is_for_zero.ensures, by,
-      c.in-Some-in_tree.ensures, waits_page (rows_of s.rows.held) c.args.spot.page c.in-Some-in_tree.other.page c.waits.result c.waits.ensures (grind arith)))
+    (grind (
+      arith,
+      known it c.tree_in-tree.ensures,
+      c.group_with_best-group.ensures.best,
+      c.in_default-best.is,
+      c.is_for_zero.ensures,
+      by,
+      c.in-Some-in_tree.ensures,
+      waits_page (rows_of s.rows.held) c.args.spot.page c.in-Some-in_tree.other.page c.waits.result c.waits.ensures (grind arith),
+    ))
 
 way : (c : After-enter-arg-1)
     → MayEnter c.match-in_tree.self-inside c.args.self.now c.args.spot.page c.in-Some.entry.now c.group_with_best-group.result.0
@@ -116,5 +124,12 @@ pub returns-clause-found : goal.returns-clause-found
 returns-clause-found c =
     let it = asked c.self.inside c.self.invariant c.self.view_is c.in-Some.entry.now c.in-Some.ensures (grind arith) in
     let entered_so = way (goal.at.returns-clause-found c).After-enter-arg-1 in
-    grind (arith, known it c.tree_in-tree.ensures, c.group_with_best-group.ensures.best, c.in_default-best.is, c.is_for_zero.ensures,
-      entered_so.lonely, (entered entered_so c.in_ok-enter.ensures.waits).told_as)
+    grind (
+      arith,
+      known it c.tree_in-tree.ensures,
+      c.group_with_best-group.ensures.best,
+      c.in_default-best.is,
+      c.is_for_zero.ensures,
+      entered_so.lonely,
+      (entered entered_so c.in_ok-enter.ensures.waits).told_as,
+    )
