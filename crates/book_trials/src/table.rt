@@ -45,11 +45,11 @@ fn give(table: &FrameTable, keeper: &mut Keeper, frame: u32, first: u64)
     keeper.open(table, frame);
 }
 
-// A page whose first word is 7, and each further word one more.
+// The page of the frame's first life: its first word is 16, and each further word one more.
 fn page() -> PageBytes {
     let mut page = [0; PAGE_WORDS];
     for (i, word) in page.iter_mut().enumerate() {
-        *word = (i as u64).wrapping_add(7);
+        *word = (i as u64).wrapping_add(16);
     }
     page
 }
@@ -64,7 +64,7 @@ fn first_table(table: &FrameTable, keeper: &mut Keeper)
     ensures base { (frame_at keeper.new.ledger 0).base ≡ 2 }
     ensures life { (frame_at keeper.new.ledger 0).generation ≡ 1 }
 {
-    give(table, keeper, 0, 7);
+    give(table, keeper, 0, 16);
     keeper.add(table, 0);
     keeper.publish(table, 0, 0);
 }
@@ -102,73 +102,63 @@ fn third_table(table: &FrameTable, keeper: &mut Keeper) -> bool
     true
 }
 
-// How a lookup ended: with a hold of this frame in this life, whose words were read twice, or with what the kind of
-// answer tells.
-#[derive(Clone, Copy, PartialEq, Eq)]
-enum Ending {
-    Held(u32, u64, PageBytes, PageBytes),
-    Gone(Why),
-    Busy,
-    Equal,
-    Differs,
+// Whether each word of the hold is of the life held, whenever it is read.
+fn is_of_one_life(table: &FrameTable, held: &mut Held) -> bool
+    requires own { held.old.table ≡ table.now }
+    ensures own { held.new.table ≡ table.now }
+{
+    let first = held.generation().wrapping_mul(16);
+    for i in 0..3 * PAGE_WORDS {
+        let at = i % PAGE_WORDS;
+        if held.word(table, at) != first.wrapping_add(at as u64) {
+            return false;
+        }
+    }
+    true
 }
 
-fn find(table: &FrameTable, pass: Pass, place: u32) -> (Ending, Pass)
+// Looks a place up. Answers whether it is gone for this reason, or, with none, holds the frame 0 in its first life.
+fn finds(table: &FrameTable, pass: Pass, place: u32, gone: Option<Why>) -> (bool, Pass)
     requires own { pass.table ≡ table.now }
     requires inside { place < frames_of table.now.shape }
     ensures own { result.1.table ≡ table.now }
 {
     match pass.find(table, place) {
         Found::Held(mut held) => {
-            let mut once = [0; PAGE_WORDS];
-            let mut again = [0; PAGE_WORDS];
-            for i in 0..PAGE_WORDS {
-                once[i] = held.word(table, i);
-            }
-            for i in 0..PAGE_WORDS {
-                again[i] = held.word(table, i);
-            }
-            let ending = Ending::Held(held.frame(), held.generation(), once, again);
-            (ending, held.leave(table))
+            let first = held.frame() == 0 && held.generation() == 1;
+            let right = gone.is_none() && first && is_of_one_life(table, &mut held);
+            (right, held.leave(table))
         }
-        Found::Gone(pass, why) => (Ending::Gone(why), pass),
-        Found::Busy(pass) => (Ending::Busy, pass),
+        Found::Gone(pass, why) => (gone == Some(why), pass),
+        Found::Busy(pass) => (false, pass),
     }
 }
 
-fn find_equal(table: &FrameTable, pass: Pass, place: u32, page: &PageBytes) -> (Ending, Pass)
+// Compares a page with the one at the place 0. Answers whether that is gone for this reason, or, with none, as equal as
+// is said.
+fn compares(
+    table: &FrameTable,
+    pass: Pass,
+    page: &PageBytes,
+    equal: bool,
+    gone: Option<Why>,
+) -> (bool, Pass)
     requires own { pass.table ≡ table.now }
-    requires inside { place < frames_of table.now.shape }
+    requires inside { 0 < frames_of table.now.shape }
     ensures own { result.1.table ≡ table.now }
 {
-    match pass.find_equal(table, place, page) {
-        FoundEqual::Held(held) => (Ending::Equal, held.leave(table)),
-        FoundEqual::Differs(held) => (Ending::Differs, held.leave(table)),
-        FoundEqual::Gone(pass, why) => (Ending::Gone(why), pass),
-        FoundEqual::Busy(pass) => (Ending::Busy, pass),
+    match pass.find_equal(table, 0, page) {
+        FoundEqual::Held(held) => (gone.is_none() && equal, held.leave(table)),
+        FoundEqual::Differs(held) => (gone.is_none() && !equal, held.leave(table)),
+        FoundEqual::Gone(pass, why) => (gone == Some(why), pass),
+        FoundEqual::Busy(pass) => (false, pass),
     }
 }
 
 // A lookup of each place, one that compares the first place with its page, and one with a page whose last word differs.
-#[derive(Clone, Copy, PartialEq, Eq)]
-struct Endings {
-    first: Ending,
-    second: Ending,
-    equal: Ending,
-    differs: Ending,
-}
-
-// A frame that is gone from the first place, and nothing at the second.
-fn gone(why: Why) -> Endings {
-    Endings {
-        first: Ending::Gone(why),
-        second: Ending::Gone(Why::Vacant),
-        equal: Ending::Gone(why),
-        differs: Ending::Gone(why),
-    }
-}
-
-fn look(table: &FrameTable, slot: &mut Option<Pass>) -> Endings
+// Answers whether the frame is gone from the first place for this reason, or, with none, is held; and nothing is at the
+// second.
+fn look(table: &FrameTable, slot: &mut Option<Pass>, gone: Option<Why>) -> bool
     requires own { IsSomeAnd slot.old (λ p. p.table ≡ table.now) }
     requires shape { table.now.shape ≡ SHAPE }
     ensures own { IsSomeAnd slot.new (λ p. p.table ≡ table.now) }
@@ -180,94 +170,78 @@ fn look(table: &FrameTable, slot: &mut Option<Pass>) -> Endings
     if let Some(last) = other.last_mut() {
         *last = 9;
     }
-    let (first, pass) = find(table, pass, 0);
-    let (second, pass) = find(table, pass, 1);
-    let (equal, pass) = find_equal(table, pass, 0, &page());
-    let (differs, pass) = find_equal(table, pass, 0, &other);
+    let (first, pass) = finds(table, pass, 0, gone);
+    let (second, pass) = finds(table, pass, 1, Some(Why::Vacant));
+    let (equal, pass) = compares(table, pass, &page(), true, gone);
+    let (differs, pass) = compares(table, pass, &other, false, gone);
     let old = slot.replace(pass);
     let None = old else { unreachable!() };
-    Endings {
-        first,
-        second,
-        equal,
-        differs,
-    }
+    first && second && equal && differs
 }
 
+// The same by two passes in a thread each.
 fn look_both<R: Threads + Sync>(
     rt: &R,
     table: &FrameTable,
     one: &mut Option<Pass>,
     two: &mut Option<Pass>,
-) -> (Endings, Endings)
+    gone: Option<Why>,
+) -> bool
     requires one { IsSomeAnd one.old (λ p. p.table ≡ table.now) }
     requires two { IsSomeAnd two.old (λ p. p.table ≡ table.now) }
     requires shape { table.now.shape ≡ SHAPE }
     ensures one { IsSomeAnd one.new (λ p. p.table ≡ table.now) }
     ensures two { IsSomeAnd two.new (λ p. p.table ≡ table.now) }
 {
-    join_mut(rt, &mut || look(table, one), &mut || look(table, two))
+    let (first, second) = join_mut(
+        rt,
+        &mut || look(table, one, gone),
+        &mut || look(table, two, gone),
+    );
+    first && second
 }
 
-// What lookups answer on the first table.
-fn named() -> Endings {
-    Endings {
-        first: Ending::Held(0, 1, page(), page()),
-        second: Ending::Gone(Why::Vacant),
-        equal: Ending::Equal,
-        differs: Ending::Differs,
-    }
+// Whether lookups answer so on each of the three tables, and the frame is given again.
+fn three_tables<R: Threads + Sync>(
+    rt: &R,
+    table: &FrameTable,
+    keeper: &mut Keeper,
+    one: &mut Option<Pass>,
+    two: &mut Option<Pass>,
+) -> [bool; 4]
+    requires new { keeper.old ≡ new_keeper table.now }
+    requires shape { table.now.shape ≡ SHAPE }
+    requires one { IsSomeAnd one.old (λ p. p.table ≡ table.now) }
+    requires two { IsSomeAnd two.old (λ p. p.table ≡ table.now) }
+    ensures own { keeper.new.table ≡ table.now }
+    ensures one { IsSomeAnd one.new (λ p. p.table ≡ table.now) }
+    ensures two { IsSomeAnd two.new (λ p. p.table ≡ table.now) }
+{
+    first_table(table, keeper);
+    let held = look_both(rt, table, one, two, None);
+    second_table(table, keeper);
+    let dying = look_both(rt, table, one, two, Some(Why::Zero));
+    let given = third_table(table, keeper);
+    let next = look_both(rt, table, one, two, Some(Why::Generation));
+    [held, dying, given, next]
 }
 
 #[test]
 fn lookups_on_three_tables(rt: HostRuntime) -> Result<(), Fail> {
     let (table, mut keeper, mut passes) = FrameTable::open(rt.alloc(), SHAPE)?;
-    let Some(pass) = passes.pop() else {
-        unreachable!()
-    };
-    let mut slot = Some(pass);
-    first_table(&table, &mut keeper);
-    assert!(rt; look(&table, &mut slot) == named());
-    second_table(&table, &mut keeper);
-    assert!(rt; look(&table, &mut slot) == gone(Why::Zero));
-    assert!(rt; third_table(&table, &mut keeper));
-    assert!(rt; look(&table, &mut slot) == gone(Why::Generation));
-    let Some(pass) = slot else { unreachable!() };
-    passes.push_reserved(pass);
-    let closed = table.close(keeper, passes);
-    assert_eq!(rt; closed.count(0), 1);
-    assert_eq!(rt; closed.generation(0), 2);
-    assert_eq!(rt; closed.place(0), PLACE_SPAN);
-    assert_eq!(rt; closed.place(1), 0);
-    Ok(())
-}
-
-#[test]
-fn lookups_on_three_tables_in_threads(rt: HostRuntime) -> Result<(), Fail> {
-    let (table, mut keeper, mut passes) = FrameTable::open(rt.alloc(), SHAPE)?;
-    let Some(one) = passes.pop() else {
-        unreachable!()
-    };
-    let Some(two) = passes.pop() else {
-        unreachable!()
-    };
-    let mut one = Some(one);
-    let mut two = Some(two);
-    first_table(&table, &mut keeper);
-    assert!(rt; look_both(&rt, &table, &mut one, &mut two) == (named(), named()));
-    second_table(&table, &mut keeper);
-    assert!(rt; look_both(&rt, &table, &mut one, &mut two) == (gone(Why::Zero), gone(Why::Zero)));
-    assert!(rt; third_table(&table, &mut keeper));
-    assert!(rt;
-        look_both(&rt, &table, &mut one, &mut two) == (gone(Why::Generation), gone(Why::Generation))
-    );
+    let (mut one, mut two) = (passes.pop(), passes.pop());
+    let right = three_tables(&rt, &table, &mut keeper, &mut one, &mut two);
     let Some(one) = one else { unreachable!() };
     let Some(two) = two else { unreachable!() };
     passes.push_reserved(one);
     passes.push_reserved(two);
     let closed = table.close(keeper, passes);
-    assert_eq!(rt; closed.count(0), 1);
-    assert_eq!(rt; closed.generation(0), 2);
+    let frame = (closed.count(0), closed.generation(0));
+    let places = (closed.place(0), closed.place(1));
+    assert_eq!(rt;
+        (right, frame, places),
+        ([true; 4], (1, 2), (PLACE_SPAN, 0))
+    );
     Ok(())
 }
 
@@ -343,22 +317,6 @@ fn spend(table: &FrameTable, keeper: &mut Keeper) -> u64
 struct Worker {
     pass: Option<Pass>,
     wrong: u64,
-}
-
-// Whether each word of the hold is of the life held, whenever it is read.
-fn is_of_one_life(table: &FrameTable, held: &mut Held) -> bool
-    requires own { held.old.table ≡ table.now }
-    ensures own { held.new.table ≡ table.now }
-{
-    let first = held.generation().wrapping_mul(16);
-    for _ in 0..3 {
-        for i in 0..PAGE_WORDS {
-            if held.word(table, i) != first.wrapping_add(i as u64) {
-                return false;
-            }
-        }
-    }
-    true
 }
 
 // Looks the place 0 up. Answers in how many holds a word was of another life.
@@ -504,9 +462,8 @@ fn is_sound(outcome: &Outcome) -> bool {
 #[test]
 fn sixteen_passes_against_a_keeper(rt: HostRuntime) -> Result<(), Fail> {
     for tries in [1, 64] {
-        let shape = Shape { tries, ..CROWDED };
-        let outcome = crowd(&rt, rt.alloc(), shape)?;
-        assert!(rt; is_sound(&outcome), "with {tries} tries");
+        let outcome = crowd(&rt, rt.alloc(), Shape { tries, ..CROWDED })?;
+        assert!(rt; is_sound(&outcome));
     }
     Ok(())
 }
