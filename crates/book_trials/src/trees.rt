@@ -1,8 +1,10 @@
-//! The trees of the book: the pages that wait, and the dups with their items.
+//! The trees of the book: the pages that wait, the dups with their items, and the items themselves.
 ghost use Rattle.std.specs.Prelude.{◌≡◌};
 
-use ksm_base::{GuestPage, PageBytes};
+use ksm_base::{Fault, GuestPage, MOST_REFERENCES, PageBytes};
+use ksm_rmap::Items;
 use ksm_tree::{Choice, Dups, Waiting};
+use std::alloc::Global;
 use std::test::Fail;
 
 fn page(number: u32) -> GuestPage
@@ -60,27 +62,62 @@ fn counts(dups: &Dups) -> [usize; 4] {
     ]
 }
 
-#[test]
-fn a_dup_alone_is_no_chain(rt: HostRuntime) -> Result<(), Fail> {
-    let mut dups = Dups::open(rt.alloc(), 2)?;
+// Whether the dup at the place 0 is live; the place that is told as stale; and what lies at the place 0.
+fn shown(dups: &Dups) -> (bool, Option<u32>, Option<u64>) {
+    (dups.live_at(0).is_some(), dups.stale(), dups.at(0))
+}
+
+// A dup of two pages at the first of two places.
+fn paired(alloc: Global) -> Result<Dups, Fault> {
+    let mut dups = Dups::open(alloc, 2)?;
     dups.new_dup(0, 0, &bytes(7), page(4), page(2))?;
-    assert_eq!(rt; counts(&dups), [0, 0, 1, 0]);
+    Ok(dups)
+}
+
+// A page leaves the dup. Answers what is shown then.
+fn left(dups: &mut Dups, number: u32) -> ((bool, Option<u32>, Option<u64>), [usize; 4]) {
+    let _ = dups.leave(0, page(number));
+    (shown(dups), counts(dups))
+}
+
+// A dup alone is no chain, and stale once both pages have left it. That it goes then, a pruning of the book shows.
+#[test]
+fn a_dup_that_all_left_is_stale(rt: HostRuntime) -> Result<(), Fail> {
+    let mut dups = paired(rt.alloc())?;
+    assert!(rt; left(&mut dups, 4) == ((true, None, Some(0)), [0, 0, 1, 0]));
+    assert!(rt; left(&mut dups, 2) == ((false, Some(0), Some(0)), [0, 0, 0, 1]));
     Ok(())
 }
 
+fn add(items: &mut Items, page: GuestPage) -> Result<(), Fault> {
+    if (items.len() as u64) < MOST_REFERENCES && !items.contains(page) {
+        items.add(page)?;
+    }
+    Ok(())
+}
+
+// The numbers of the first ten pages.
+fn numbers(pages: &[GuestPage]) -> [u32; 10] {
+    let mut numbers = [0; 10];
+    for (number, page) in numbers.iter_mut().zip(pages.iter()) {
+        *number = page.page;
+    }
+    numbers
+}
+
+// Ten pages of guest 3 and one of guest 0, of which one goes again.
 #[test]
-fn a_stale_dup_goes(rt: HostRuntime) -> Result<(), Fail> {
-    let mut dups = Dups::open(rt.alloc(), 1)?;
-    dups.new_dup(0, 0, &bytes(7), page(4), page(2))?;
-    dups.leave(0, page(4));
-    assert_eq!(rt; dups.stale(), None);
-    dups.leave(0, page(2));
-    assert_eq!(rt; dups.stale(), Some(0));
-    assert_eq!(rt; dups.live_at(0), None);
-    assert_eq!(rt; dups.count_stale(), 1);
-    assert_eq!(rt; dups.count_shared(), 0);
-    assert_eq!(rt; dups.at(0), Some(0));
-    dups.drop_stale(0);
-    assert_eq!(rt; dups.at(0), None);
+fn items_stand_in_order(rt: HostRuntime) -> Result<(), Fail> {
+    let mut items = Items::new(rt.alloc());
+    for number in [9, 3, 7, 1, 10, 2, 8, 4, 6, 5] {
+        add(&mut items, page(number))?;
+    }
+    let first = GuestPage { guest: 0, page: 11 };
+    add(&mut items, first)?;
+    let removed = [items.remove(page(7)), items.remove(page(7))];
+    assert!(rt; removed == [true, false] && items.contains(page(8)));
+    let told = numbers(items.pages(rt.alloc())?.as_slice());
+    assert!(rt; told == [11, 1, 2, 3, 4, 5, 6, 8, 9, 10]);
+    assert!(rt; items.len() == 10 && items.at(0) == first && items.at(6) == page(6));
     Ok(())
 }

@@ -6,6 +6,3 @@ mod key;
 
 pub use items::Items;
 pub use key::{key_of, page_of};
-
-#[cfg(test)]
-mod tests;
