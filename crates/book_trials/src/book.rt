@@ -99,10 +99,10 @@ fn merge_two(rt: &impl Abort, table: &FrameTable, book: &mut Book)
     requires own { book.old.keeper.table ≡ table.now }
     ensures own { book.new.keeper.table ≡ table.now }
 {
-    assert_eq!(rt; said(book, table, registered(0, 0)), DONE);
-    assert_eq!(rt; said(book, table, registered(1, 0)), DONE);
-    assert_eq!(rt; said(book, table, SetRun(1)), DONE);
-    assert_eq!(rt; said(book, table, Scan { visits: 4 }), scanned(4));
+    assert!(rt; said(book, table, registered(0, 0)) == DONE);
+    assert!(rt; said(book, table, registered(1, 0)) == DONE);
+    assert!(rt; said(book, table, SetRun(1)) == DONE);
+    assert!(rt; said(book, table, Scan { visits: 4 }) == scanned(4));
 }
 
 // Two private pages, after two passes.
@@ -134,31 +134,25 @@ const MERGED_AGAIN: Counters = Counters {
 #[test]
 fn equal_store_still_copies(rt: HostRuntime) -> Result<(), Fail> {
     let (table, mut book, passes) = opened(rt.alloc(), SHAPE)?;
-    assert_eq!(rt;
-        said(&mut book, &table, Scan { visits: 1 }),
-        Err(Fault::NotRunning)
-    );
+    assert!(rt; said(&mut book, &table, Scan { visits: 1 }) == Err(Fault::NotRunning));
     merge_two(&rt, &table, &mut book);
-    assert_eq!(rt; book.ticket(page(1)), Some(0));
-    assert_eq!(rt; said(&mut book, &table, stored(0)), DONE);
-    assert_eq!(rt; said(&mut book, &table, stored(1)), DONE);
-    assert_eq!(rt; book.counters(), NONE_SHARED);
-    assert_eq!(rt; said(&mut book, &table, Scan { visits: 2 }), scanned(2));
-    assert_eq!(rt; book.counters(), MERGED_AGAIN);
-    assert_eq!(rt; book.ticket(page(0)), Some(1));
-    assert_eq!(rt; book.read(&table, page(1)), Some(filled(10)));
+    assert!(rt; book.ticket(page(1)) == Some(0));
+    assert!(rt; said(&mut book, &table, stored(0)) == DONE);
+    assert!(rt; said(&mut book, &table, stored(1)) == DONE);
+    assert!(rt; book.counters() == NONE_SHARED);
+    assert!(rt; said(&mut book, &table, Scan { visits: 2 }) == scanned(2));
+    assert!(rt; book.counters() == MERGED_AGAIN);
+    assert!(rt; book.ticket(page(0)) == Some(1));
+    assert!(rt; book.read(&table, page(1)) == Some(filled(10)));
     let mappers = match book.mappers(rt.alloc(), 1) {
         Ok(Some(pages)) => pages.len(),
         _ => 0,
     };
-    assert_eq!(rt; mappers, 2);
-    assert_eq!(rt;
-        said(&mut book, &table, SetLimit(2)),
-        Err(Fault::SharedPages)
-    );
-    assert_eq!(rt; said(&mut book, &table, Prune), Ok(Reply::Pruned(1)));
+    assert!(rt; mappers == 2);
+    assert!(rt; said(&mut book, &table, SetLimit(2)) == Err(Fault::SharedPages));
+    assert!(rt; said(&mut book, &table, Prune) == Ok(Reply::Pruned(1)));
     let closed = table.close(book.close(), passes);
-    assert_eq!(rt; closed.place(0), 0);
+    assert!(rt; closed.place(0) == 0);
     Ok(())
 }
 
@@ -167,37 +161,31 @@ fn equal_store_still_copies(rt: HostRuntime) -> Result<(), Fail> {
 fn pages_of_two_nodes(rt: HostRuntime) -> Result<(), Fail> {
     let shape = Shape { nodes: 2, ..SHAPE };
     let (table, mut book, passes) = opened(rt.alloc(), shape)?;
-    assert_eq!(rt; said(&mut book, &table, SetAcross(0)), DONE);
-    assert_eq!(rt; said(&mut book, &table, registered(0, 0)), DONE);
-    assert_eq!(rt; said(&mut book, &table, registered(1, 1)), DONE);
-    assert_eq!(rt; said(&mut book, &table, SetRun(1)), DONE);
-    assert_eq!(rt; said(&mut book, &table, Scan { visits: 4 }), scanned(4));
-    assert_eq!(rt; book.counters().unshared, 2);
+    assert!(rt; said(&mut book, &table, SetAcross(0)) == DONE);
+    assert!(rt; said(&mut book, &table, registered(0, 0)) == DONE);
+    assert!(rt; said(&mut book, &table, registered(1, 1)) == DONE);
+    assert!(rt; said(&mut book, &table, SetRun(1)) == DONE);
+    assert!(rt; said(&mut book, &table, Scan { visits: 4 }) == scanned(4));
+    assert!(rt; book.counters().unshared == 2);
     let moving = MovePage {
         page: page(0),
         node: 1,
     };
-    assert_eq!(rt; said(&mut book, &table, moving), DONE);
-    assert_eq!(rt; said(&mut book, &table, Scan { visits: 4 }), scanned(4));
-    assert_eq!(rt; book.counters().shared, 1);
+    assert!(rt; said(&mut book, &table, moving) == DONE);
+    assert!(rt; said(&mut book, &table, Scan { visits: 4 }) == scanned(4));
+    assert!(rt; book.counters().shared == 1);
     let across = MoveDup { place: 0, node: 0 };
-    assert_eq!(rt; said(&mut book, &table, across), Err(Fault::CrossesNodes));
-    assert_eq!(rt;
-        said(&mut book, &table, MoveDup { place: 0, node: 1 }),
-        DONE
-    );
-    assert_eq!(rt; book.read(&table, page(0)), Some(filled(10)));
+    assert!(rt; said(&mut book, &table, across) == Err(Fault::CrossesNodes));
+    assert!(rt; said(&mut book, &table, MoveDup { place: 0, node: 1 }) == DONE);
+    assert!(rt; book.read(&table, page(0)) == Some(filled(10)));
     let vacant = MoveDup { place: 3, node: 1 };
-    assert_eq!(rt; said(&mut book, &table, vacant), Err(Fault::UnknownPlace));
+    assert!(rt; said(&mut book, &table, vacant) == Err(Fault::UnknownPlace));
     let nowhere = MoveDup { place: 0, node: 9 };
-    assert_eq!(rt; said(&mut book, &table, nowhere), Err(Fault::BadNode));
-    assert_eq!(rt; book.knobs().merge_across_nodes, 0);
-    assert_eq!(rt;
-        said(&mut book, &table, Mergeable { guest: 1 }),
-        Err(Fault::UnknownPage)
-    );
-    assert_eq!(rt; said(&mut book, &table, Drop { page: page(0) }), DONE);
-    assert_eq!(rt; book.registered(page(0)), false);
+    assert!(rt; said(&mut book, &table, nowhere) == Err(Fault::BadNode));
+    assert!(rt; book.knobs().merge_across_nodes == 0);
+    assert!(rt; said(&mut book, &table, Mergeable { guest: 1 }) == Err(Fault::UnknownPage));
+    assert!(rt; said(&mut book, &table, Drop { page: page(0) }) == DONE);
+    assert!(rt; !book.registered(page(0)));
     let _ = table.close(book.close(), passes);
     Ok(())
 }
@@ -237,14 +225,14 @@ fn held_dup_moves_once_it_is_left(rt: HostRuntime) -> Result<(), Fail> {
     };
     merge_two(&rt, &table, &mut book);
     let (answer, pass) = moved_while_held(&mut book, &table, pass);
-    assert_eq!(rt; answer, Some(Err(Fault::InUse)));
-    assert_eq!(rt; said(&mut book, &table, MOVE), DONE);
-    assert_eq!(rt; book.read(&table, page(1)), Some(filled(10)));
+    assert!(rt; answer == Some(Err(Fault::InUse)));
+    assert!(rt; said(&mut book, &table, MOVE) == DONE);
+    assert!(rt; book.read(&table, page(1)) == Some(filled(10)));
     passes.push_reserved(pass);
     let closed = table.close(book.close(), passes);
-    assert_eq!(rt; (closed.generation(0), closed.count(0)), (1, 0));
-    assert_eq!(rt; (closed.generation(1), closed.count(1)), (2, 2));
-    assert_eq!(rt; closed.place(0), 2 * PLACE_SPAN + 1);
+    assert!(rt; (closed.generation(0), closed.count(0)) == (1, 0));
+    assert!(rt; (closed.generation(1), closed.count(1)) == (2, 2));
+    assert!(rt; closed.place(0) == 2 * PLACE_SPAN + 1);
     Ok(())
 }
 
@@ -254,18 +242,18 @@ fn journal_tells_each_command(rt: HostRuntime) -> Result<(), Fail> {
     let alloc = rt.alloc();
     let (table, mut book, passes) = opened_with(alloc, SHAPE, Journal::kept(alloc))?;
     assert!(rt; book.journal().is_kept());
-    assert_eq!(rt; book.journal().get(0), None);
+    assert!(rt; book.journal().get(0) == None);
     merge_two(&rt, &table, &mut book);
     let refused = said(&mut book, &table, registered(0, 0));
-    assert_eq!(rt; refused, Err(Fault::AlreadyRegistered));
-    assert_eq!(rt; said(&mut book, &table, stored(1)), DONE);
-    assert_eq!(rt; book.journal().len(), 6);
-    assert_eq!(rt; book.journal().get(0), Some((registered(0, 0), DONE)));
+    assert!(rt; refused == Err(Fault::AlreadyRegistered));
+    assert!(rt; said(&mut book, &table, stored(1)) == DONE);
+    assert!(rt; book.journal().len() == 6);
+    assert!(rt; book.journal().get(0) == Some((registered(0, 0), DONE)));
     let scan = Scan { visits: 4 };
-    assert_eq!(rt; book.journal().get(3), Some((scan, scanned(4))));
-    assert_eq!(rt; book.journal().get(4), Some((registered(0, 0), refused)));
-    assert_eq!(rt; book.journal().get(5), Some((stored(1), DONE)));
-    assert_eq!(rt; book.journal().get(6), None);
+    assert!(rt; book.journal().get(3) == Some((scan, scanned(4))));
+    assert!(rt; book.journal().get(4) == Some((registered(0, 0), refused)));
+    assert!(rt; book.journal().get(5) == Some((stored(1), DONE)));
+    assert!(rt; book.journal().get(6) == None);
     let _ = table.close(book.close(), passes);
     Ok(())
 }
@@ -316,11 +304,11 @@ fn counted_book_answers_as_a_kept_one(rt: HostRuntime) -> Result<(), Fail> {
     let alloc = rt.alloc();
     let kept = answers(alloc, Journal::kept(alloc))?;
     let counted = answers(alloc, Journal::counted())?;
-    assert_eq!(rt; kept.0, counted.0);
-    assert_eq!(rt; kept.0[2], Err(Fault::AlreadyRegistered));
-    assert_eq!(rt; (kept.1, counted.1), (12, 12));
-    assert_eq!(rt; kept.2, Some((registered(0, 0), DONE)));
-    assert_eq!(rt; counted.2, None);
+    assert!(rt; kept.0 == counted.0);
+    assert!(rt; kept.0[2] == Err(Fault::AlreadyRegistered));
+    assert!(rt; (kept.1, counted.1) == (12, 12));
+    assert!(rt; kept.2 == Some((registered(0, 0), DONE)));
+    assert!(rt; counted.2 == None);
     Ok(())
 }
 
@@ -328,13 +316,13 @@ fn counted_book_answers_as_a_kept_one(rt: HostRuntime) -> Result<(), Fail> {
 #[test]
 fn frame_left_is_given_again(rt: HostRuntime) -> Result<(), Fail> {
     let (table, mut book, passes) = opened(rt.alloc(), SHAPE)?;
-    assert_eq!(rt; said(&mut book, &table, registered(0, 0)), DONE);
-    assert_eq!(rt; said(&mut book, &table, registered(1, 0)), DONE);
-    assert_eq!(rt; said(&mut book, &table, Drop { page: page(0) }), DONE);
-    assert_eq!(rt; said(&mut book, &table, registered(2, 0)), DONE);
+    assert!(rt; said(&mut book, &table, registered(0, 0)) == DONE);
+    assert!(rt; said(&mut book, &table, registered(1, 0)) == DONE);
+    assert!(rt; said(&mut book, &table, Drop { page: page(0) }) == DONE);
+    assert!(rt; said(&mut book, &table, registered(2, 0)) == DONE);
     let closed = table.close(book.close(), passes);
-    assert_eq!(rt; (closed.generation(0), closed.count(0)), (2, 1));
-    assert_eq!(rt; (closed.generation(1), closed.count(1)), (1, 1));
-    assert_eq!(rt; closed.generation(2), 0);
+    assert!(rt; (closed.generation(0), closed.count(0)) == (2, 1));
+    assert!(rt; (closed.generation(1), closed.count(1)) == (1, 1));
+    assert!(rt; closed.generation(2) == 0);
     Ok(())
 }

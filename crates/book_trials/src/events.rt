@@ -135,7 +135,7 @@ fn left(alloc: Global) -> Result<Core, Fault> {
 #[test]
 fn two_lives_in_one_word(rt: HostRuntime) -> Result<(), Fail> {
     let mut core = Core::open(rt.alloc(), SHAPE)?;
-    assert_eq!(rt; followed(&mut core), 21);
+    assert!(rt; followed(&mut core) == 21);
     let core = left(rt.alloc())?;
     assert!(rt; shows(&core, Filling, "idle") && core.base(0) == Some(0));
     Ok(())

@@ -23,14 +23,14 @@ fn bytes(word: u64) -> PageBytes {
 #[test]
 fn one_page_waits_for_each_content(rt: HostRuntime) -> Result<(), Fail> {
     let mut waiting = Waiting::new(rt.alloc());
-    assert_eq!(rt; waiting.find_or_add(0, &bytes(7), page(1))?, page(1));
-    assert_eq!(rt; waiting.find_or_add(0, &bytes(7), page(2))?, page(1));
-    assert_eq!(rt; waiting.find_or_add(1, &bytes(7), page(2))?, page(2));
+    assert!(rt; waiting.find_or_add(0, &bytes(7), page(1))? == page(1));
+    assert!(rt; waiting.find_or_add(0, &bytes(7), page(2))? == page(1));
+    assert!(rt; waiting.find_or_add(1, &bytes(7), page(2))? == page(2));
     waiting.remove(0, &bytes(7));
-    assert_eq!(rt; waiting.find_or_add(0, &bytes(7), page(3))?, page(3));
-    assert_eq!(rt; waiting.find_or_add(1, &bytes(7), page(3))?, page(2));
+    assert!(rt; waiting.find_or_add(0, &bytes(7), page(3))? == page(3));
+    assert!(rt; waiting.find_or_add(1, &bytes(7), page(3))? == page(2));
     waiting.clear();
-    assert_eq!(rt; waiting.find_or_add(1, &bytes(7), page(4))?, page(4));
+    assert!(rt; waiting.find_or_add(1, &bytes(7), page(4))? == page(4));
     Ok(())
 }
 

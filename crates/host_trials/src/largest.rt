@@ -157,8 +157,8 @@ fn a_large_table(rt: HostRuntime) -> Result<(), Fail> {
     let host = Host::new(rt.alloc(), words.as_str(), lines.script.as_str(), None);
     let outcome = run_on(&host, &rt, &host);
     let (printed, said) = host.told();
-    assert_eq!(rt; outcome.status(), Status::Done);
+    assert!(rt; outcome.status() == Status::Done);
     assert!(rt; printed.as_slice() == lines.replies.as_bytes());
-    assert_eq!(rt; said.as_str(), "");
+    assert!(rt; said.as_str() == "");
     Ok(())
 }

@@ -68,9 +68,9 @@ fn each_refusal_is_said(rt: HostRuntime) -> Result<(), Fail> {
         );
         let outcome = run_on(&host, &rt, &host);
         let (printed, said) = host.told();
-        assert_eq!(rt; outcome.status(), Status::Done);
-        assert_eq!(rt; printed.as_slice(), replies.as_bytes());
-        assert_eq!(rt; said.as_str(), wanted);
+        assert!(rt; outcome.status() == Status::Done);
+        assert!(rt; printed.as_slice() == replies.as_bytes());
+        assert!(rt; said.as_str() == wanted);
     }
     Ok(())
 }
@@ -83,9 +83,9 @@ fn a_refusal_for_memory_is_said(rt: HostRuntime) -> Result<(), Fail> {
     let Some(refused) = Refused::of(7, line, &reply) else {
         return Err(Fail::from("a refusal"));
     };
-    assert_eq!(rt;
-        format!(in rt.alloc(); "{refused}")?.as_str(),
-        "line 7, refused 1: memory was refused, and the line may be sent again: put 0 0 000000001111111122222222..\n"
+    assert!(rt;
+        format!(in rt.alloc(); "{refused}")?.as_str()
+            == "line 7, refused 1: memory was refused, and the line may be sent again: put 0 0 000000001111111122222222..\n"
     );
     Ok(())
 }
@@ -106,7 +106,7 @@ fn who_asks_for_words(rt: HostRuntime) {
         let host = Host::new(rt.alloc(), WORDS, "look 1", None).explaining(value, is_terminal);
         let outcome = run_on(&host, &rt, &host);
         let (_, said) = host.told();
-        assert_eq!(rt; outcome.status(), Status::Done);
+        assert!(rt; outcome.status() == Status::Done);
         assert!(rt; said.is_empty() != are_told, "{value:?} {is_terminal}");
     }
 }

@@ -552,12 +552,12 @@ fn lines_are_counted(rt: HostRuntime) -> Result<(), Fail> {
     let mut written = Vec::new(alloc);
     let mut more = "get 0 0\n".as_bytes();
     let ended = play_twice(&rt, alloc, ROW, &mut reader, &mut written, &mut more)?;
-    assert_eq!(rt; (ended.0, ended.1), (Ok(End::BadLine(6)), Ok(End::AllRead)));
-    assert_eq!(rt; reader, "get 0 0\n".as_bytes());
+    assert!(rt; (ended.0, ended.1) == (Ok(End::BadLine(6)), Ok(End::AllRead)));
+    assert!(rt; reader == "get 0 0\n".as_bytes());
     let wanted = with_pages(alloc, "ok\n[aa]\nbad line 6\n")?;
-    assert_eq!(rt; written.as_slice(), wanted.as_bytes());
+    assert!(rt; written.as_slice() == wanted.as_bytes());
     let wanted = with_pages(alloc, "[aa]\n")?;
-    assert_eq!(rt; ended.2.as_slice(), wanted.as_bytes());
+    assert!(rt; ended.2.as_slice() == wanted.as_bytes());
     Ok(())
 }
 
@@ -569,9 +569,9 @@ fn long_lines_are_bad(rt: HostRuntime) -> Result<(), Fail> {
     let mut more: &[u8] = &long;
     let mut written = Vec::new(rt.alloc());
     let ended = play_twice(&rt, rt.alloc(), ROW, &mut reader, &mut written, &mut more)?;
-    assert_eq!(rt; (ended.0, ended.1), (Ok(End::AllRead), Ok(End::BadLine(1))));
-    assert_eq!(rt; more.len(), 43);
-    assert_eq!(rt; ended.2.as_slice(), "bad line 1\n".as_bytes());
+    assert!(rt; (ended.0, ended.1) == (Ok(End::AllRead), Ok(End::BadLine(1))));
+    assert!(rt; more.len() == 43);
+    assert!(rt; ended.2.as_slice() == "bad line 1\n".as_bytes());
     Ok(())
 }
 
@@ -638,13 +638,10 @@ fn a_writer_that_fails_at_each_byte(rt: HostRuntime) -> Result<(), Fail> {
             };
             let mut again = "leave 0\nreg 0 0 0 aa\n".as_bytes();
             let ended = play_twice(&rt, rt.alloc(), ROW, &mut reader, &mut writer, &mut again)?;
-            assert_eq!(rt;
-                (ended.0, ended.1),
-                (Err(RunFault::Write), Ok(End::AllRead))
-            );
+            assert!(rt; (ended.0, ended.1) == (Err(RunFault::Write), Ok(End::AllRead)));
             assert!(rt; replies.as_bytes().starts_with(writer.taken.as_slice()));
-            assert_eq!(rt; writer.taken.len(), left);
-            assert_eq!(rt; ended.2.as_slice(), "refused 14\nrefused 3\n".as_bytes());
+            assert!(rt; writer.taken.len() == left);
+            assert!(rt; ended.2.as_slice() == "refused 14\nrefused 3\n".as_bytes());
         }
     }
     Ok(())
@@ -661,14 +658,14 @@ fn a_reader_that_fails_at_each_byte(rt: HostRuntime) -> Result<(), Fail> {
         };
         let mut written = Vec::new(rt.alloc());
         let outcome = play_on(&rt, rt.alloc(), ROW, &mut reader, &mut written)?;
-        assert_eq!(rt; outcome, Err(RunFault::Read));
+        assert!(rt; outcome == Err(RunFault::Read));
         let lines = LINES
             .bytes()
             .take(left)
             .filter(|byte| *byte == b'\n')
             .count();
         let replies = written.iter().filter(|byte| **byte == b'\n').count();
-        assert_eq!(rt; replies, lines);
+        assert!(rt; replies == lines);
         assert!(rt; all.as_bytes().starts_with(written.as_slice()));
         assert!(rt; written.is_empty() || written.last() == Some(&b'\n'));
     }

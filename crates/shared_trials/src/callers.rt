@@ -58,13 +58,13 @@ fn four_work<N: Naming + Send + Sync, R: Threads + Wait + Abort + Sync>(
     let mut last = three.0;
     for guest in 0..4 {
         let bytes = ksm.read(rt, &mut last, page(guest, 0));
-        assert_eq!(rt; bytes, Some(filled(byte_of(guest, 100))));
+        assert!(rt; bytes == Some(filled(byte_of(guest, 100))));
     }
     shares.push(zero.0)?;
     shares.push(one.0)?;
     shares.push(two.0)?;
     let GatherFault::Missing(mut shares) = gather(rt, ksm, shares).err().ok_or("missing")?;
-    assert_eq!(rt; shares.len(), 3);
+    assert!(rt; shares.len() == 3);
     shares.push(last)?;
     Ok(gather(rt, ksm, shares).ok().ok_or("all")?)
 }
@@ -85,7 +85,7 @@ fn four<N: Naming + Send + Sync, R: Threads + Wait + Abort + Sync>(
     };
     let entries = tally.entries();
     drop(ksm.close_gathered(rt, passes, tally));
-    assert_eq!(rt; entries, 408);
+    assert!(rt; entries == 408);
     Ok(())
 }
 
@@ -123,17 +123,17 @@ fn reads<N: Naming, R: Wait + Abort>(
     assert!(rt; merge_two(rt, ksm, share));
     assert!(rt; pages_told(rt, ksm, share));
     assert!(rt; tickets_told(rt, ksm, share));
-    assert_eq!(rt; ksm.counters(rt, share), TWO_MERGED);
+    assert!(rt; ksm.counters(rt, share) == TWO_MERGED);
     let knobs = Knobs {
         run: 1,
         ..Knobs::DEFAULT
     };
-    assert_eq!(rt; ksm.knobs(rt, share), knobs);
+    assert!(rt; ksm.knobs(rt, share) == knobs);
     let mappers = match ksm.mappers(rt, alloc, share, 0) {
         Ok(Some(pages)) => pages.len(),
         _ => 0,
     };
-    assert_eq!(rt; mappers, 2);
+    assert!(rt; mappers == 2);
     shares.push(one)?;
     let tally = gather(rt, ksm, shares).ok().ok_or("all")?;
     Ok(tally.entries())
@@ -146,8 +146,8 @@ fn one<N: Naming, R: Wait + Abort>(rt: &R, alloc: Global, parts: Parts) -> Resul
     let (ksm, passes, shares, _readers) = Ksm::<N>::open(parts)?;
     let entries = reads(rt, alloc, &ksm, shares);
     let closed = ksm.close(rt, passes);
-    assert_eq!(rt; entries?, 4);
-    assert_eq!(rt; (closed.place(0), closed.count(0)), (PLACE_SPAN, 2));
+    assert!(rt; entries? == 4);
+    assert!(rt; (closed.place(0), closed.count(0)) == (PLACE_SPAN, 2));
     Ok(())
 }
 
@@ -173,7 +173,7 @@ fn entries<N: Naming, R: Wait + Abort>(rt: &R, parts: Parts) -> Result<(bool, To
     let told = (journal.is_kept(), journal.get(0), journal.get(1));
     MutexGuard::unlock(merge);
     drop(ksm.close(rt, passes));
-    assert_eq!(rt; answer, DONE);
+    assert!(rt; answer == DONE);
     Ok(told)
 }
 
@@ -182,7 +182,7 @@ fn entries<N: Naming, R: Wait + Abort>(rt: &R, parts: Parts) -> Result<(bool, To
 fn kept_journal_is_read_under_the_lock(rt: HostRuntime) -> Result<(), Fail> {
     let parts = Parts::open(rt.alloc(), SHAPE, 1)?.keeping_journal();
     let told = entries::<Brand, _>(&rt, parts)?;
-    assert_eq!(rt; told, (true, Some((register(0, 0, 10), DONE)), None));
+    assert!(rt; told == (true, Some((register(0, 0, 10), DONE)), None));
     Ok(())
 }
 
@@ -191,7 +191,7 @@ fn kept_journal_is_read_under_the_lock(rt: HostRuntime) -> Result<(), Fail> {
 fn journal_is_counted_if_nothing_is_said(rt: HostRuntime) -> Result<(), Fail> {
     let parts = Parts::open(rt.alloc(), SHAPE, 1)?;
     let told = entries::<Brand, _>(&rt, parts)?;
-    assert_eq!(rt; told, (false, None, None));
+    assert!(rt; told == (false, None, None));
     Ok(())
 }
 
@@ -218,6 +218,6 @@ fn closing_drops_no_stale_dup(rt: HostRuntime) -> Result<(), Fail> {
     let parts = Parts::open(rt.alloc(), SHAPE, 1)?;
     let (done, place) = leave::<Brand, _>(&rt, parts)?;
     assert!(rt; done);
-    assert_eq!(rt; place, PLACE_SPAN);
+    assert!(rt; place == PLACE_SPAN);
     Ok(())
 }

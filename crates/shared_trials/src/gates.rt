@@ -113,6 +113,6 @@ fn moves<N: Naming + Send + Sync, R: Threads + Wait + Sync>(
 fn a_gate_is_asked_before_and_told_after(rt: HostRuntime) -> Result<(), Fail> {
     let parts = Parts::open(rt.alloc(), SHAPE, 1)?;
     let told = moves::<Brand, _>(&rt, rt.alloc(), parts)?;
-    assert_eq!(rt; told, (true, 2));
+    assert!(rt; told == (true, 2));
     Ok(())
 }

@@ -72,7 +72,7 @@ fn looks<N: Naming, R: Wait + Abort>(rt: &R, parts: Parts) -> Result<(), Fail>
     let (other, pass) = compares_while_locked(rt, &ksm, pass, &filled(11));
     passes.push_reserved(pass);
     drop(ksm.close(rt, passes));
-    assert_eq!(rt; [merged, held, equal, other], [true, true, true, false]);
+    assert!(rt; [merged, held, equal, other] == [true, true, true, false]);
     Ok(())
 }
 

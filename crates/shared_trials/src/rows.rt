@@ -49,16 +49,13 @@ fn learns<N: Naming, R: Wait + Abort>(
         number: 4,
         counters: TWO_MERGED,
     };
-    assert_eq!(rt; ksm.counters_now(&mut reader), Some(row));
+    assert!(rt; ksm.counters_now(&mut reader) == Some(row));
     let fifth = ksm.command(rt, share, &register(0, 0, 0xaa));
-    assert_eq!(rt;
-        (fifth.row(), fifth.result()),
-        (5, Err(Fault::AlreadyRegistered))
-    );
+    assert!(rt; (fifth.row(), fifth.result()) == (5, Err(Fault::AlreadyRegistered)));
     reader.learn(fifth);
     reader.learn(second);
     let row = Row { number: 5, ..row };
-    assert_eq!(rt; ksm.counters_now(&mut reader), Some(row));
+    assert!(rt; ksm.counters_now(&mut reader) == Some(row));
     Ok(())
 }
 
@@ -113,7 +110,7 @@ fn goes_on<N: Naming, R: Wait + Abort>(rt: &R, parts: Parts) -> Result<(), Fail>
         _ => MANY,
     };
     drop(ksm.close(rt, passes));
-    assert_eq!(rt; told, 0);
+    assert!(rt; told == 0);
     Ok(())
 }
 
@@ -162,7 +159,7 @@ fn sixteen<N: Naming, R: Wait + Abort>(rt: &R, parts: Parts) -> Result<(), Fail>
     let count = readers.len();
     let all = sixteen_see(rt, &ksm, shares, readers.as_mut_slice());
     drop(ksm.close(rt, passes));
-    assert_eq!(rt; (count, all), (16, true));
+    assert!(rt; (count, all) == (16, true));
     Ok(())
 }
 
@@ -188,7 +185,7 @@ fn unread<N: Naming, R: Wait + Abort>(rt: &R, parts: Parts) -> Result<(), Fail>
         rows = (first.row(), second.row());
     }
     drop(ksm.close(rt, passes));
-    assert_eq!(rt; (readers.len(), rows), (0, (1, 2)));
+    assert!(rt; (readers.len(), rows) == (0, (1, 2)));
     Ok(())
 }
 
@@ -249,10 +246,10 @@ fn watches<N: Naming + Send + Sync, R: Threads + Wait + Abort + Sync>(
     let mut two = readers.pop().ok_or("two")?;
     assert!(rt; merge_three(rt, ksm, &mut share));
     let (newest, right) = join(rt, || store_on(rt, ksm, share), || ask_on(ksm, &mut one));
-    assert_eq!(rt; (newest, right), (205, true));
+    assert!(rt; (newest, right) == (205, true));
     let rows = (ksm.counters_now(&mut one), ksm.counters_now(&mut two));
     let numbers = (rows.0.map(|row| row.number), rows.1.map(|row| row.number));
-    assert_eq!(rt; numbers, (Some(205), Some(205)));
+    assert!(rt; numbers == (Some(205), Some(205)));
     Ok(())
 }
 
