@@ -1,18 +1,11 @@
 -- An item that comes in, and a part that changes or is cut in two: what that is for all items.
-use Rattle.std.proofs.Common.{◌≡◌, ℕ, ◌+◌, ◌-◌, ◌<◌, ◌≤◌, Bool, true, false, List, [], ◌∷◌, ◌++◌, length, get_or, take, drop, refl, ap, arith, add-one, length-set}
-use Rattle.std.specs.Prelude.{◌≢◌, ◌==◌, All, cond, flat_map, if◌then◌else◌, insert, remove, set}
+use Rattle.ksm_order.proofs.Names.{[], add-one, All, All-append, All-cons, All-drop, All-nil, All-take, AllPairs-filter, ap, append-nil, append_assoc, AreAscending, AreBefore, AreBehind, AreParts}
+use Rattle.ksm_order.proofs.Names.{arith, begins_behind, Bool, cond, drop, drop-set-lt, drop_at, false, flat_map, flat_map-append, get_or, get_or-insert_at, get_or-map, if◌then◌else◌, insert, is_at}
+use Rattle.ksm_order.proofs.Names.{IsCounted, IsCut, IsPartOf, Item, length, length-append, length-drop, length-insert, length-map, length-set, length-take-le, List, many, nat_tests, nil_from_length}
+use Rattle.ksm_order.proofs.Names.{refl, remove, set, set_split, take, take-append-drop, take-set, take_at, true, with_item, with_mark, without, ℕ, ◌++◌, ◌+◌, ◌-◌, ◌<◌, ◌==◌, ◌∷◌, ◌≡◌, ◌≢◌, ◌≤◌}
 use Rattle.std.specs.Int.{from_bool}
-use Rattle.std.proofs.lemmas.Bool.Decides.{nat_tests}
-use Rattle.std.proofs.lemmas.List.{append-nil, append_assoc, drop-set-lt, drop_at, get_or-map, length-append, length-drop, length-map, length-take-le}
-use Rattle.std.proofs.lemmas.List.{nil_from_length, set_split, take-append-drop, take-set, take_at}
-use Rattle.std.proofs.lemmas.List.Concat.{flat_map-append}
-use Rattle.std.proofs.lemmas.List.Elements.{All-append, All-cons, All-drop, All-nil, All-take}
-use Rattle.std.proofs.lemmas.List.Edits.{get_or-insert_at, length-insert}
 use Rattle.std.proofs.lemmas.Grind.{take-set_at}
-use Rattle.std.proofs.lemmas.List.Kept.{AllPairs-filter}
 use Rattle.std.proofs.lemmas.List.Sums.{sum_by-remove}
-use Rattle.ksm_order.specs.declared.item.Item.{Item}
-use Rattle.ksm_order.specs.Listed.{AreAscending, AreBefore, AreBehind, AreParts, begins_behind, is_at, IsCounted, IsCut, IsPartOf, many, with_item, with_mark, without}
 use Rattle.ksm_order.proofs.Places.{with_rises}
 use Rattle.ksm_order.proofs.Parts.{ahead_of, behind_of, cut, front, halves_rise, many-append, mark_between, rest, with_between}
 use Rattle.ksm_order.proofs.Ordered.{numbers_ordered, without_between}

@@ -1,3 +1,4 @@
+pub mod Names
 pub mod Parts
 pub mod Changes
 pub mod Moved

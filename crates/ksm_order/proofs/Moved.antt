@@ -1,9 +1,6 @@
 -- One more element of a list, and those behind it moved up by one: it is put in.
-use Rattle.std.proofs.Common.{◌≡◌, ℕ, ◌+◌, ◌-◌, ◌<◌, ◌≤◌, List, [], ◌∷◌, ◌++◌, add-one, ap, arith, drop, get_or, length, sym, take, ◌∙◌}
-use Rattle.std.specs.Prelude.{insert, remove, set}
-use Rattle.std.specs.List.{copy_within}
-use Rattle.std.proofs.Math.Seq.{take-append_seam, take-suc}
-use Rattle.std.proofs.lemmas.List.{append-nil, append_assoc, drop-drop, drop-take, drop_all, length-append, length-drop, length-take-le, set_at, take-append-le}
+use Rattle.ksm_order.proofs.Names.{[], add-one, ap, append-nil, append_assoc, arith, copy_within, drop, drop-drop, drop-take, drop_all, get_or, insert, length, length-append, length-drop}
+use Rattle.ksm_order.proofs.Names.{length-take-le, List, remove, set, set_at, sym, take, take-append-le, take-append_seam, take-suc, ℕ, ◌++◌, ◌+◌, ◌-◌, ◌<◌, ◌∙◌, ◌∷◌, ◌≡◌, ◌≤◌}
 
 -- one more behind a list, the elements from an index on moved up by one, and that one written there: it is put in
 pub moved_up : {X : Type 0} (xs : List X) (at : ℕ) (x : X) → at ≤ length xs → set (copy_within (xs ++ x ∷ []) at (length xs) (at + 1)) at x ≡ insert xs at x

@@ -1,13 +1,7 @@
 -- Lists in a strict order of their keys: the parts in front of a key and behind it, and the list with an element of the key and
 -- without.
-use Rattle.std.proofs.Common.{◌≡◌, suc, Bool, true, false, List, [], ◌∷◌, ◌++◌, refl, arith, Option, None, Some, is_some}
-use Rattle.std.specs.Prelude.{◌==◌, nat_lt, find, not, All, AllPairs, filter}
-use Rattle.std.specs.List.{list_any}
-use Rattle.std.proofs.lemmas.List.Elements.{filter-append, filter_passes}
-use Rattle.std.proofs.lemmas.List.Kept.{AllPairs-filter}
-use Rattle.ksm_base.proofs.Edits.{find_none, find_nothing, find_passes}
-use Rattle.ksm_base.proofs.Orders.{pairs_tail, pairs_with, filter_none}
-use Rattle.ksm_base.proofs.RowCounts.{filter_all}
+use Rattle.ksm_order.proofs.Names.{[], All, AllPairs, AllPairs-filter, arith, Bool, false, filter, filter-append, filter_all, filter_none, filter_passes, find, find_none, find_nothing, find_passes}
+use Rattle.ksm_order.proofs.Names.{is_some, List, list_any, nat_lt, None, not, Option, pairs_tail, pairs_with, refl, Some, suc, true, ◌++◌, ◌==◌, ◌∷◌, ◌≡◌}
 
 -- a strict order, with the test that tells equal elements
 pub record IsOrder {X : Type 0} (before same : X → X → Bool) : Type 0 where

@@ -1,20 +1,11 @@
 -- A list in order that is cut in three, what comes before a key, the part in which the key is or would be, and what comes
 -- behind it: each call answers of the list what it answers of that part. And parts side by side, one of them that of a key.
-use Rattle.std.proofs.Common.{[], ap, arith, Bool, drop, false, get_or, length, List, None, refl, suc, take, true, zero, ℕ, ◌++◌, ◌+◌, ◌-◌, ◌<◌, ◌∷◌, ◌≡◌, ◌≤◌}
-use Rattle.std.specs.Prelude.{All, cond, filter, find, flat_map, nat_lt, set, slice_get, ◌&&◌, ◌≢◌}
+use Rattle.ksm_order.proofs.Names.{[], All, All-tail, ap, append-nil, append_assoc, AreAscending, AreBefore, AreBehind, AreParts, arith, begins_behind, Bool, cond, count-append, count_more, drop}
+use Rattle.ksm_order.proofs.Names.{drop_more, false, filter, filter-append, find, find-append, flat_map, flat_map-append, get_or, get_or-append-add, get_or_append_left, is_at, is_from, IsHere}
+use Rattle.ksm_order.proofs.Names.{IsPartOf, IsPlace, Item, key_at, length, length-append, length-drop, length-take-le, List, many, map-append, marked, nat_lt, nat_tests, None, refl, set, set_split}
+use Rattle.ksm_order.proofs.Names.{slice_get, slice_get-get_or, slice_get_past, suc, take, take-append-drop, true, up_to, with_item, with_mark, zero, ℕ, ◌&&◌, ◌++◌, ◌+◌, ◌-◌, ◌<◌, ◌∷◌, ◌≡◌, ◌≢◌, ◌≤◌}
 use Rattle.std.specs.Option.{option_or}
-use Rattle.std.proofs.lemmas.Bool.Decides.{nat_tests}
-use Rattle.std.proofs.lemmas.List.{append-nil, append_assoc, drop_more, get_or-append-add, get_or_append_left, length-append, length-drop, length-take-le, map-append, set_split}
-use Rattle.std.proofs.lemmas.List.{take-append-drop}
-use Rattle.std.proofs.lemmas.List.Concat.{flat_map-append}
-use Rattle.std.proofs.lemmas.List.Elements.{All-tail, filter-append}
 use Rattle.std.proofs.lemmas.List.Sums.{count_by-le-length, length-filter}
-use Rattle.ksm_order.specs.declared.item.Item.{Item}
-use Rattle.ksm_order.specs.Listed.{AreAscending, AreBefore, AreBehind, AreParts, begins_behind, is_at, is_from, IsPartOf, key_at, many, marked, up_to, with_item, with_mark}
-use Rattle.std.proofs.lemmas.List.Folds.{find-append}
-use Rattle.std.proofs.lemmas.Option.{slice_get-get_or, slice_get_past}
-use Rattle.ksm_base.proofs.Edits.{count-append, count_more}
-use Rattle.ksm_order.specs.Places.{IsHere, IsPlace}
 use Rattle.ksm_order.proofs.Ordered.{absent_parts, numbers_ordered}
 use Rattle.ksm_order.proofs.Places.{before_here, behind_here, cut_here, from_there, high, in_front, low}
 

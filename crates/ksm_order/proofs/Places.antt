@@ -1,17 +1,9 @@
 -- The place of a key in a list whose keys do not fall: what stands in front of it and behind, what an insert and a removal there
 -- leave.
-use Rattle.std.proofs.Common.{refl, ◌≡◌, ℕ, ◌+◌, ◌<◌, ◌≤◌, Bool, false, List, ◌∷◌, ◌++◌, [], length, get_or, take, drop, sym, ap, ◌∙◌, arith, Some, inl, inr}
-use Rattle.std.specs.Prelude.{◌==◌, All, AllPairs, filter, find, insert, nat_lt, not, remove}
-use Rattle.std.specs.List.{list_any}
+use Rattle.ksm_order.proofs.Names.{[], All, AllPairs, ap, append-nil, AreInOrder, arith, Bool, drop, drop_more, false, filter, filter-append, filter_all, filter_none, find, find-append, find_nothing}
+use Rattle.ksm_order.proofs.Names.{get_or, get_or-drop, get_or-take, get_or_default, inl, inr, insert, IsHere, IsPlace, length, length-drop, length-take-le, List, list_any, list_any_at, list_any_none}
+use Rattle.ksm_order.proofs.Names.{nat_lt, nat_tests, not, refl, remove, Some, sym, take, take-append-drop, ℕ, ◌++◌, ◌+◌, ◌<◌, ◌==◌, ◌∙◌, ◌∷◌, ◌≡◌, ◌≤◌}
 use Rattle.std.proofs.lemmas.Bool.{cases_Bool, ltb-true}
-use Rattle.std.proofs.lemmas.Bool.Decides.{nat_tests}
-use Rattle.std.proofs.lemmas.List.{append-nil, drop_more, get_or-drop, get_or-take, get_or_default, length-drop, length-take-le, take-append-drop}
-use Rattle.std.proofs.lemmas.List.Elements.{filter-append}
-use Rattle.std.proofs.lemmas.List.Folds.{find-append, list_any_at, list_any_none}
-use Rattle.ksm_base.proofs.Edits.{find_nothing}
-use Rattle.ksm_base.proofs.Orders.{filter_none}
-use Rattle.ksm_base.proofs.RowCounts.{filter_all}
-use Rattle.ksm_order.specs.Places.{AreInOrder, IsHere, IsPlace}
 use Rattle.ksm_order.proofs.Ordered.{numbers_ordered, with_rises as with_rises_by, without_between}
 
 -- whether an element comes before a key, comes behind it, or is of it

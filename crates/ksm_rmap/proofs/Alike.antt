@@ -1,9 +1,5 @@
 -- A list that a map makes of another: what is kept of it, and its order.
-use Rattle.std.proofs.Common.{◌≡◌, Bool, List, [], ◌∷◌, arith, get_or, map, refl, suc}
-use Rattle.std.specs.Prelude.{All, AllPairs, filter}
-use Rattle.std.proofs.lemmas.List.Elements.{All-head, All-map, All-tail}
-use Rattle.std.proofs.lemmas.List.Kept.{AllPairs-cons}
-use Rattle.ksm_base.proofs.Orders.{pairs_head, pairs_tail}
+use Rattle.ksm_order.proofs.Names.{[], All, All-head, All-map, All-tail, AllPairs, AllPairs-cons, arith, Bool, filter, get_or, List, map, pairs_head, pairs_tail, refl, suc, ◌∷◌, ◌≡◌}
 
 module _ {X Y : Type 0} (g : X → Y) (p : Y → Bool) (q : X → Bool) where
   -- where two tests agree across a map, those kept of the mapped list are the images of those kept before

@@ -1,11 +1,6 @@
 -- The pages of a dup and their keys: what is asked and changed of the pages is asked and changed of the keys.
-use Rattle.std.proofs.Common.{◌≡◌, ℕ, ◌<◌, ◌^◌, List, [], ◌∷◌, arith, map, refl, true}
-use Rattle.std.specs.Prelude.{◌==◌, nat_lt}
-use Rattle.std.specs.List.{list_any}
-use Rattle.std.proofs.lemmas.Bool.Decides.{nat_tests}
-use Rattle.std.proofs.lemmas.List.{map-append}
+use Rattle.ksm_order.proofs.Names.{[], arith, comes_before, List, list_any, map, map-append, nat_lt, nat_tests, refl, same_page, true, ℕ, ◌<◌, ◌==◌, ◌^◌, ◌∷◌, ◌≡◌}
 use Rattle.ksm_base.specs.declared.page.GuestPage.{GuestPage}
-use Rattle.ksm_base.specs.Rows.{comes_before, same_page}
 use Rattle.ksm_rmap.specs.Items.{AreAscending, has_item, with_item, without_item}
 use Rattle.ksm_rmap.specs.Keys.{AreKeys, key_of, page_of, with_key, without_key}
 use Rattle.ksm_rmap.proofs.Alike.{filter_mapped, pairs_mapped}

@@ -1,9 +1,5 @@
 -- The order of guest pages, and a list that is written back.
-use Rattle.std.proofs.Common.{◌≡◌, ◌++◌, ◌∙◌, List, arith, drop, length, sym, take}
-use Rattle.std.proofs.Math.Seq.{take-append_seam}
-use Rattle.std.proofs.lemmas.Bool.Decides.{nat_tests}
-use Rattle.std.specs.List.{refill}
-use Rattle.ksm_base.specs.Rows.{comes_before, same_page}
+use Rattle.ksm_order.proofs.Names.{arith, comes_before, drop, length, List, nat_tests, refill, same_page, sym, take, take-append_seam, ◌++◌, ◌∙◌, ◌≡◌}
 use Rattle.ksm_order.proofs.Ordered.{IsOrder}
 
 -- pages have an order by guest and page

@@ -1,6 +1,4 @@
-use Rattle.std.proofs.Common.{drop, ◌+◌, ◌≡◌}
-use Rattle.std.specs.Prelude.{flat_map}
-use Rattle.ksm_order.specs.Listed.{many}
+use Rattle.ksm_order.proofs.Names.{drop, flat_map, many, ◌+◌, ◌≡◌}
 use Rattle.ksm_order.proofs.node.count_marked.Given as goal
 
 -- those counted and those of the parts ahead are all

@@ -1,8 +1,7 @@
-use Rattle.std.proofs.Common.{arith}
-use Rattle.ksm_order.specs.Listed.{AreParts, IsPartOf}
+use Rattle.ksm_order.proofs.Names.{AreParts, arith, IsPartOf}
 use Rattle.ksm_order.proofs.Changes.{into_first, into_second, same_part, split}
-use Rattle.ksm_order.proofs.node.make_room.Goals as goal
 use Rattle.ksm_order.proofs.node.make_room.Goals.{After-spill}
+use Rattle.ksm_order.proofs.node.make_room.Goals as goal
 
 are : (g : _) (c : After-spill g) → AreParts g.P.Part.items c.reserve.new.self.items
 are g c = rw c.in_ok-reserve.ensures.items c.requires.parts

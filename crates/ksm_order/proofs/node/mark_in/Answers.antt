@@ -1,5 +1,4 @@
-use Rattle.std.proofs.Common.{ap, arith, length}
-use Rattle.std.proofs.lemmas.List.{length-map, nil_from_length, get_or-set_same, get_or_default}
+use Rattle.ksm_order.proofs.Names.{ap, arith, get_or-set_same, get_or_default, length, length-map, nil_from_length}
 use Rattle.ksm_order.proofs.Changes.{local_mark, set_part}
 use Rattle.ksm_order.proofs.Parts.{few_in_part}
 use Rattle.ksm_order.proofs.node.mark_in.Goals as goal

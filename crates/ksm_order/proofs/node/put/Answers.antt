@@ -1,4 +1,4 @@
-use Rattle.std.proofs.Common.{ap, arith, length, length-append}
+use Rattle.ksm_order.proofs.Names.{ap, arith, length, length-append}
 use Rattle.ksm_order.proofs.Changes.{local_with, same_part, set_part}
 use Rattle.ksm_order.proofs.node.put.Goals as goal
 

@@ -1,5 +1,4 @@
-use Rattle.std.proofs.Common.{arith}
-use Rattle.std.proofs.lemmas.List.{drop_all}
+use Rattle.ksm_order.proofs.Names.{arith, drop_all}
 use Rattle.ksm_order.proofs.Parts.{ahead_of, behind_later, behind_of}
 use Rattle.ksm_order.proofs.node.search.Goals as goal
 

@@ -1,7 +1,4 @@
-use Rattle.std.proofs.Common.{ℕ, List, length, take, drop, ◌-◌, ◌≤◌}
-use Rattle.std.specs.Prelude.{flat_map}
-use Rattle.ksm_order.specs.declared.item.Item.{Item}
-use Rattle.ksm_order.specs.Listed.{AreBefore, AreBehind}
+use Rattle.ksm_order.proofs.Names.{AreBefore, AreBehind, drop, flat_map, Item, length, List, take, ℕ, ◌-◌, ◌≤◌}
 use Rattle.ksm_order.proofs.node.search.Given as goal
 
 -- the parts in front of the last below `low` come before the key, and those from `high` on come behind it

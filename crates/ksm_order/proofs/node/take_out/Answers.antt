@@ -1,6 +1,4 @@
-use Rattle.std.proofs.Common.{arith, sym, ◌∙◌, []}
-use Rattle.std.proofs.lemmas.List.{nil_from_length, drop-set-lt, get_or-set_same, take-set}
-use Rattle.std.proofs.lemmas.Bool.Decides.{nat_tests}
+use Rattle.ksm_order.proofs.Names.{[], arith, drop-set-lt, get_or-set_same, nat_tests, nil_from_length, sym, take-set, ◌∙◌}
 use Rattle.ksm_order.proofs.Changes.{local_without, replaced, set_part}
 use Rattle.ksm_order.proofs.node.take_out.Goals as goal
 

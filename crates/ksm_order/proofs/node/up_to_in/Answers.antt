@@ -1,5 +1,4 @@
-use Rattle.std.proofs.Common.{arith}
-use Rattle.std.specs.Prelude.{flat_map}
+use Rattle.ksm_order.proofs.Names.{arith, flat_map}
 use Rattle.ksm_order.proofs.Parts.{up_to_few, up_to_in_part}
 use Rattle.ksm_order.proofs.node.up_to_in.Goals as goal
 

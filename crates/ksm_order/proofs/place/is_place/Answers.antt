@@ -1,5 +1,4 @@
-use Rattle.std.proofs.Common.{arith, ℕ, ◌-◌}
-use Rattle.std.proofs.lemmas.List.{get_or_default}
+use Rattle.ksm_order.proofs.Names.{arith, get_or_default, ℕ, ◌-◌}
 use Rattle.ksm_order.proofs.place.is_place.Goals as goal
 
 pub returns-then-at-items-2-clause-place : goal.returns-then-at-items-2-clause-place

@@ -1,6 +1,4 @@
-use Rattle.std.proofs.Common.{arith}
-use Rattle.std.specs.Prelude.{◌==◌}
-use Rattle.std.proofs.lemmas.List.Folds.{list_any_none}
+use Rattle.ksm_order.proofs.Names.{arith, list_any_none, ◌==◌}
 use Rattle.ksm_order.proofs.Places.{none_there, told_there}
 use Rattle.ksm_order.proofs.place.stands_at.Goals as goal
 

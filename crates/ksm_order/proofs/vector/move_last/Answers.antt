@@ -1,5 +1,4 @@
-use Rattle.std.proofs.Common.{arith, ◌∷◌, [], length-append}
-use Rattle.std.proofs.Math.Seq.{get_or-append_seam}
+use Rattle.ksm_order.proofs.Names.{[], arith, get_or-append_seam, length-append, ◌∷◌}
 use Rattle.ksm_order.proofs.Moved.{moved_up}
 use Rattle.ksm_order.proofs.vector.move_last.Goals as goal
 

@@ -1,4 +1,4 @@
-use Rattle.std.proofs.Common.{arith}
+use Rattle.ksm_order.proofs.Names.{arith}
 use Rattle.ksm_order.proofs.Places.{find_here}
 use Rattle.ksm_order.proofs.leaf.LeafPart.find.Goals as goal
 

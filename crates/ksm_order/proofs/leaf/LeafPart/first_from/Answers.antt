@@ -1,5 +1,4 @@
-use Rattle.std.proofs.Common.{arith}
-use Rattle.std.proofs.lemmas.Option.{slice_get_past}
+use Rattle.ksm_order.proofs.Names.{arith, slice_get_past}
 use Rattle.ksm_order.proofs.Parts.{from_place}
 use Rattle.ksm_order.proofs.leaf.LeafPart.first_from.Goals as goal
 

@@ -1,6 +1,4 @@
-use Rattle.std.proofs.Common.{arith, ◌≡◌}
-use Rattle.ksm_order.specs.Listed.{is_at, with_item}
-use Rattle.ksm_base.proofs.Edits.{find_none}
+use Rattle.ksm_order.proofs.Names.{arith, find_none, is_at, with_item, ◌≡◌}
 use Rattle.ksm_order.proofs.Parts.{many_with}
 use Rattle.ksm_order.proofs.Places.{insert_here, with_rises}
 use Rattle.ksm_order.proofs.Changes.{byte_of}

@@ -1,7 +1,6 @@
-use Rattle.std.proofs.Common.{arith, rules, tests}
+use Rattle.ksm_order.proofs.Names.{arith, Item, rules, tests}
 use Rattle.std.proofs.lemmas.Iterator.{YieldsList-from_slice}
 use Rattle.std.proofs.lemmas.Iterator.Consumers.{nth_from_yields_List, YieldsList-from_filter}
-use Rattle.ksm_order.specs.declared.item.Item.{Item}
 use Rattle.ksm_order.proofs.leaf.LeafPart.nth.Goals as goal
 
 pub returns-in-Some : goal.returns-in-Some

@@ -1,12 +1,9 @@
-use Rattle.std.proofs.Common.{◌∙◌, ◌≡◌, ◌<◌, arith}
-use Rattle.ksm_order.specs.Listed.{without}
-use Rattle.std.proofs.lemmas.List.Kept.{AllPairs-filter}
-use Rattle.ksm_order.specs.declared.item.Item.{Item}
+use Rattle.ksm_order.proofs.Names.{AllPairs-filter, arith, Item, without, ◌<◌, ◌∙◌, ◌≡◌}
 use Rattle.ksm_order.proofs.Changes.{removed_counted}
 use Rattle.ksm_order.proofs.Ordered.{absent_kept, numbers_ordered}
 use Rattle.ksm_order.proofs.Places.{remove_here}
-use Rattle.ksm_order.proofs.leaf.LeafPart.remove.Goals as goal
 use Rattle.ksm_order.proofs.leaf.LeafPart.remove.Goals.{After-remove-gone}
+use Rattle.ksm_order.proofs.leaf.LeafPart.remove.Goals as goal
 
 -- the item is taken away
 gone : (c : After-remove-gone) → c.remove-gone.new.self.items ≡ without c.args.key c.self.inside.items.items

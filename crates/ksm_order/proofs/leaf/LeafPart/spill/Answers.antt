@@ -1,4 +1,4 @@
-use Rattle.std.proofs.Common.{arith}
+use Rattle.ksm_order.proofs.Names.{arith}
 use Rattle.ksm_order.proofs.Changes.{counted_cut}
 use Rattle.ksm_order.proofs.leaf.LeafPart.spill.Goals as goal
 

@@ -1,4 +1,4 @@
-use Rattle.std.proofs.Common.{arith}
+use Rattle.ksm_order.proofs.Names.{arith}
 use Rattle.ksm_order.proofs.Parts.{all_in_front, up_to_cut}
 use Rattle.ksm_order.proofs.leaf.LeafPart.up_to.Goals as goal
 

@@ -1,5 +1,4 @@
-use Rattle.std.proofs.Common.{arith}
-use Rattle.std.proofs.lemmas.List.{drop_all}
+use Rattle.ksm_order.proofs.Names.{arith, drop_all}
 use Rattle.ksm_order.proofs.Parts.{from_in_next, from_in_part}
 use Rattle.ksm_order.proofs.node.NodePart.first_from.Goals as goal
 

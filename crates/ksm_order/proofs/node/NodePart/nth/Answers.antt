@@ -1,5 +1,4 @@
-use Rattle.std.proofs.Common.{arith}
-use Rattle.std.proofs.lemmas.Bool.Decides.{nat_tests}
+use Rattle.ksm_order.proofs.Names.{arith, nat_tests}
 use Rattle.ksm_order.proofs.Parts.{nth_cut}
 use Rattle.ksm_order.proofs.node.NodePart.nth.Goals as goal
 

@@ -1,4 +1,4 @@
-use Rattle.std.proofs.Common.{arith}
+use Rattle.ksm_order.proofs.Names.{arith}
 use Rattle.ksm_order.proofs.Changes.{items_cut, parts_cut}
 use Rattle.ksm_order.proofs.node.NodePart.spill.Goals as goal
 

@@ -1,13 +1,6 @@
-use Rattle.std.proofs.Common.{◌≡◌, ◌∙◌, ◌<◌, ◌^◌, arith, length, ℕ}
-use Rattle.std.specs.Prelude.{◌==◌, insert}
-use Rattle.std.specs.List.{refill}
-use Rattle.std.proofs.lemmas.List.{length-map}
-use Rattle.std.proofs.lemmas.List.Edits.{length-insert}
-use Rattle.std.proofs.lemmas.List.Elements.{All-append, All-cons, All-filter}
+use Rattle.ksm_order.proofs.Names.{All-append, All-cons, All-filter, arith, find_none, insert, IsPlace, length, length-insert, length-map, refill, ℕ, ◌<◌, ◌==◌, ◌^◌, ◌∙◌, ◌≡◌}
 use Rattle.ksm_rmap.specs.Keys.{with_key}
 use Rattle.ksm_rmap.proofs.Keys.{has_by_key, with_by_key}
-use Rattle.ksm_base.proofs.Edits.{find_none}
-use Rattle.ksm_order.specs.Places.{IsPlace}
 use Rattle.ksm_order.proofs.Ordered.{none_found}
 use Rattle.ksm_order.proofs.Places.{insert_here, with_rises}
 use Rattle.ksm_rmap.proofs.Pages.{refilled}

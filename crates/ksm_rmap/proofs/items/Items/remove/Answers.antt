@@ -1,13 +1,6 @@
-use Rattle.std.proofs.Common.{◌≡◌, ◌∙◌, ◌<◌, ◌^◌, ap, arith, length, refl, ℕ}
-use Rattle.std.specs.Prelude.{remove}
-use Rattle.std.specs.List.{refill}
-use Rattle.std.proofs.lemmas.List.Edits.{length-remove}
-use Rattle.std.proofs.lemmas.List.Elements.{All-filter}
-use Rattle.ksm_base.specs.Rows.{same_page}
+use Rattle.ksm_order.proofs.Names.{All-filter, AllPairs-filter, ap, arith, IsHere, length, length-remove, refill, refl, remove, same_page, ℕ, ◌<◌, ◌^◌, ◌∙◌, ◌≡◌}
 use Rattle.ksm_rmap.specs.Keys.{without_key}
 use Rattle.ksm_rmap.proofs.Keys.{has_by_key, without_by_key}
-use Rattle.std.proofs.lemmas.List.Kept.{AllPairs-filter}
-use Rattle.ksm_order.specs.Places.{IsHere}
 use Rattle.ksm_order.proofs.Ordered.{absent_kept, none_found}
 use Rattle.ksm_order.proofs.Places.{remove_here}
 use Rattle.ksm_rmap.proofs.Pages.{pages_ordered, refilled}
