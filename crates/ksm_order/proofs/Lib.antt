@@ -1,6 +1,5 @@
 pub mod Names
 pub mod Parts
 pub mod Changes
-pub mod Moved
 pub mod Ordered
 pub mod Places

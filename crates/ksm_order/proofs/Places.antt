@@ -1,9 +1,10 @@
 -- The place of a key in a list whose keys do not fall: what stands in front of it and behind, what an insert and a removal there
--- leave.
-use Rattle.ksm_order.proofs.Names.{[], All, AllPairs, ap, append-nil, AreInOrder, arith, Bool, drop, drop_more, false, filter, filter-append, filter_all, filter_none, find, find-append, find_nothing}
-use Rattle.ksm_order.proofs.Names.{get_or, get_or-drop, get_or-take, get_or_default, inl, inr, insert, IsHere, IsPlace, length, length-drop, length-take-le, List, list_any, list_any_at, list_any_none}
-use Rattle.ksm_order.proofs.Names.{nat_lt, nat_tests, not, refl, remove, Some, sym, take, take-append-drop, ℕ, ◌++◌, ◌+◌, ◌<◌, ◌==◌, ◌∙◌, ◌∷◌, ◌≡◌, ◌≤◌}
-use Rattle.std.proofs.lemmas.Bool.{cases_Bool, ltb-true}
+-- leave, and how the others move for these.
+use Rattle.ksm_order.proofs.Names.{[], add-one, All, AllPairs, ap, append-nil, append_assoc, AreInOrder, arith, Bool, copy_within, drop, drop-drop, drop-take, drop_all, drop_more, false, filter}
+use Rattle.ksm_order.proofs.Names.{filter-append, filter_all, filter_none, find, find-append, find_nothing, get_or, get_or-drop, get_or-take, get_or_default, inl, inr, insert, IsHere, IsPlace, length}
+use Rattle.ksm_order.proofs.Names.{length-append, length-drop, length-take-le, List, list_any, list_any_at, list_any_none, ltb-true, nat_lt, nat_tests, not, refl, remove, set, set_at, Some, sym, take}
+use Rattle.ksm_order.proofs.Names.{take-append-drop, take-append-le, take-append_seam, take-suc, ℕ, ◌++◌, ◌+◌, ◌-◌, ◌<◌, ◌==◌, ◌∙◌, ◌∷◌, ◌≡◌, ◌≤◌}
+use Rattle.std.proofs.lemmas.Bool.{cases_Bool}
 use Rattle.ksm_order.proofs.Ordered.{numbers_ordered, with_rises as with_rises_by, without_between}
 
 -- whether an element comes before a key, comes behind it, or is of it
@@ -95,3 +96,20 @@ pub with_rises : {X : Type 0} (key_of : X → ℕ) (x : X) (xs : List X) → All
     → AllPairs (λ y z. key_of y < key_of z) (filter (low key_of (key_of x)) xs ++ x ∷ filter (high key_of (key_of x)) xs)
 with_rises key_of x xs rise i j d less lt =
     ltb-true _ _ (with_rises_by numbers_ordered key_of (key_of x) x xs refl (λ k l e lower le. grind (arith, nat_tests, rise k l e)) i j d less lt)
+
+-- one more behind a list, the elements from an index on moved up by one, and that one written there: it is put in
+pub moved_up : {X : Type 0} (xs : List X) (at : ℕ) (x : X) → at ≤ length xs → set (copy_within (xs ++ x ∷ []) at (length xs) (at + 1)) at x ≡ insert xs at x
+moved_up xs at x within =
+    let l = xs ++ x ∷ [] in
+    let many = length-append xs (x ∷ []) in
+    let back : take (length xs - at) (drop at l) ≡ drop at xs =
+    sym (drop-take at _ l) ∙ ap (λ n. drop at (take n l)) (omega arith) ∙ ap (drop at) (take-append_seam xs (x ∷ [])) in
+    grind (arith, back, add-one at, take-suc l at x, take-append-le at xs (x ∷ []), drop_all, append-nil, append_assoc, set_at (take at xs) (get_or l at x) (drop at xs) x at (length-take-le at xs within))
+
+-- the elements from one on turned by it, without the last: the element is taken out
+pub turned_down : {X : Type 0} (xs : List X) (at : ℕ) → at < length xs
+    → take (length xs - 1) (take at xs ++ (drop 1 (drop at xs) ++ take 1 (drop at xs))) ≡ remove xs at
+turned_down xs at within =
+    let kept = take at xs ++ drop (at + 1) xs in
+    let long : length xs - 1 ≡ length kept = grind (arith, length-append (take at xs) (drop (at + 1) xs), length-take-le at xs, length-drop (at + 1) xs) in
+    grind (arith, drop-drop 1 at xs, append_assoc, take-append_seam kept (take 1 (drop at xs)), add-one at)

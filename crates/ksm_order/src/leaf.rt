@@ -184,10 +184,8 @@ impl Part for Leaf {
     fn nth(&self, place: usize) -> Option<u64> {
         let items = self.items.as_slice();
         if self.count < items.len() {
-            return match items.iter().filter(|item| item.marked).nth(place) {
-                Some(item) => Some(item.key),
-                None => None,
-            };
+            let mut marked = items.iter().filter(|item| item.marked);
+            return marked.nth(place).map(|item| item.key);
         }
         if place < items.len() {
             Some(items[place].key)

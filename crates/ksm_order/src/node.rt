@@ -326,6 +326,7 @@ impl<P: Part> Part for Node<P> {
         up_to_in(self.parts.as_slice(), self.last, self.count, key)
     }
 
+    #[tactic(auto, using(crate::proofs::Parts::nth_cut, std::proofs::lemmas::Bool::Decides::nat_tests))]
     fn nth(&self, place: usize) -> Option<u64> {
         let parts = self.parts.as_slice();
         let mut left = place;

@@ -35,7 +35,7 @@ pub fn move_last<T: Copy>(items: &mut [T], at: usize)
 }
 
 /// Those behind an index move down by one, over the element there. What stands in the last place then is not told.
-#[tactic(auto, using(crate::proofs::Moved::turned_down))]
+#[tactic(auto, using(crate::proofs::Places::turned_down))]
 #[inline]
 pub fn move_down<T: Copy>(items: &mut [T], at: usize)
     requires { at < length items.old }

@@ -2,10 +2,6 @@ use Rattle.ksm_order.proofs.Names.{arith, nat_tests}
 use Rattle.ksm_order.proofs.Parts.{nth_cut}
 use Rattle.ksm_order.proofs.node.NodePart.nth.Goals as goal
 
-pub returns-then-left-here : goal.returns-then-left-here
-returns-then-left-here g c =
-    grind (arith, nat_tests, nth_cut g.P.Part.items c.as_slice-parts.result.now _ (omega arith) c.part-item.is c.loop-part.left)
-
 pub loop-part-preserved : goal.loop-part-preserved
 loop-part-preserved g c =
     grind (arith, nat_tests, nth_cut g.P.Part.items c.as_slice-parts.result.now _ (omega arith) c.part-item.is c.loop-part.left)
