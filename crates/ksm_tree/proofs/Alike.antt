@@ -1,6 +1,5 @@
 -- A list that is made of another, element by element: what is searched, kept and counted in it.
-use Rattle.ksm_tree.proofs.Names.{All, arith, Bool, count_by, length-filter, length-map, false, filter, find, get_or, if◌then◌else◌, List, map, option_map, refl, suc, [], ◌∙◌, ◌∷◌, ◌≡◌}
-use Rattle.std.proofs.lemmas.List.{map-id}
+use Rattle.ksm_tree.proofs.Names.{[], All, arith, Bool, count_by, false, filter, find, get_or, if◌then◌else◌, length-filter, length-map, List, map, map-id, option_map, refl, suc, ◌∙◌, ◌∷◌, ◌≡◌}
 pub use Rattle.ksm_rmap.proofs.Alike.{filter_mapped, pairs_mapped}
 
 -- where h is f after g at each element, a map by g and then by f makes the list that h makes

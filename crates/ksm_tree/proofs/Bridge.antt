@@ -1,9 +1,11 @@
 -- Tests over dups with items are the book's tests over rows, where the items are counted.
-use Rattle.ksm_tree.proofs.Names.{[], All, AreCounted, arith, best_dup, best_of, Bool, Choice, choice_of, count_by, Dup, DupRow, DupsState, find, has_items, is_best, is_live, is_some, is_stale}
-use Rattle.ksm_tree.proofs.Names.{item_count, Knobs, length, List, list_all, new_place, option_map, place_in, refl, Row, rows_of, Some, stands_at, suc, tree_of, true, ℕ, ◌&&◌, ◌<◌, ◌==◌, ◌∷◌, ◌≡◌}
+use Rattle.ksm_tree.proofs.Names.{[], All, AreCounted, arith, best_of, Bool, Choice, choice_of, count_by, Dup, DupRow, DupsState, find, has_items, is_best, is_live, is_some, is_stale, item_count}
+use Rattle.ksm_tree.proofs.Names.{length, List, list_all, option_map, place_in, refl, Row, rows_of, Some, stands_at, suc, true, ℕ, ◌&&◌, ◌<◌, ◌==◌, ◌∷◌, ◌≡◌}
+use Rattle.ksm_base.specs.Visit.{best_dup, is_best as is_best_row, new_place}
+use Rattle.ksm_base.specs.declared.knobs.Knobs.{Knobs}
+use Rattle.ksm_base.specs.State.{tree_of}
 use Rattle.ksm_tree.proofs.Alike.{count_mapped, find_mapped}
 use Rattle.ksm_base.specs.Rows.{is_stale as is_stale_row}
-use Rattle.ksm_base.specs.Visit.{is_best as is_best_row}
 
 all_alike : (test : Dup → Bool) (by : DupRow → Bool) (dups : List Dup) → All (λ d. test d ≡ by d.row) dups → list_all test dups ≡ list_all by (rows_of dups)
 all_alike test by [] same = refl

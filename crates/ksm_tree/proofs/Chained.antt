@@ -1,17 +1,18 @@
 -- The dups in their groups: what is found there, and how that stays right with a change of items, with a dup that goes, and with a new one.
-use Rattle.ksm_tree.proofs.Names.{[], absent_kept, All, All-filter, ap, AreChained, AreTotals, arith, Bool, bytes_eq-Decides, cases_Bool, chain_in, chained_of, chains_of, change_at, change_items}
-use Rattle.ksm_tree.proofs.Names.{count-append, count_by, count_by-le-length, count_more, count_none, Dup, dup_at, dup_of, DupRow, dups_seen, DupsState, false, filter, filter_passes, find, find_none}
-use Rattle.ksm_tree.proofs.Names.{find_nothing, get, get_or, Group, group_places, group_size, Groups, GuestPage, has_number, if◌then◌else◌, in_chain, in_group, inl, InPlaceOrder, inr, IsCountedAnew}
-use Rattle.ksm_tree.proofs.Names.{IsMoved, IsRegrouped, leads_group, length, length-filter, length-map, List, list_all, list_all-append, list_all-from_AllPass, MOST_FRAMES, nat_le, nat_lt, nat_tests}
-use Rattle.ksm_tree.proofs.Names.{None, not, number_in, numbers_ordered, Option, pairs_head, pairs_tail, place_of, refl, rows_of, rules, same_group, SameChains, SlotsState, Some, stands_at, subst}
-use Rattle.ksm_tree.proofs.Names.{suc, sym, Tells, Totals, true, with_dup, with_new, with_place, without, without_place, zero, ℕ, ◌&&◌, ◌++◌, ◌+◌, ◌<◌, ◌==◌, ◌||◌, ◌∙◌, ◌∷◌, ◌≡◌, ◌≤◌}
+use Rattle.ksm_tree.proofs.Names.{[], absent_kept, All, All-filter, all_with_dup, ap, AreChained, arith, Bool, bytes_eq-Decides, cases_Bool, chain_in, change_at, change_items, count-append, count_by}
+use Rattle.ksm_tree.proofs.Names.{count_by-le-length, count_more, count_none, Dup, dup_at, dup_of, DupRow, dups_parted as rows_parted, dups_seen, dups_with, DupsState, false, filter, filter_passes}
+use Rattle.ksm_tree.proofs.Names.{find, find_none, find_nothing, found_parts, get, get_or, Group, group_places, GuestPage, has_number, if◌then◌else◌, in_group, inl, InPlaceOrder, inr, IsCountedAnew}
+use Rattle.ksm_tree.proofs.Names.{IsMoved, length, length-filter, length-map, List, list_all, list_all-append, list_all-from_AllPass, Lower, MOST_FRAMES, nat_le, nat_lt, nat_tests, None, none_counted}
+use Rattle.ksm_tree.proofs.Names.{not, number_in, numbers_ordered, Option, ordered_filter, pairs_head, pairs_tail, place_of, refl, rows_of, rules, same_group, SameChains, SlotsState, Some, stands_at}
+use Rattle.ksm_tree.proofs.Names.{subst, suc, sym, true, with_dup, with_new, with_place, without, without_place, zero, ℕ, ◌&&◌, ◌++◌, ◌+◌, ◌<◌, ◌==◌, ◌||◌, ◌∙◌, ◌∷◌, ◌≡◌, ◌≤◌}
+use Rattle.ksm_tree.specs.Totals.{AreTotals, chained_of, chains_of, IsRegrouped, Tells}
+use Rattle.ksm_base.specs.Counting.{group_size, in_chain, leads_group}
+use Rattle.ksm_tree.specs.declared.groups.Groups.{Groups}
+use Rattle.ksm_tree.specs.declared.groups.Totals.{Totals}
 use Rattle.ksm_tree.proofs.Alike.{chosen, count_alike, find_alike, map_alike}
 use Rattle.ksm_tree.proofs.OneSlot.{found_stands}
 use Rattle.ksm_tree.proofs.Rows.{group_joined, group_passed, own_group, self_group}
-use Rattle.ksm_base.proofs.Edits.{none_counted}
-use Rattle.ksm_base.proofs.Orders.{all_with_dup, dups_parted as rows_parted, dups_with, Lower, ordered_filter}
 use Rattle.ksm_tree.proofs.Changes.{all_rows, alone, one_dup, row_found, rows_new, rows_same, rows_without}
-use Rattle.ksm_order.proofs.Ordered.{found_parts}
 
 -- rows count as others do with one row more
 pub record IsMore (r : DupRow) (less more : List DupRow) : Type 0 where

@@ -1,9 +1,8 @@
 -- Dups and their rows: what a dup that comes or goes and a change of items changes of the rows, and where a dup is found.
 use Rattle.ksm_tree.proofs.Names.{All, arith, Bool, change_items, Dup, dup_of, DupRow, filter, find, find_all, find_passes, get_or, get_or-map, GuestPage, has_number, if◌then◌else◌, InPlaceOrder}
-use Rattle.ksm_tree.proofs.Names.{length-map, let_out, List, Lower, map, map-append, Merged, nat_tests, None, not, Option, option_map, PageState, place_of, refl, rows_of, Some, stands_at, subst, true}
-use Rattle.ksm_tree.proofs.Names.{with_dup, with_new, without_place, ℕ, ◌==◌, ◌||◌, ◌≡◌}
+use Rattle.ksm_tree.proofs.Names.{length-map, let_out, List, Lower, map, map-append, Merged, nat_tests, None, not, one_of_each, Option, option_map, PageState, place_of, refl, rows_of, Some, stands_at}
+use Rattle.ksm_tree.proofs.Names.{subst, true, with_dup, with_new, without_place, ℕ, ◌==◌, ◌||◌, ◌≡◌}
 use Rattle.ksm_tree.proofs.Alike.{filter_mapped, find_mapped, map_mapped}
-use Rattle.ksm_base.proofs.Orders.{one_of_each}
 
 -- the row of a new dup is added to the rows
 pub rows_new : (dup : Dup) (dups : List Dup) → rows_of (with_new dup dups) ≡ with_dup dup.row (rows_of dups)

@@ -1,12 +1,11 @@
 -- The best dup to join: a walk over a group, keeping the better of two, ends at the one that the definition chooses of all.
-use Rattle.ksm_tree.proofs.Names.{[], All, All-filter, All-map, ap, ArePlacesToJoin, arith, best_of, Bool, candidate_of, cases_Bool, cond, drop, Dup, dup_at, false, filter, filter_map, filter_passes}
-use Rattle.ksm_tree.proofs.Names.{find, get_or, group_places, if◌then◌else◌, in_group, inl, InPlaceOrder, inr, is_no_worse, is_open, items_in, length, List, list_all, Lower, map, may_join, nat_le}
-use Rattle.ksm_tree.proofs.Names.{nat_lt, nat_tests, None, not, Option, pairs_head, pairs_tail, refl, rows_of, Some, suc, sym, true, zero, ℕ, ◌%◌, ◌&&◌, ◌+◌, ◌-◌, ◌<◌, ◌==◌, ◌^◌, ◌||◌, ◌∙◌, ◌∷◌, ◌≡◌}
-use Rattle.ksm_tree.proofs.Names.{◌≤◌}
+use Rattle.ksm_tree.proofs.Names.{[], All, All-filter, All-map, ap, ArePlacesToJoin, arith, best_of, Bool, candidate_of, cases_Bool, cond, drop, drop_more, Dup, dup_at, false, filter, filter_map}
+use Rattle.ksm_tree.proofs.Names.{filter_passes, find, get_or, group_places, if◌then◌else◌, in_group, inl, InPlaceOrder, inr, is_no_worse, is_open, items_in, length, List, list_all, Lower, map}
+use Rattle.ksm_tree.proofs.Names.{may_join, nat_le, nat_lt, nat_tests, None, not, Option, pairs_head, pairs_tail, refl, rows_of, Some, suc, sym, true, zero, ℕ, ◌%◌, ◌&&◌, ◌+◌, ◌-◌, ◌<◌, ◌==◌, ◌^◌}
+use Rattle.ksm_tree.proofs.Names.{◌||◌, ◌∙◌, ◌∷◌, ◌≡◌, ◌≤◌}
+use Rattle.std.specs.Option.{option_or}
 use Rattle.ksm_tree.proofs.Alike.{filter_mapped, map_mapped}
 use Rattle.ksm_tree.proofs.Changes.{all_rows}
-use Rattle.std.proofs.lemmas.List.{drop_more}
-use Rattle.std.specs.Option.{option_or}
 
 -- a walk that keeps the better of two, over dups that pass a test
 module _ (may : Dup → Bool) where

@@ -1,7 +1,8 @@
 -- What the words of a set, and their summary, say of its numbers.
-use Rattle.ksm_tree.proofs.Names.{arith, bit_and, bit_at, bit_at_clear_other, bit_at_clear_same, bit_at_ones, bit_at_set_other, bit_at_set_same, bit_or, Bool, false, FindsLeast, get_or}
-use Rattle.ksm_tree.proofs.Names.{get_or-replicate, get_or-set_other, get_or-set_same, get_or_default, get_or_past, has, HasNoBit, IsLeast, IsLowestBit, IsSummed, length, length-replicate, length-set}
-use Rattle.ksm_tree.proofs.Names.{List, Marks, not, Option, replicate, set, shr-shr, true, w64, ℕ, ◌%◌, ◌*◌, ◌+◌, ◌-◌, ◌/◌, ◌<◌, ◌==◌, ◌^◌, ◌≡◌, ◌≢◌, ◌≤◌}
+use Rattle.ksm_tree.proofs.Names.{arith, bit_at, bit_at_clear_other, bit_at_clear_same, bit_at_ones, bit_at_set_other, bit_at_set_same, bit_or, Bool, false, FindsLeast, get_or, get_or-replicate}
+use Rattle.ksm_tree.proofs.Names.{get_or-set_other, get_or-set_same, get_or_default, get_or_past, has, HasNoBit, IsLeast, IsLowestBit, IsSummed, length, length-replicate, length-set, List, Marks, not}
+use Rattle.ksm_tree.proofs.Names.{Option, replicate, set, shr-shr, true, w64, ℕ, ◌%◌, ◌*◌, ◌+◌, ◌-◌, ◌/◌, ◌<◌, ◌==◌, ◌^◌, ◌≡◌, ◌≢◌, ◌≤◌}
+use Rattle.std.specs.Int.Bits.{bit_and}
 
 module _ (words : List ℕ) where
   -- what the words behind one answer holds from a number of that word on, where the word has no bit from there on

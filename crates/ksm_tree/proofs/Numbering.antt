@@ -1,12 +1,10 @@
 -- The order of contents: when it finds two of them equal, and the waiting pages, each under its content.
-use Rattle.ksm_tree.proofs.Names.{[], arith, BTreeMap, bytes_eq, bytes_eq-Decides, Content, content_of, content_order, GuestPage, is_at, List, Option, refl, Some, sym, true, Updates, waiting_page}
-use Rattle.ksm_tree.proofs.Names.{waiting_pages, ℕ, ◌&&◌, ◌==◌, ◌∷◌, ◌≡◌}
+use Rattle.ksm_tree.proofs.Names.{[], arith, BTreeMap, bytes_eq, bytes_eq-Decides, Content, content_of, content_order, GuestPage, is_at, List, lookup, nat_cmp, Option, refl, Some, sym, true, Updates}
+use Rattle.ksm_tree.proofs.Names.{ℕ, ◌&&◌, ◌==◌, ◌∷◌, ◌≡◌}
+use Rattle.ksm_tree.specs.Waits.{IsSetTo, waiting_page, waiting_pages, WaitingPage}
 use Rattle.std.specs.Cmp.{both_tied}
 use Rattle.std.specs.Cmp.Lexicographic.{slice_cmp, texts_ties}
-use Rattle.std.specs.Ordering.{nat_cmp}
 use Rattle.ksm_tree.proofs.Rows.{eq_bytes}
-use Rattle.ksm_tree.specs.Waits.{IsSetTo, WaitingPage}
-use Rattle.std.specs.Map.{lookup}
 
 -- contents that the order finds equal have one tree and the same bytes
 pub told_equal : (p q : Content) → is_at (content_order p) q ≡ (p.tree == q.tree && bytes_eq p.bytes q.bytes)

@@ -1,12 +1,12 @@
 -- What a change of one slot does to the dups and to the places whose slots pass a test.
-use Rattle.ksm_tree.proofs.Names.{[], absent_kept, All, ArePlaced, AreSlots, arith, Bool, change_at, change_items_of, change_slot, cond, count_by, count_by-le-length, count_in, count_more, CountedSet}
-use Rattle.ksm_tree.proofs.Names.{Dup, dup_at, empty_from, empty_place, eqb-true, false, filter_all, filter_none, find, find_nothing, find_passes, FindsLeast, get_or, get_or-le-sum_by, get_or-map}
+use Rattle.ksm_tree.proofs.Names.{[], absent_kept, All, ArePlaced, AreSlots, arith, Bool, change_at, change_items_of, change_slot, cond, count_by, count_by-le-length, count_in, count_more, Dup}
+use Rattle.ksm_tree.proofs.Names.{dup_at, empty_from, empty_place, eqb-true, false, filter_all, filter_none, find, find_nothing, find_passes, FindsLeast, get_or, get_or-le-sum_by, get_or-map}
 use Rattle.ksm_tree.proofs.Names.{get_or-replicate, get_or-set_other, get_or-set_same, get_or_past, GuestPage, has, has_item, HasNone, holds, is_live, is_none, is_open, is_some, is_stale, IsMarked}
 use Rattle.ksm_tree.proofs.Names.{IsSetOf, items_in, length, length-map, length-replicate, length-set, List, map, map-set, MayBeMarked, MOST_FRAMES, None, none_found, Option, option_map}
 use Rattle.ksm_tree.proofs.Names.{pages_ordered, place_of, places_open, places_where, present, refl, replicate, rows_of, set, set-get_or, ShelfState, slots_seen, SlotsState, Some, stands_at, suc}
-use Rattle.ksm_tree.proofs.Names.{sum_by-set, true, with_new, without_item, without_place, zero, ℕ, ◌*◌, ◌+◌, ◌<◌, ◌==◌, ◌∷◌, ◌≡◌, ◌≤◌}
+use Rattle.ksm_tree.proofs.Names.{sum_by-replicate, sum_by-set, true, with_new, without_item, without_place, zero, ℕ, ◌*◌, ◌+◌, ◌<◌, ◌==◌, ◌∷◌, ◌≡◌, ◌≤◌}
+use Rattle.ksm_tree.specs.declared.number_set.CountedSet.{CountedSet}
 use Rattle.ksm_tree.proofs.Alike.{change_none}
-use Rattle.std.proofs.lemmas.List.Folds.{sum_by-replicate}
 
 -- the set once a slot is put, and its place marked as the slot passes
 set_marked : {test : Option Dup → Bool} {slots : List (Option Dup)} {p : ℕ} (s : Option Dup) {old new : CountedSet} → p < length slots → IsMarked old new p (test s) → IsSetOf test slots old → IsSetOf test (set slots p s) new

@@ -1,8 +1,7 @@
 -- Dup rows in the order of their places: whose group a row is of, and what a new row changes of the places of a group.
-use Rattle.ksm_tree.proofs.Names.{arith, bytes_eq, bytes_eq-Decides, DupRow, false, filter-append, group_places, in_group, InPlaceOrder, List, map-append, nat_lt, not, true, with_dup, with_place}
-use Rattle.ksm_tree.proofs.Names.{without, ℕ, ◌&&◌, ◌==◌, ◌≡◌}
+use Rattle.ksm_tree.proofs.Names.{arith, bytes_eq, bytes_eq-Decides, DupRow, dups_parted, false, filter-append, group_places, in_group, InPlaceOrder, List, map-append, nat_lt, not, true, with_dup}
+use Rattle.ksm_tree.proofs.Names.{with_place, without, ℕ, ◌&&◌, ◌==◌, ◌≡◌}
 use Rattle.ksm_tree.proofs.Alike.{chosen}
-use Rattle.ksm_base.proofs.Orders.{dups_parted}
 
 -- a comparison of bytes is the same in either order
 pub eq_bytes : (xs ys : List ℕ) → bytes_eq xs ys ≡ bytes_eq ys xs

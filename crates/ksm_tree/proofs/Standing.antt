@@ -1,13 +1,12 @@
 -- What a change of one group makes of the chains, and which contents are in use.
-use Rattle.ksm_tree.proofs.Names.{[], ap, AreGroups, arith, BTreeMap, bytes_eq, bytes_eq-Decides, chain_in, Content, content_in, content_of, content_order, false, get, Group, Groups, has_place}
-use Rattle.ksm_tree.proofs.Names.{if◌then◌else◌, is_some, is_used_in, IsSwept, IsUnused, List, None, number_in, number_of, Numbers, Option, places_in, SameNumbers, Slab, Some, sym, true, under}
-use Rattle.ksm_tree.proofs.Names.{Updates, Updates-with_value, with_value, ℕ, ◌&&◌, ◌==◌, ◌≡◌}
-use Rattle.slab.specs.Slab.{Updates as Fills}
+use Rattle.ksm_tree.proofs.Names.{[], ap, AreGroups, arith, BTreeMap, bytes_eq, bytes_eq-Decides, chain_in, Content, content_in, content_of, content_order, false, get, Group, GroupsKeepReserve}
+use Rattle.ksm_tree.proofs.Names.{has_place, if◌then◌else◌, is_some, is_used_in, IsSwept, IsUnused, List, None, number_in, number_of, Numbers, Option, places_in, SameNumbers, Slab, Some, sym, true}
+use Rattle.ksm_tree.proofs.Names.{under, Updates, Updates-with_value, ℕ, ◌&&◌, ◌==◌, ◌≡◌, ◌⊎◌}
+use Rattle.ksm_tree.specs.declared.groups.Groups.{Groups}
+use Rattle.slab.specs.Slab.{Updates as Fills, with_value}
 use Rattle.ksm_tree.proofs.Numbering.{same_content, told_equal}
 use Rattle.ksm_tree.proofs.Rows.{eq_bytes}
-use Rattle.ksm_tree.specs.Groups.{GroupsKeepReserve}
 use Rattle.ksm_tree.specs.declared.places.Places.{Places}
-use Rattle.std.specs.Prelude.{◌⊎◌}
 
 -- the places of the group of a tree and bytes
 abbrev chain_by : Numbers → Slab Group → ℕ → List ℕ → List ℕ

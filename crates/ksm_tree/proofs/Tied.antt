@@ -1,9 +1,8 @@
 -- What is found at a page, and the pages of the rows merged into a dup, after a change of one row.
+use Rattle.ksm_tree.proofs.Names.{[], All, AreCounted, AreTied, arith, Bool, change_row, comes_before, Dup, DupRow, false, filter, filter-append, filter_passes, find_passes, found_parts, GuestPage}
+use Rattle.ksm_tree.proofs.Names.{if◌then◌else◌, InPageOrder, items_of, length-filter, length-map, List, map, map-append, merged_into, not, option_map, pages_ordered, refl, Row, row_at, same_page}
+use Rattle.ksm_tree.proofs.Names.{Some, suc, true, with_item, without_item, without_page, ◌++◌, ◌∷◌, ◌≡◌}
 use Rattle.ksm_tree.proofs.Alike.{change_none, chosen}
-use Rattle.ksm_order.proofs.Ordered.{found_parts}
-use Rattle.ksm_tree.proofs.Names.{[], All, AreCounted, AreTied, arith, Bool, change_row, comes_before, Dup, DupRow, false, filter, filter-append, filter_passes, find_passes, GuestPage, if◌then◌else◌}
-use Rattle.ksm_tree.proofs.Names.{InPageOrder, items_of, length-filter, length-map, List, map, map-append, merged_into, not, option_map, pages_ordered, refl, Row, row_at, same_page, Some, suc, true}
-use Rattle.ksm_tree.proofs.Names.{with_item, without_item, without_page, ◌++◌, ◌∷◌, ◌≡◌}
 
 -- a write of the row of one page, as a look-up at a page finds it
 pub at_written : (row : Row) (q : GuestPage) (rows : List Row) → row_at q (change_row row.page (λ _. row) rows) ≡ (if same_page row.page q then option_map (λ _. row) (row_at q rows) else row_at q rows)

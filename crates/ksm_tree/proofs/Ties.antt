@@ -1,12 +1,11 @@
 -- The items of each dup stay the pages of the rows merged into it: the dups after a change of one row, and after a change of all.
-use Rattle.ksm_tree.proofs.Names.{[], absent_kept, All, All-append, All-cons, All-filter, All-map, ap, AreTied, arith, change_items, change_row, Dup, dup_of, DupRow, each_at_page, eqb-true, false}
-use Rattle.ksm_tree.proofs.Names.{filter-append, filter_none, find_all, find_passes, get_or, GuestPage, has_item, if◌then◌else◌, InPageOrder, item_count, items_in, items_of, length, let_out, List}
-use Rattle.ksm_tree.proofs.Names.{map, map-append, Merged, merged_into, merged_state, None, none_found, Option, ordered_map, pages_ordered, PageState, refl, Row, row_at, rows_of, same_page, Some, suc}
-use Rattle.ksm_tree.proofs.Names.{sym, true, with_item, with_new, with_row, without_item, without_page, without_place, ℕ, ◌<◌, ◌==◌, ◌∙◌, ◌∷◌, ◌≡◌}
+use Rattle.ksm_tree.proofs.Names.{[], absent_kept, absent_parts, All, All-append, All-cons, All-filter, All-map, ap, AreTied, arith, change_items, change_row, Dup, dup_of, DupRow, each_at_page}
+use Rattle.ksm_tree.proofs.Names.{eqb-true, false, filter-append, filter_none, find_all, find_passes, get_or, GuestPage, has_item, if◌then◌else◌, InPageOrder, item_count, items_in, items_of, length}
+use Rattle.ksm_tree.proofs.Names.{let_out, List, map, map-append, Merged, merged_into, merged_state, None, none_found, Option, ordered_map, pages_ordered, PageState, refl, Row, row_at, rows_of}
+use Rattle.ksm_tree.proofs.Names.{same_page, Some, suc, sym, true, with_item, with_new, with_row, without_item, without_page, without_place, ℕ, ◌<◌, ◌==◌, ◌∙◌, ◌∷◌, ◌≡◌}
 use Rattle.ksm_tree.specs.Dups.{items_of as items_numbered}
 use Rattle.ksm_tree.proofs.Changes.{all_rows}
 use Rattle.ksm_tree.proofs.Tied.{at_written, items_dropped, items_joined, items_kept, items_left, page_of, tied_counted}
-use Rattle.ksm_order.proofs.Ordered.{absent_parts}
 
 abbrev IsTied : List Row → Dup → Type 0
 IsTied rows d = d.items ≡ items_of rows d.row

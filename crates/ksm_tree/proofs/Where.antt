@@ -1,7 +1,6 @@
 -- The places at which a test is passed: what a change at one place does to them.
-use Rattle.std.proofs.lemmas.List.{length-take}
-use Rattle.ksm_tree.proofs.Names.{[], add-one, All, arith, Bool, false, filter_all, filter_none, get_or, get_or_default, if◌then◌else◌, length, length-set, List, nat_lt, nat_tests, places_where, refl}
-use Rattle.ksm_tree.proofs.Names.{is_open, set, suc, take, with_place, without, zero, ℕ, ◌+◌, ◌<◌, ◌∷◌, ◌≡◌, ◌≤◌}
+use Rattle.ksm_tree.proofs.Names.{[], add-one, All, arith, Bool, false, filter_all, filter_none, get_or, get_or_default, if◌then◌else◌, is_open, length, length-set, length-take, List, nat_lt}
+use Rattle.ksm_tree.proofs.Names.{nat_tests, places_where, refl, set, suc, take, with_place, without, zero, ℕ, ◌+◌, ◌<◌, ◌∷◌, ◌≡◌, ◌≤◌}
 
 module _ {X : Type 0} (test : X → Bool) where
   where_above : (k : ℕ) (xs : List X) → All (λ p. k ≤ p) (places_where test k xs)

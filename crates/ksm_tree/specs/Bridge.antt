@@ -1,15 +1,5 @@
 -- The book's rows beside the dups with their items.
-use Rattle.std.specs.Prelude.{All, length, List, ℕ, ◌≡◌}
-use Rattle.ksm_base.specs.declared.page.GuestPage.{GuestPage}
-use Rattle.ksm_base.specs.declared.row.PageState.{PageState}
-use Rattle.ksm_base.specs.declared.row.PageState.TheVariants.{Merged}
-use Rattle.ksm_base.specs.declared.row.Row.{Row}
-use Rattle.ksm_base.specs.Reading.{items_of}
-use Rattle.ksm_base.specs.Rows.{item_count}
-use Rattle.ksm_tree.specs.declared.dup.Choice.{Choice}
-use Rattle.ksm_tree.specs.declared.dup.Choice.TheVariants.{Empty, Stale}
-use Rattle.ksm_rmap.specs.Items.{without_item}
-use Rattle.ksm_tree.specs.declared.dup.Dup.{Dup}
+use Rattle.ksm_tree.specs.Terms.{All, Choice, Dup, Empty, GuestPage, item_count, items_of, length, List, Merged, PageState, Row, Stale, without_item, ℕ, ◌≡◌}
 use Rattle.ksm_tree.specs.Dups.{change_items}
 
 -- each dup has as many items as there are rows merged into it

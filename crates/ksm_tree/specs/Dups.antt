@@ -1,9 +1,6 @@
 -- Dups with their items, in the order of their places (mm/ksm: stable nodes, chains).
-use Rattle.std.specs.Prelude.{All, Bool, false, filter, find, if◌then◌else◌, length, List, map, nat_lt, None, not, Option, option_map, Some, ℕ, [], ◌&&◌, ◌++◌, ◌+◌, ◌<◌, ◌==◌, ◌^◌, ◌∷◌, ◌≡◌}
-use Rattle.ksm_base.specs.declared.page.GuestPage.{GuestPage}
-use Rattle.ksm_base.specs.declared.row.DupRow.{DupRow}
-use Rattle.ksm_base.specs.Rows.{InPlaceOrder, same_page}
-use Rattle.ksm_tree.specs.declared.dup.Dup.{Dup}
+use Rattle.ksm_tree.specs.Terms.{[], All, Bool, Dup, DupRow, false, filter, find, GuestPage, if◌then◌else◌, InPlaceOrder, length, List, map, nat_lt, None, not, Option, option_map, same_page, Some, ℕ}
+use Rattle.ksm_tree.specs.Terms.{◌&&◌, ◌++◌, ◌+◌, ◌<◌, ◌==◌, ◌^◌, ◌∷◌, ◌≡◌}
 use Rattle.ksm_tree.specs.Places.{is_open}
 use Rattle.ksm_tree.specs.Numbered.{Numbers}
 

@@ -1,10 +1,7 @@
 -- The groups: the dups of one tree and one content (mm/ksm: a chain links the copies of one content).
-use Rattle.std.specs.Prelude.{Bool, bytes_eq, if◌then◌else◌, is_some, length, List, nat_lt, None, Option, Some, true, ℕ, [], ◌&&◌, ◌+◌, ◌==◌, ◌≡◌, ◌≤◌}
-use Rattle.slab.specs.Slab.{get}
+use Rattle.ksm_tree.specs.Terms.{[], Bool, bytes_eq, ForSome, get, if◌then◌else◌, is_some, length, List, MOST_SPARE, nat_lt, None, Option, Some, true, ℕ, ◌&&◌, ◌+◌, ◌==◌, ◌≡◌, ◌≤◌}
 use Rattle.smallvec.specs.SmallVec.{HasRoomFor}
-use Rattle.std.specs.Option.{ForSome}
 use Rattle.ksm_tree.specs.declared.groups.Groups.{Groups}
-use Rattle.ksm_tree.specs.declared.groups.TheConstants.{MOST_SPARE}
 use Rattle.ksm_tree.specs.Numbered.{KeepsReserve, number_of, places_in}
 use Rattle.ksm_tree.specs.Totals.{IsRegrouped, Tells}
 

@@ -9,5 +9,6 @@ pub mod NumberSets
 pub mod Numbered
 pub mod Places
 pub mod Slots
+pub mod Terms
 pub mod Totals
 pub mod Waits

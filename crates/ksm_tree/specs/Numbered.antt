@@ -1,14 +1,9 @@
 -- Contents, each with a number: a tree with the bytes of a page. Under the number stands the group: the places of its
 -- dups. How many have a number: those that were in use when the others lost theirs, and a reserve. (own)
-use Rattle.std.specs.Prelude.{[], Bool, bytes_eq, false, is_some, length, List, nat_lt, None, Option, option_map, Some, true, ℕ, ◌&&◌, ◌+◌, ◌==◌, ◌↔◌, ◌≡◌, ◌≢◌, ◌≤◌, ◌⊎◌}
-use Rattle.std.specs.declared.cmp.Ordering.{Ordering}
-use Rattle.std.specs.BTreeMap.{is_at}
-use Rattle.std.specs.Map.{lookup}
-use Rattle.ksm_tree.specs.contracts.content.ContentOrd.TheImpl as content_ord
-use Rattle.ksm_tree.specs.declared.content.Content.{Content}
-use Rattle.slab.specs.Slab.{get, Slab}
+use Rattle.ksm_tree.specs.Terms.{[], Bool, bytes_eq, Content, false, get, is_at, is_some, length, List, lookup, MOST_SPARE, nat_lt, None, Option, option_map, Ordering, Slab, Some, true, ℕ, ◌&&◌, ◌+◌}
+use Rattle.ksm_tree.specs.Terms.{◌==◌, ◌↔◌, ◌≡◌, ◌≢◌, ◌≤◌, ◌⊎◌}
 use Rattle.ksm_tree.specs.declared.groups.Group.{Group}
-use Rattle.ksm_tree.specs.declared.groups.TheConstants.{MOST_SPARE}
+use Rattle.ksm_tree.specs.contracts.content.ContentOrd.TheImpl as content_ord
 
 -- contents in their order, each with its number
 abbrev pub Numbers : Type 0

@@ -1,16 +1,10 @@
 -- The dups by place: a slot for each place, under a key that is compared before it is believed, and the places whose
 -- slots pass a test. (own)
-use Rattle.std.specs.Option.{IfSome, is_none}
-use Rattle.std.specs.Prelude.{[], Bool, cond, count_by, false, filter_map, get_or, if◌then◌else◌, length, List, map, nat_lt, None, Option, option_map, slice_index, slice_index_or, slice_set, Some}
-use Rattle.std.specs.Prelude.{suc, true, ℕ, ◌&&◌, ◌*◌, ◌+◌, ◌<◌, ◌^◌, ◌∷◌, ◌≡◌, ◌≤◌}
-use Rattle.ksm_base.specs.declared.limits.TheConstants.{MOST_FRAMES}
-use Rattle.ksm_base.specs.declared.page.GuestPage.{GuestPage}
-use Rattle.ksm_tree.specs.declared.dup.Dup.{Dup}
-use Rattle.ksm_tree.specs.declared.counted_set.CountedSet.{CountedSet}
+use Rattle.ksm_tree.specs.Terms.{[], Bool, cond, count_by, Dup, false, filter_map, get, get_or, GuestPage, IfSome, if◌then◌else◌, is_none, length, List, map, MOST_FRAMES, nat_lt, None, Option}
+use Rattle.ksm_tree.specs.Terms.{option_map, range_with_len, Slab, slab_len, slice_index, slice_index_or, slice_set, Some, suc, true, ℕ, ◌&&◌, ◌*◌, ◌+◌, ◌<◌, ◌^◌, ◌∷◌, ◌≡◌, ◌≤◌}
+use Rattle.ksm_tree.specs.declared.number_set.CountedSet.{CountedSet}
 use Rattle.ksm_tree.specs.Dups.{is_stale, items_in, stands_at}
 use Rattle.ksm_tree.specs.NumberSets.{has, Marks}
-use Rattle.std.specs.List.{range_with_len}
-use Rattle.slab.specs.Slab.{get, Slab, slab_len}
 use Rattle.ksm_tree.specs.declared.shelf.Kept.{Kept}
 
 -- what each place holds, and whether room for one more dup is taken
@@ -55,6 +49,10 @@ pub record SlotsState : Type 0 where
   pub places : ℕ
   pub dups : List Dup
   pub ready : Bool
+
+-- the slots have other dups than before, whatever room there is then
+abbrev pub HaveDups : List Dup → SlotsState → SlotsState → Type 0
+HaveDups dups old new = new ≡ record old { dups = dups; ready = new.ready }
 
 -- the dups of the slots
 abbrev pub present : List (Option Dup) → List Dup

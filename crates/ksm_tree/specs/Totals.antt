@@ -1,8 +1,6 @@
 -- How many chains there are, and how many dups in them: what one group makes of that. (own)
-use Rattle.std.specs.Prelude.{count_by, if◌then◌else◌, List, nat_lt, ℕ, ◌&&◌, ◌+◌, ◌<◌, ◌^◌, ◌≡◌, ◌≤◌}
-use Rattle.ksm_base.specs.declared.row.DupRow.{DupRow}
-use Rattle.ksm_base.specs.Counting.{in_chain, leads_group}
-use Rattle.ksm_tree.specs.declared.totals.Totals.{Totals}
+use Rattle.ksm_tree.specs.Terms.{count_by, DupRow, if◌then◌else◌, in_chain, leads_group, List, nat_lt, ℕ, ◌&&◌, ◌+◌, ◌<◌, ◌^◌, ◌≡◌, ◌≤◌}
+use Rattle.ksm_tree.specs.declared.groups.Totals.{Totals}
 
 -- how many chains a group of so many dups is: one, if they are two or more
 abbrev pub chains_of : ℕ → ℕ

@@ -1,7 +1,5 @@
 -- Waiting pages, by tree and bytes (mm/ksm: the unstable tree; that one page waits for each content is own).
-use Rattle.std.specs.Prelude.{bytes_eq, find, if◌then◌else◌, List, map, Option, option_map, ℕ, ◌&&◌, ◌==◌, ◌≡◌}
-use Rattle.ksm_base.specs.declared.page.GuestPage.{GuestPage}
-use Rattle.ksm_tree.specs.declared.content.Content.{Content}
+use Rattle.ksm_tree.specs.Terms.{bytes_eq, Content, find, GuestPage, if◌then◌else◌, List, map, Option, option_map, ℕ, ◌&&◌, ◌==◌, ◌≡◌}
 
 -- a page that waits for an equal one
 pub record WaitingPage : Type 0 where

@@ -2,8 +2,7 @@
 //! number is found in a step for each height, wherever it is, and so is that there is none.
 #![tactic(auto, using(crate::proofs::NumberBits::steps))]
 
-ghost use Rattle.std.specs.Prelude.{◌≡◌, ◌≢◌, ℕ, ◌+◌, ◌*◌, ◌/◌, ◌^◌, ◌<◌, ◌≤◌, [], ◌∷◌, List, true, false, length, IfOk, MatchOption};
-ghost use Rattle.ksm_tree.specs.Faults.{FailsForMemory};
+ghost use Rattle.ksm_tree.specs.Terms.{[], FailsForMemory, false, IfOk, length, List, MatchOption, true, ℕ, ◌*◌, ◌+◌, ◌/◌, ◌<◌, ◌^◌, ◌∷◌, ◌≡◌, ◌≢◌, ◌≤◌};
 ghost use Rattle.ksm_tree.specs.NumberSets.{FindsLeast, has, HasNoBit, IsLowestBit, Marks};
 
 use ksm_base::Fault;
@@ -37,7 +36,7 @@ pub struct Word {
 }
 
 impl Model for Word {
-    ghost use Rattle.std.specs.Prelude.{ℕ, List, [], ◌∷◌};
+    ghost use Rattle.ksm_tree.specs.Terms.{[], List, ℕ, ◌∷◌};
 
     ghost Value = { List ℕ };
 
@@ -82,7 +81,7 @@ pub struct Words<S: Bits, const MOST: usize> {
 }
 
 impl<S: Bits, const MOST: usize> Model for Words<S, MOST> {
-    ghost use Rattle.std.specs.Prelude.{ℕ, List};
+    ghost use Rattle.ksm_tree.specs.Terms.{List, ℕ};
     ghost use Rattle.ksm_tree.specs.NumberSets.{AreSummed};
 
     ghost Value = { List ℕ };
@@ -93,7 +92,7 @@ impl<S: Bits, const MOST: usize> Model for Words<S, MOST> {
 }
 
 impl<S: Bits, const MOST: usize> Words<S, MOST> {
-    ghost use Rattle.std.specs.Prelude.{replicate};
+    ghost use Rattle.ksm_tree.specs.Terms.{replicate};
 
     /// No numbers, with room for those of so many words. The one fault is `Memory`.
     pub fn empty(alloc: Global, summary: S, words: usize) -> Result<Words<S, MOST>, Fault>

@@ -9,19 +9,15 @@
 //! A page that looks for a dup to join walks along its chain, which mostly has one dup. Of a long chain most dups are
 //! full. So while there is a long one in a small table, the open places of all contents are kept, and such a page walks
 //! along these if they are fewer.
-ghost use Rattle.std.specs.Prelude.{◌≡◌, ℕ, All, List, ◌+◌, ◌^◌, ◌<◌, ◌≤◌, [], ◌∷◌, ◌&&◌, true, false, None, Some, count_by, find, length, is_some, option_copied, option_map, slice_get};
-ghost use Rattle.std.specs.Prelude.{if◌then◌else◌, IfNone, IfOk, IsTrue, OnErr, OnOk};
-ghost use Rattle.ksm_tree.specs.Faults.{FailsForMemory};
-ghost use Rattle.ksm_base.specs.Counting.{in_chain, leads_group};
-ghost use Rattle.ksm_base.specs.Rows.{same_page};
-ghost use Rattle.ksm_base.specs.declared.limits.TheConstants.{MOST_FRAMES, MOST_REFERENCES};
-ghost use Rattle.ksm_rmap.specs.Items.{has_item, with_item, without_item};
+ghost use Rattle.ksm_tree.specs.Terms.{[], All, count_by, FailsForMemory, false, find, has_item, IfNone, IfOk, if◌then◌else◌, in_chain, is_some, IsTrue, leads_group, length, List, MOST_FRAMES};
+ghost use Rattle.ksm_tree.specs.Terms.{MOST_REFERENCES, MOST_SPARE, None, OnErr, OnOk, option_copied, option_map, same_page, slice_get, Some, true, with_item, without_item, ℕ, ◌&&◌, ◌+◌, ◌<◌, ◌^◌};
+ghost use Rattle.ksm_tree.specs.Terms.{◌∷◌, ◌≡◌, ◌≤◌};
 ghost use Rattle.ksm_tree.specs.Chains.{AreChained, group_places, in_group, is_in_use};
 ghost use Rattle.ksm_tree.specs.Choosing.{ArePlacesToJoin, best_of, candidate_of, choice_of, found_at};
-ghost use Rattle.ksm_tree.specs.Dups.{AreDups, MayBecomeDup, change_items, dup_at, dup_of, is_live, is_stale, items_in, items_of, place_of, rows_of, stands_at, with_new, without_place};
+ghost use Rattle.ksm_tree.specs.Dups.{AreDups, change_items, dup_at, dup_of, is_live, is_stale, items_in, items_of, MayBecomeDup, place_of, rows_of, stands_at, with_new, without_place};
 ghost use Rattle.ksm_tree.specs.Groups.{HasRoomAt, IsCounted, SameNumbers};
 ghost use Rattle.ksm_tree.specs.Numbered.{IsUnused, KeepsReserve, number_of};
-ghost use Rattle.ksm_tree.specs.declared.groups.TheConstants.{MOST_SPARE};
+ghost use Rattle.ksm_tree.specs.Slots.{HaveDups};
 
 use crate::content::same_bytes;
 use crate::dup::{Best, Choice, Dup};
@@ -165,8 +161,8 @@ impl Dups {
             let items = counts[*place as usize];
             // Fewer items than `least` wrap round to more than `room`, so one comparison tells both.
             if items.wrapping_sub(least) < room {
-                let rival = rival_of(best, items == least);
-                if let Some(dup) = self.candidate(*place, rival, is_chain, tree, bytes) {
+                let ties = items == least;
+                if let Some(dup) = self.candidate(*place, best, ties, is_chain, tree, bytes) {
                     best = Some(dup);
                     least = items;
                     room = limit - items;
@@ -494,21 +490,23 @@ impl Dups {
         }
     }
 
-    // The dup at a place, if it does not stand behind its rival, and is of that tree and these bytes, as each in the
-    // chain is. The rival is asked first, since a number is less to compare than the bytes of a page.
+    // The dup at a place, if it does not stand behind the best one so far where they tie, and is of that tree and these
+    // bytes, as each in the chain is. The best is asked first, since a number is less to compare than the bytes of a
+    // page.
     fn candidate(
         &self,
         place: u32,
-        rival: Option<&Dup>,
+        best: Option<&Dup>,
+        ties: bool,
         is_chain: bool,
         tree: u32,
         bytes: &PageBytes,
     ) -> Option<&Dup>
-        ensures { option_copied result
-            ≡ candidate_of tree bytes.now (option_copied rival.entry) is_chain (dup_at place self.now.dups) }
+        ensures { let rival = if ties then option_copied best.entry else None in
+            option_copied result ≡ candidate_of tree bytes.now rival is_chain (dup_at place self.now.dups) }
     {
         let dup = self.slots.at(place)?;
-        if rival.is_some_and(|rival| rival.row.number <= dup.row.number) {
+        if ties && best.is_some_and(|best| best.row.number <= dup.row.number) {
             return None;
         }
         (is_chain || (dup.row.tree == tree && same_bytes(&dup.row.bytes, bytes))).then_some(dup)
@@ -519,10 +517,7 @@ impl Dups {
 fn vacate(slots: &mut Slots, groups: &mut Groups, place: u32)
     requires { (tree : ℕ) (bytes : List ℕ) → IsCounted tree bytes groups.old }
     ensures chained { (next : ℕ) → AreChained slots.old next groups.old → AreChained slots.new next groups.new }
-    ensures gone { slots.new ≡ record slots.old {
-      dups = without_place place slots.old.dups;
-      ready = slots.new.ready;
-    } }
+    ensures gone { HaveDups (without_place place slots.old.dups) slots.old slots.new }
     ensures ready { slots.old.ready ≡ true → slots.new.ready ≡ true }
     ensures numbers { SameNumbers groups.old groups.new }
     ensures room { (number : ℕ) → HasRoomAt number groups.old → HasRoomAt number groups.new }
@@ -544,12 +539,4 @@ fn pair(alloc: Global, first: GuestPage, second: GuestPage) -> Result<Items, Fau
     items.add(first)?;
     items.add(second)?;
     Ok(items)
-}
-
-/// What a dup with as many items as the best so far, or more, has to come before by its number: the best one where
-/// they tie, else none.
-fn rival_of<'a>(best: Option<&'a Dup>, is_tie: bool) -> Option<&'a Dup>
-    ensures { option_copied result ≡ (if is_tie then option_copied best.entry else None) }
-{
-    if is_tie { best } else { None }
 }

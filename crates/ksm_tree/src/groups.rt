@@ -9,19 +9,16 @@
 //! steps. How many groups are chains is kept beside them, so the counters of chains are read.
 #![tactic(auto, using(crate::proofs::Standing::steps))]
 
-ghost use Rattle.std.specs.Prelude.{◌≡◌, ◌≢◌, ◌⊎◌, ℕ, ◌+◌, ◌≤◌, List, [], Some, IfOk, IfSome, IsTrue, OnOk, false, is_some, length, true, option_copied};
-ghost use Rattle.slab.specs.Slab.{get};
-ghost use Rattle.ksm_tree.specs.Faults.{FailsForMemory};
+ghost use Rattle.ksm_tree.specs.Terms.{[], FailsForMemory, false, get, IfOk, IfSome, is_some, IsOk, IsTrue, length, List, MOST_FRAMES as most_frames, MOST_SPARE as most_spare, OnOk, option_copied};
+ghost use Rattle.ksm_tree.specs.Terms.{Some, true, ℕ, ◌+◌, ◌≡◌, ◌≢◌, ◌≤◌, ◌⊎◌};
+ghost use Rattle.slab.specs.Slab.{HasRoomFor};
+ghost use Rattle.ksm_tree.specs.Totals.{IsRegrouped, Tells};
 ghost use Rattle.ksm_tree.specs.Numbered.{AreGroups, has_place, places_in};
 ghost use Rattle.ksm_tree.specs.Places.{with_place, without};
-ghost use Rattle.ksm_base.specs.declared.limits.TheConstants.{MOST_FRAMES as most_frames};
-ghost use Rattle.ksm_tree.specs.declared.groups.TheConstants.{MOST_SPARE as most_spare};
 
 use crate::content::{Content, SLOTS, same_bytes, slot_of};
 use crate::guesses::Guesses;
 use crate::places::Places;
-use crate::room::reserve_one;
-use crate::totals::Totals;
 use ksm_base::{Fault, MOST_FRAMES, PageBytes};
 use slab::Slab;
 use std::alloc::Global;
@@ -44,6 +41,39 @@ pub struct Group {
     pub places: Places,
 }
 
+/// How many groups are chains, of two dups or more, and how many dups are in chains (mm/ksm: stable_node_chains,
+/// stable_node_dups).
+#[derive(Clone, Copy)]
+pub struct Totals {
+    pub chains: usize,
+    pub dups: usize,
+    /// The most dups that a chain has had since there was none. Nothing is promised of it.
+    pub longest: usize,
+}
+
+impl Totals {
+    /// The totals once a group of `before` dups has `after`.
+    pub fn regrouped(self, before: usize, after: usize) -> Totals
+        requires told { Tells before self }
+        requires step { after ≤ before + 1 }
+        ensures { IsRegrouped before after self result }
+    {
+        let mut totals = self;
+        if before > 1 {
+            totals.chains -= 1;
+            totals.dups -= before;
+        }
+        if after > 1 {
+            totals.chains += 1;
+            totals.dups += after;
+            totals.longest = totals.longest.max(after);
+        } else if totals.chains == 0 {
+            totals.longest = 0;
+        }
+        totals
+    }
+}
+
 /// The groups, and how many of them are chains.
 #[derive(Drop)]
 pub struct Groups {
@@ -60,7 +90,7 @@ pub struct Groups {
 }
 
 impl Groups {
-    ghost use Rattle.ksm_tree.specs.Groups.{HasRoomAt, IsCounted, IsCountedAnew, IsMoved, IsSwept, SameChains, SameNumbers, GroupsKeepReserve, chain_in, number_in};
+    ghost use Rattle.ksm_tree.specs.Groups.{chain_in, GroupsKeepReserve, HasRoomAt, IsCounted, IsCountedAnew, IsMoved, IsSwept, number_in, SameChains, SameNumbers};
 
     /// No groups, in a table with so many places.
     pub fn new(alloc: Global, places: u32) -> Groups
@@ -242,23 +272,12 @@ impl Groups {
         ensures others { (other : ℕ) → other ≢ number → get self.new.groups other ≡ get self.old.groups other }
         ensures slots { length self.new.groups.slots ≡ length self.old.groups.slots }
     {
-        if !self.is_idle(number) {
+        let group = self.groups.get(number);
+        if !group.is_some_and(|group| group.places.list.is_empty()) {
             return;
         }
         if let Some(group) = self.groups.try_remove(number) {
             self.numbers.remove(&group.content);
-        }
-    }
-
-    // Whether there is a group with a number, and no dup stands in it.
-    fn is_idle(&self, number: usize) -> bool
-        ensures idle { IsTrue result → places_in (get self.now.groups number) ≡ [] }
-        ensures occupied { result ≡ false → is_some (get self.now.groups number) ≡ true
-            → has_place (get self.now.groups number) ≡ true }
-    {
-        match self.groups.get(number) {
-            Some(group) => group.places.list.is_empty(),
-            None => false,
         }
     }
 
@@ -309,4 +328,23 @@ impl Groups {
             self.totals = self.totals.regrouped(before, group.places.list.len());
         }
     }
+}
+
+/// From so many values on a slab grows by a quarter.
+const LARGE: usize = 65_536;
+
+/// Takes room for one value more, or for more of them. The one fault is `Memory`.
+pub fn reserve_one<T>(slab: &mut Slab<T>) -> Result<(), Fault>
+    ensures room { OnOk result (HasRoomFor slab.new 1) }
+    ensures succeeds { HasRoomFor slab.old 1 → IsOk result }
+    ensures rest { slab.new ≡ record slab.old { capacity = slab.new.capacity } }
+    ensures memory { FailsForMemory result }
+{
+    let len = slab.len();
+    if len < LARGE || len < slab.capacity() {
+        slab.reserve(1)?;
+    } else {
+        slab.reserve_exact(len / 4)?;
+    }
+    Ok(())
 }

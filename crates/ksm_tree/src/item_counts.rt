@@ -6,10 +6,7 @@
 //! all chains are short that costs more than it saves.
 #![tactic(auto, using(crate::proofs::Where::steps))]
 
-ghost use Rattle.std.specs.Prelude.{◌≡◌, ℕ, ◌<◌, ◌≤◌, All, IfOk, IfSome, length, not, replicate, slice_index, slice_set};
-ghost use Rattle.std.specs.List.{list_all};
-ghost use Rattle.ksm_tree.specs.Faults.{FailsForMemory};
-ghost use Rattle.ksm_base.specs.declared.limits.TheConstants.{MOST_FRAMES};
+ghost use Rattle.ksm_tree.specs.Terms.{All, FailsForMemory, IfOk, IfSome, length, list_all, MOST_FRAMES, not, replicate, slice_index, slice_set, ℕ, ◌<◌, ◌≡◌, ◌≤◌};
 ghost use Rattle.ksm_tree.specs.Places.{is_open as is_open_count, places_where};
 
 use crate::dups::FEW_PLACES;
@@ -29,7 +26,7 @@ pub struct Counts {
 }
 
 impl Model for Counts {
-    ghost use Rattle.std.specs.Prelude.{ℕ, List};
+    ghost use Rattle.ksm_tree.specs.Terms.{List, ℕ};
     ghost use Rattle.ksm_tree.specs.Places.{AreCounts};
 
     ghost Value = { List ℕ };

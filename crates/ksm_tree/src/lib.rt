@@ -3,7 +3,6 @@
 
 mod bits;
 mod content;
-mod counted_set;
 mod dup;
 mod dups;
 mod groups;
@@ -11,17 +10,14 @@ mod guesses;
 mod item_counts;
 mod number_set;
 mod places;
-mod room;
 mod shelf;
 mod slots;
-mod totals;
 mod waiting;
 
 pub use content::{Content, same_bytes};
 pub use dup::{Best, Choice};
 pub use dups::{Dups, NO_PLACE};
-pub use groups::NO_NUMBER;
+pub use groups::{NO_NUMBER, reserve_one};
 pub use guesses::Guesses;
 pub use number_set::NumberSet;
-pub use room::reserve_one;
 pub use waiting::Waiting;

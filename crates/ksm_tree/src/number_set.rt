@@ -1,11 +1,10 @@
 //! Sets of the numbers of frames, or of places, as words of bits with as many heights above them as their limit wants.
 #![tactic(auto, using(crate::proofs::NumberBits::replicated))]
 
-ghost use Rattle.std.specs.Prelude.{◌≡◌, ◌*◌, ◌<◌, ◌≤◌, ℕ, true, false, length, IfOk};
-ghost use Rattle.ksm_tree.specs.Faults.{FailsForMemory};
-ghost use Rattle.ksm_base.specs.declared.limits.TheConstants.{MOST_FRAMES as most_frames};
+ghost use Rattle.ksm_tree.specs.Terms.{FailsForMemory, false, IfOk, length, MOST_FRAMES as most_frames, true, ℕ, ◌*◌, ◌<◌, ◌≡◌, ◌≤◌};
 ghost use Rattle.ksm_tree.specs.declared.number_set.TheConstants.{WORDS as most_words};
 ghost use Rattle.ksm_tree.specs.NumberSets.{FindsLeast, has, Marks};
+ghost use Rattle.ksm_tree.specs.Slots.{IsMarked, MayBeMarked};
 
 use crate::bits::{Bits, Word, Words};
 use ksm_base::{Fault, MOST_FRAMES};
@@ -34,7 +33,7 @@ pub struct NumberSet {
 }
 
 impl Model for NumberSet {
-    ghost use Rattle.std.specs.Prelude.{ℕ, List};
+    ghost use Rattle.ksm_tree.specs.Terms.{List, ℕ};
 
     ghost Value = { List ℕ };
 
@@ -119,6 +118,32 @@ impl NumberSet {
         }
         let found = self.bits.first_from(from)?;
         (found < end).then_some(found)
+    }
+}
+
+/// A set of numbers, and how many of the places are in it.
+#[derive(Drop)]
+pub struct CountedSet {
+    pub set: NumberSet,
+    pub count: usize,
+}
+
+impl CountedSet {
+    /// Puts a place into the set if `marked`, and else takes it out.
+    #[inline(always)]
+    pub fn mark(&mut self, place: u32, marked: bool)
+        requires { MayBeMarked self.old place }
+        ensures { IsMarked self.old self.new place marked }
+    {
+        if self.set.contains(place) == marked {
+            return;
+        }
+        self.set.mark(place, marked);
+        if marked {
+            self.count += 1;
+        } else {
+            self.count -= 1;
+        }
     }
 }
 

@@ -5,10 +5,8 @@
 //! written where no dup is, and a key that leads to a dup of another place leads nowhere.
 #![tactic(auto, using(crate::proofs::Shelved::steps))]
 
-ghost use Rattle.std.specs.Prelude.{◌≡◌, ◌<◌, ◌≤◌, true, false, None, Some, length, option_copied, replicate, if◌then◌else◌, is_some, slice_index_or, slice_set, IfOk, OnErr, OnOk};
-ghost use Rattle.ksm_tree.specs.Faults.{FailsForMemory};
-ghost use Rattle.ksm_base.specs.declared.limits.TheConstants.{MOST_FRAMES, MOST_REFERENCES};
-ghost use Rattle.ksm_rmap.specs.Items.{has_item, with_item, without_item};
+ghost use Rattle.ksm_tree.specs.Terms.{FailsForMemory, false, has_item, IfOk, if◌then◌else◌, is_some, length, MOST_FRAMES, MOST_REFERENCES, None, OnErr, OnOk, option_copied, replicate};
+ghost use Rattle.ksm_tree.specs.Terms.{slice_index_or, slice_set, Some, true, with_item, without_item, ◌<◌, ◌≡◌, ◌≤◌};
 ghost use Rattle.ksm_tree.specs.Dups.{dup_of, items_in};
 ghost use Rattle.ksm_tree.specs.Slots.{change_slot, present};
 
@@ -42,7 +40,7 @@ impl Drop for Shelf {
 }
 
 impl Model for Shelf {
-    ghost use Rattle.ksm_tree.specs.Slots.{ShelfState, has_room, slots_by};
+    ghost use Rattle.ksm_tree.specs.Slots.{has_room, ShelfState, slots_by};
 
     ghost Value = { ShelfState };
 

@@ -1,18 +1,15 @@
 //! The dups by their places, a slot for each: a place leads to its dup in two steps, and an empty one takes few bytes.
 #![tactic(auto, using(crate::proofs::OneSlot::steps))]
 
-ghost use Rattle.std.specs.Prelude.{◌≡◌, ℕ, ◌<◌, ◌≤◌, [], true, false, None, Some, count_by, find, length, option_copied, is_some, slice_index_or, IfOk, IfSome, OnErr, OnOk};
-ghost use Rattle.ksm_tree.specs.Faults.{FailsForMemory};
-ghost use Rattle.ksm_base.specs.declared.limits.TheConstants.{MOST_FRAMES, MOST_REFERENCES};
+ghost use Rattle.ksm_tree.specs.Terms.{[], count_by, FailsForMemory, false, find, has_item, IfOk, IfSome, is_some, length, MOST_FRAMES, MOST_REFERENCES, None, OnErr, OnOk, option_copied};
+ghost use Rattle.ksm_tree.specs.Terms.{slice_index_or, Some, true, with_item, without_item, ℕ, ◌<◌, ◌≡◌, ◌≤◌};
 ghost use Rattle.ksm_tree.specs.Choosing.{empty_place};
-ghost use Rattle.ksm_rmap.specs.Items.{has_item, with_item, without_item};
-ghost use Rattle.ksm_tree.specs.Dups.{dup_at, dup_of, items_in, is_live, is_stale, place_of, places_open, rows_of, with_new, without_place};
-ghost use Rattle.ksm_tree.specs.Slots.{change_at};
+ghost use Rattle.ksm_tree.specs.Dups.{dup_at, dup_of, is_live, is_stale, items_in, place_of, places_open, rows_of, with_new, without_place};
+ghost use Rattle.ksm_tree.specs.Slots.{change_at, HaveDups};
 
-use crate::counted_set::CountedSet;
 use crate::dup::Dup;
 use crate::item_counts::Counts;
-use crate::number_set::NumberSet;
+use crate::number_set::{CountedSet, NumberSet};
 use crate::shelf::Shelf;
 use ksm_base::{Fault, GuestPage};
 use std::alloc::Global;
@@ -28,7 +25,7 @@ pub struct Slots {
 }
 
 impl Model for Slots {
-    ghost use Rattle.ksm_tree.specs.Slots.{SlotsState, AreSlots, slots_seen};
+    ghost use Rattle.ksm_tree.specs.Slots.{AreSlots, slots_seen, SlotsState};
 
     ghost Value = { SlotsState };
 
@@ -143,7 +140,7 @@ impl Slots {
         requires vacant { dup_at dup.row.place self.old.dups ≡ None }
         requires live { is_live dup ≡ true }
         requires ready { self.old.ready ≡ true }
-        ensures { self.new ≡ record self.old { dups = with_new dup self.old.dups; ready = self.new.ready } }
+        ensures { HaveDups (with_new dup self.old.dups) self.old self.new }
     {
         let place = dup.row.place;
         self.counts.set(place, dup.items.len() as u32);
@@ -154,7 +151,7 @@ impl Slots {
     /// The dup at a place goes.
     pub fn clear(&mut self, place: u32)
         requires { is_some (dup_at place self.old.dups) ≡ true }
-        ensures gone { self.new ≡ record self.old { dups = without_place place self.old.dups; ready = self.new.ready } }
+        ensures gone { HaveDups (without_place place self.old.dups) self.old self.new }
         ensures ready { self.old.ready ≡ true → self.new.ready ≡ true }
     {
         self.counts.set(place, 0);
@@ -168,10 +165,7 @@ impl Slots {
         requires known { is_some (dup_at place self.old.dups) ≡ true }
         requires fewer { length (items_in (dup_at place self.old.dups)) < MOST_REFERENCES }
         requires absent { has_item page (items_in (dup_at place self.old.dups)) ≡ false }
-        ensures added { OnOk result (self.new ≡ record self.old {
-          dups = change_at place (with_item page) self.old.dups;
-          ready = self.new.ready;
-        }) }
+        ensures added { OnOk result (HaveDups (change_at place (with_item page) self.old.dups) self.old self.new) }
         ensures kept { OnErr result (self.new ≡ record self.old { ready = self.new.ready }) }
         ensures memory { FailsForMemory result }
     {
@@ -187,10 +181,7 @@ impl Slots {
     #[inline(always)]
     pub fn remove_item(&mut self, place: u32, page: GuestPage)
         requires { is_some (dup_at place self.old.dups) ≡ true }
-        ensures { self.new ≡ record self.old {
-          dups = change_at place (without_item page) self.old.dups;
-          ready = self.new.ready;
-        } }
+        ensures { HaveDups (change_at place (without_item page) self.old.dups) self.old self.new }
     {
         if let Some(left) = self.dups.remove_item(place, page) {
             self.counts.set(place, left);

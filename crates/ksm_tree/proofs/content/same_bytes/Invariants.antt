@@ -1,5 +1,4 @@
-use Rattle.std.proofs.Common.{◌≡◌, drop}
-use Rattle.std.specs.Prelude.{bytes_eq, ◌&&◌}
+use Rattle.ksm_tree.proofs.Names.{bytes_eq, drop, ◌&&◌, ◌≡◌}
 use Rattle.ksm_tree.proofs.content.same_bytes.Given as goal
 
 -- the pages are alike where the words so far are, and those that are left

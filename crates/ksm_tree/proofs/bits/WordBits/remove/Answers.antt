@@ -1,4 +1,4 @@
-use Rattle.ksm_tree.proofs.Names.{arith, [], ◌∷◌}
+use Rattle.ksm_tree.proofs.Names.{[], arith, ◌∷◌}
 use Rattle.ksm_tree.proofs.NumberBits.{marks_less}
 use Rattle.ksm_tree.proofs.bits.WordBits.remove.Goals as goal
 

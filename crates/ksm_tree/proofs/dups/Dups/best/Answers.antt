@@ -1,4 +1,4 @@
-use Rattle.ksm_tree.proofs.Names.{arith, true, []}
+use Rattle.ksm_tree.proofs.Names.{[], arith, true}
 use Rattle.ksm_tree.proofs.Joining.{walk_best}
 use Rattle.ksm_tree.proofs.dups.Dups.best.Goals as goal
 

@@ -1,7 +1,7 @@
 use Rattle.ksm_tree.proofs.Names.{All, ap, arith, drop_of_length-le, Dup, dup_at, get_or, InPlaceOrder, items_in, length, Option, option_copied, rows_of, ◌<◌, ◌∙◌, ◌≡◌}
 use Rattle.ksm_tree.proofs.Joining.{candidate_is, candidates_within, in_room, stepped, walk_best}
-use Rattle.ksm_tree.proofs.dups.Dups.best_in.Goals as goal
 use Rattle.ksm_tree.proofs.dups.Dups.best_in.Goals.{else-items-least, then-items-least+in-Some, then-items-least+in_default}
+use Rattle.ksm_tree.proofs.dups.Dups.best_in.Goals as goal
 
 pub bounds-counts-place : goal.bounds-counts-place
 bounds-counts-place c =

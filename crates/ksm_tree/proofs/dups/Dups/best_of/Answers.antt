@@ -1,8 +1,7 @@
-use Rattle.ksm_tree.proofs.Names.{ap, arith, content_in, content_of, found_at, option_map, sym, true, [], ◌∙◌}
+use Rattle.ksm_tree.proofs.Names.{[], ap, arith, content_in, content_of, found_at, nil_from_length, option_map, sym, true, ◌∙◌}
 use Rattle.ksm_tree.proofs.Chained.{group_here}
 use Rattle.ksm_tree.proofs.Joining.{walk_best}
 use Rattle.ksm_tree.proofs.Standing.{not_unused}
-use Rattle.std.proofs.lemmas.List.{nil_from_length}
 use Rattle.ksm_tree.proofs.dups.Dups.best_of.Goals as goal
 
 pub returns-then-is_empty-clause-best : goal.returns-then-is_empty-clause-best

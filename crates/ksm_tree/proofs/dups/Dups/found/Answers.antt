@@ -1,7 +1,7 @@
-use Rattle.ksm_tree.proofs.Names.{ap, AreChained, arith, Dup, dups_seen, number_of, refl, rules, with_item, without_place, ℕ, [], ◌∙◌, ◌∷◌, ◌≡◌}
+use Rattle.ksm_tree.proofs.Names.{[], ap, AreChained, arith, Dup, dups_seen, number_of, refl, rules, with_item, without_place, ℕ, ◌∙◌, ◌∷◌, ◌≡◌}
 use Rattle.ksm_tree.proofs.Chained.{fresh_chained, new_again, none_left, room_chained, told}
-use Rattle.ksm_tree.proofs.dups.Dups.found.Goals as goal
 use Rattle.ksm_tree.proofs.dups.Dups.found.Goals.{After-vacate}
+use Rattle.ksm_tree.proofs.dups.Dups.found.Goals as goal
 
 pub invariant_of-self : goal.invariant_of-self
 invariant_of-self c = room_chained c.self.invariant c.reserve.ensures.kept (search rules)

@@ -1,10 +1,9 @@
-use Rattle.ksm_tree.proofs.Names.{arith, content_of, get, Group, inl, None, refl, rules, Some, ◌∙◌, ◌≡◌}
+use Rattle.ksm_tree.proofs.Names.{arith, content_of, get, Group, inl, None, number_in, refl, rules, Some, ◌∙◌, ◌≡◌}
 use Rattle.std.specs.BTreeMap.Entry.{map_with_value}
 use Rattle.slab.specs.Slab.{Updates as Fills}
-use Rattle.ksm_tree.specs.Groups.{number_in}
 use Rattle.ksm_tree.proofs.Standing.{Keeps, keeps, no_other}
-use Rattle.ksm_tree.proofs.groups.Groups.search_or_enter.Goals as goal
 use Rattle.ksm_tree.proofs.groups.Groups.search_or_enter.Goals.{After-insert_reserved}
+use Rattle.ksm_tree.proofs.groups.Groups.search_or_enter.Goals as goal
 
 -- the group had no number
 absent : (c : After-insert_reserved) → number_in c.args.tree c.args.bytes.now c.make_room.new.self ≡ None

@@ -1,8 +1,6 @@
-use Rattle.ksm_tree.proofs.Names.{arith, find_none, nat_tests, none_found, numbers_ordered, with_found, with_place, ◌==◌, ◌≡◌}
-use Rattle.ksm_order.specs.Places.{IsPlace}
-use Rattle.ksm_order.proofs.Places.{insert_here, with_rises}
-use Rattle.ksm_tree.proofs.places.Places.insert.Goals as goal
+use Rattle.ksm_tree.proofs.Names.{arith, find_none, insert_here, IsPlace, nat_tests, none_found, numbers_ordered, with_found, with_place, with_rises, ◌==◌, ◌≡◌}
 use Rattle.ksm_tree.proofs.places.Places.insert.Goals.{After-insert-there_is_room}
+use Rattle.ksm_tree.proofs.places.Places.insert.Goals as goal
 
 inserted : (c : After-insert-there_is_room) → c.insert-there_is_room.new.self.items ≡ with_place c.args.place c.args.self.now.list.items
 inserted c =

@@ -1,9 +1,6 @@
-use Rattle.ksm_tree.proofs.Names.{absent_kept, arith, none_found, numbers_ordered, refl, without, ℕ, ◌==◌, ◌<◌, ◌∙◌, ◌≡◌}
-use Rattle.std.proofs.lemmas.List.Kept.{AllPairs-filter}
-use Rattle.ksm_order.specs.Places.{IsHere}
-use Rattle.ksm_order.proofs.Places.{remove_here}
-use Rattle.ksm_tree.proofs.places.Places.remove.Goals as goal
+use Rattle.ksm_tree.proofs.Names.{absent_kept, AllPairs-filter, arith, IsHere, none_found, numbers_ordered, refl, remove_here, without, ℕ, ◌<◌, ◌==◌, ◌∙◌, ◌≡◌}
 use Rattle.ksm_tree.proofs.places.Places.remove.Goals.{After-remove}
+use Rattle.ksm_tree.proofs.places.Places.remove.Goals as goal
 
 taken : (c : After-remove) → c.remove.new.self.items ≡ without c.args.place c.args.self.now.list.items
 taken c =

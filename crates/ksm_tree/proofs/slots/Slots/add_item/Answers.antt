@@ -1,5 +1,4 @@
-use Rattle.ksm_tree.proofs.Names.{arith, get_or_past, length-append, with_item}
-use Rattle.std.proofs.lemmas.List.{nil_from_length}
+use Rattle.ksm_tree.proofs.Names.{arith, get_or_past, length-append, nil_from_length, with_item}
 use Rattle.ksm_tree.proofs.OneSlot.{seen_slot, slots_changed}
 use Rattle.ksm_tree.proofs.slots.Slots.add_item.Goals as goal
 

@@ -1,4 +1,4 @@
-use Rattle.ksm_tree.proofs.Names.{length-replicate, arith, ◌∙◌}
+use Rattle.ksm_tree.proofs.Names.{arith, length-replicate, ◌∙◌}
 use Rattle.ksm_tree.proofs.OneSlot.{none_set, none_slots}
 use Rattle.ksm_tree.proofs.slots.Slots.open.Goals as goal
 

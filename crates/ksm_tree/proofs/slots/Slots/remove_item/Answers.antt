@@ -1,6 +1,5 @@
-use Rattle.ksm_tree.proofs.Names.{arith, get_or_past, without_item}
+use Rattle.ksm_tree.proofs.Names.{arith, get_or_past, nil_from_length, without_item}
 use Rattle.ksm_tree.proofs.OneSlot.{seen_slot, slots_changed, slots_same}
-use Rattle.std.proofs.lemmas.List.{nil_from_length}
 use Rattle.ksm_tree.proofs.slots.Slots.remove_item.Goals as goal
 
 pub invariant_of-self : goal.invariant_of-self
