@@ -1,9 +1,25 @@
--- The pages of a dup and their keys: what is asked and changed of the pages is asked and changed of the keys.
-use Rattle.ksm_order.proofs.Names.{[], arith, comes_before, List, list_any, map, map-append, nat_lt, nat_tests, refl, same_page, true, ℕ, ◌<◌, ◌==◌, ◌^◌, ◌∷◌, ◌≡◌}
+-- The pages of a dup and their keys: what is asked and changed of the pages is asked and changed of the keys. And lists made by a map.
+use Rattle.ksm_order.proofs.Names.{[], All, All-head, All-map, All-tail, AllPairs, AllPairs-cons, arith, Bool, comes_before, filter, get_or, List, list_any, map, map-append, nat_lt, nat_tests}
+use Rattle.ksm_order.proofs.Names.{pairs_head, pairs_tail, refl, same_page, suc, true, ℕ, ◌<◌, ◌==◌, ◌^◌, ◌∷◌, ◌≡◌}
 use Rattle.ksm_base.specs.declared.page.GuestPage.{GuestPage}
 use Rattle.ksm_rmap.specs.Items.{AreAscending, has_item, with_item, without_item}
 use Rattle.ksm_rmap.specs.Keys.{AreKeys, key_of, page_of, with_key, without_key}
-use Rattle.ksm_rmap.proofs.Alike.{filter_mapped, pairs_mapped}
+
+module _ {X Y : Type 0} (g : X → Y) (p : Y → Bool) (q : X → Bool) where
+  -- where two tests agree across a map, those kept of the mapped list are the images of those kept before
+  pub filter_mapped : (xs : List X) → All (λ x. p (g x) ≡ q x) xs → filter p (map g xs) ≡ map g (filter q xs)
+  filter_mapped [] same = refl
+  filter_mapped (x ∷ xs) same =
+      let rest = filter_mapped xs (λ k d lt. same (suc k) d (omega arith)) in grind (arith, same 0 x)
+
+-- a map that takes related elements to related ones makes a list in order of a list in order
+pub pairs_mapped : {X Y : Type 0} (S : X → X → Type 0) (R : Y → Y → Type 0) (P : X → Type 0) (g : X → Y) → ((a b : X) → P a → P b → S a b → R (g a) (g b)) → (xs : List X) → All P xs → AllPairs S xs → AllPairs R (map g xs)
+pairs_mapped S R P g step [] all rise = λ i j d less lt. absurd (omega arith)
+pairs_mapped S R P g step (x ∷ xs) all rise =
+    AllPairs-cons R _ _
+    (All-map (R (g x)) g xs (λ k d lt. step x (get_or xs k d) (All-head P x xs all) (all (suc k) d (omega arith))
+    (pairs_head S x xs rise k d lt)))
+    (pairs_mapped S R P g step xs (All-tail P x xs all) (pairs_tail S x xs rise))
 
 -- where keys ascend, their pages do
 pub pages_rise : (keys : List ℕ) → AreKeys keys → AreAscending (map page_of keys)

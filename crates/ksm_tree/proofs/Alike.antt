@@ -1,6 +1,6 @@
 -- A list that is made of another, element by element: what is searched, kept and counted in it.
 use Rattle.ksm_tree.proofs.Names.{[], All, arith, Bool, count_by, false, filter, find, get_or, if◌then◌else◌, length-filter, length-map, List, map, map-id, option_map, refl, suc, ◌∙◌, ◌∷◌, ◌≡◌}
-pub use Rattle.ksm_rmap.proofs.Alike.{filter_mapped, pairs_mapped}
+pub use Rattle.ksm_rmap.proofs.Keys.{filter_mapped, pairs_mapped}
 
 -- where h is f after g at each element, a map by g and then by f makes the list that h makes
 pub map_mapped : {X Y Z : Type 0} (f : Y → Z) (g : X → Y) (h : X → Z) (xs : List X) → All (λ x. f (g x) ≡ h x) xs → map f (map g xs) ≡ map h xs

@@ -1,13 +1,12 @@
 -- The dups in their groups: what is found there, and how that stays right with a change of items, with a dup that goes, and with a new one.
-use Rattle.ksm_tree.proofs.Names.{[], absent_kept, All, All-filter, all_with_dup, ap, AreChained, arith, Bool, bytes_eq-Decides, cases_Bool, chain_in, change_at, change_items, count-append, count_by}
-use Rattle.ksm_tree.proofs.Names.{count_by-le-length, count_more, count_none, Dup, dup_at, dup_of, DupRow, dups_parted as rows_parted, dups_seen, dups_with, DupsState, false, filter, filter_passes}
-use Rattle.ksm_tree.proofs.Names.{find, find_none, find_nothing, found_parts, get, get_or, Group, group_places, GuestPage, has_number, if◌then◌else◌, in_group, inl, InPlaceOrder, inr, IsCountedAnew}
-use Rattle.ksm_tree.proofs.Names.{IsMoved, length, length-filter, length-map, List, list_all, list_all-append, list_all-from_AllPass, Lower, MOST_FRAMES, nat_le, nat_lt, nat_tests, None, none_counted}
-use Rattle.ksm_tree.proofs.Names.{not, number_in, numbers_ordered, Option, ordered_filter, pairs_head, pairs_tail, place_of, refl, rows_of, rules, same_group, SameChains, SlotsState, Some, stands_at}
-use Rattle.ksm_tree.proofs.Names.{subst, suc, sym, true, with_dup, with_new, with_place, without, without_place, zero, ℕ, ◌&&◌, ◌++◌, ◌+◌, ◌<◌, ◌==◌, ◌||◌, ◌∙◌, ◌∷◌, ◌≡◌, ◌≤◌}
-use Rattle.ksm_tree.specs.Totals.{AreTotals, chained_of, chains_of, IsRegrouped, Tells}
+use Rattle.ksm_tree.proofs.Names.{[], absent_kept, All, All-filter, all_with_dup, ap, AreChained, arith, Bool, bytes_eq-Decides, cases_Bool, change_at, change_items, content_in, count-append}
+use Rattle.ksm_tree.proofs.Names.{count_by, count_by-le-length, count_more, count_none, Dup, dup_at, dup_of, DupRow, dups_parted as rows_parted, dups_seen, dups_with, DupsState, false, filter}
+use Rattle.ksm_tree.proofs.Names.{filter_passes, find, find_none, find_nothing, found_parts, get, get_or, Group, group_places, Groups, GuestPage, has_number, if◌then◌else◌, in_group, inl}
+use Rattle.ksm_tree.proofs.Names.{InPlaceOrder, inr, length, length-filter, length-map, List, list_all, list_all-append, list_all-from_AllPass, Lower, MOST_FRAMES, nat_le, nat_lt, nat_tests, None}
+use Rattle.ksm_tree.proofs.Names.{none_counted, not, numbers_ordered, Option, ordered_filter, pairs_head, pairs_tail, place_of, refl, rows_of, rules, same_group, SlotsState, Some, stands_at, subst}
+use Rattle.ksm_tree.proofs.Names.{suc, sym, true, with_dup, with_new, with_place, without, without_place, zero, ℕ, ◌&&◌, ◌++◌, ◌+◌, ◌<◌, ◌==◌, ◌||◌, ◌∙◌, ◌∷◌, ◌≡◌, ◌≤◌}
+use Rattle.ksm_tree.specs.Groups.{AreTotals, chain_in, chained_of, chains_of, IsCountedAnew, IsMoved, IsRegrouped, number_in, SameChains, Tells}
 use Rattle.ksm_base.specs.Counting.{group_size, in_chain, leads_group}
-use Rattle.ksm_tree.specs.declared.groups.Groups.{Groups}
 use Rattle.ksm_tree.specs.declared.groups.Totals.{Totals}
 use Rattle.ksm_tree.proofs.Alike.{chosen, count_alike, find_alike, map_alike}
 use Rattle.ksm_tree.proofs.OneSlot.{found_stands}
@@ -211,10 +210,14 @@ module _ (q : ℕ) {p : ℕ} {s : SlotsState} {next : ℕ} {groups : Groups} {se
       rw (← view) (ap (λ dups. dups_seen (with_dups s dups ready) next groups)
       (map_alike _ _ s.dups (λ k d lt. grind (arith, each_same k d lt))))
 
-module _ {s : SlotsState} {next : ℕ} {groups : Groups} (h : AreChained s next groups) (tree : ℕ) (bytes : List ℕ) {number : ℕ} {g : Group} (is : number_in tree bytes groups ≡ Some number) (at : Some g ≡ get groups.groups number) where
+module _ {s : SlotsState} {next : ℕ} {groups : Groups} (h : AreChained s next groups) (number : ℕ) {g : Group} (at : Some g ≡ get groups.groups number) where
   -- the group under the number of a tree and bytes lists the places of the dups of that tree and bytes
-  pub group_here : g.places.list.items ≡ group_places tree bytes (rows_of s.dups)
-  group_here = grind (arith)
+  pub group_here : (tree : ℕ) (bytes : List ℕ) → number_in tree bytes groups ≡ Some number → g.places.list.items ≡ group_places tree bytes (rows_of s.dups)
+  group_here tree bytes is = grind (arith, h.grouped tree bytes)
+
+  -- and so it does of its own
+  pub group_found : g.places.list.items ≡ group_places g.content.tree g.content.bytes (rows_of s.dups)
+  group_found = group_here _ _ ((groups.lawful g.content number).1 (ap content_in (sym at)))
 
 -- where a tree and bytes have no number, no dup is of these
 pub ungrouped : {s : SlotsState} {next : ℕ} {groups : Groups} → AreChained s next groups → (t : ℕ) (b : List ℕ) → number_in t b groups ≡ None → All (λ d. in_group t b d.row ≡ false) s.dups

@@ -59,10 +59,6 @@ tied_count rows dups number d tied found =
 pub number_found : (number : ℕ) (dups : List Dup) (d : Dup) → dup_of number dups ≡ Some d → d.row.number ≡ number
 number_found number dups d found = search (eqb-true, find_passes)
 
--- what holds of each dup and of a new one holds of each with it
-all_with_new : (P : Dup → Type 0) (dup : Dup) (dups : List Dup) → All P dups → P dup → All P (with_new dup dups)
-all_with_new P dup dups each one = search (All-append, All-filter, All-cons)
-
 -- two pages make a dup with a new number
 module _ (rows : List Row) (first second : Row) (row : DupRow) (rise : InPageOrder rows) (found : row_at first.page rows ≡ Some first) (also : row_at second.page rows ≡ Some second)
     (alone : merged_state first.state ≡ false) (alone_too : merged_state second.state ≡ false) (none : All (λ r. merged_into row.number r.state ≡ false) rows) where
@@ -92,8 +88,10 @@ module _ (rows : List Row) (first second : Row) (row : DupRow) (rise : InPageOrd
 
   -- rows and dups stay tied where two pages make a dup whose number is above all others
   pub tied_made : (dups : List Dup) → All (λ r. r.number < row.number) (rows_of dups) → AreTied rows dups → AreTied whole (with_new (record { row = row; items = with_item second.page (first.page ∷ []) }) dups)
-  tied_made dups fresh tied = all_with_new (IsTied whole) _ dups
-      (λ k e lt. grind (arith, others, all_rows (λ r. r.number < row.number) dups fresh k e lt)) (sym both_in)
+  tied_made dups fresh tied =
+      let each : All (IsTied whole) dups = λ k e lt. grind (arith, others, all_rows (λ r. r.number < row.number) dups fresh k e lt) in
+      All-append (IsTied whole) _ _ (All-filter _ (IsTied whole) dups each)
+      (All-cons (IsTied whole) _ _ (sym both_in) (All-filter _ (IsTied whole) dups each))
 
 -- rows and dups stay tied where a row that is not merged comes
 pub tied_inserted : (rows : List Row) (row : Row) (dups : List Dup) → InPageOrder rows → row_at row.page rows ≡ None → merged_state row.state ≡ false → AreTied rows dups → AreTied (with_row row rows) dups

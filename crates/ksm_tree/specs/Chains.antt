@@ -2,9 +2,8 @@
 use Rattle.ksm_tree.specs.Terms.{Bool, bytes_eq, DupRow, filter, length, List, map, MOST_FRAMES, nat_lt, ℕ, ◌&&◌, ◌==◌, ◌≡◌, ◌≤◌}
 use Rattle.ksm_tree.specs.declared.groups.Groups.{Groups}
 use Rattle.ksm_tree.specs.Dups.{AreDups, DupsState, rows_of}
-use Rattle.ksm_tree.specs.Groups.{chain_in}
+use Rattle.ksm_tree.specs.Groups.{AreTotals, chain_in}
 use Rattle.ksm_tree.specs.Slots.{SlotsState}
-use Rattle.ksm_tree.specs.Totals.{AreTotals}
 
 abbrev pub in_group : ℕ → List ℕ → DupRow → Bool
 in_group tree bytes r = r.tree == tree && bytes_eq r.bytes bytes

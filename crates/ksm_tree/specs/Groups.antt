@@ -1,9 +1,35 @@
--- The groups: the dups of one tree and one content (mm/ksm: a chain links the copies of one content).
-use Rattle.ksm_tree.specs.Terms.{[], Bool, bytes_eq, ForSome, get, if◌then◌else◌, is_some, length, List, MOST_SPARE, nat_lt, None, Option, Some, true, ℕ, ◌&&◌, ◌+◌, ◌==◌, ◌≡◌, ◌≤◌}
+-- The groups: the dups of one tree and one content (mm/ksm: a chain links the copies of one content), and how many are chains.
+use Rattle.ksm_tree.specs.Terms.{[], Bool, bytes_eq, count_by, DupRow, ForSome, get, if◌then◌else◌, in_chain, is_some, leads_group, length, List, MOST_SPARE, nat_lt, None, Option, Some, true, ℕ, ◌&&◌}
+use Rattle.ksm_tree.specs.Terms.{◌+◌, ◌<◌, ◌==◌, ◌^◌, ◌≡◌, ◌≤◌}
 use Rattle.smallvec.specs.SmallVec.{HasRoomFor}
 use Rattle.ksm_tree.specs.declared.groups.Groups.{Groups}
 use Rattle.ksm_tree.specs.Numbered.{KeepsReserve, number_of, places_in}
-use Rattle.ksm_tree.specs.Totals.{IsRegrouped, Tells}
+use Rattle.ksm_tree.specs.declared.groups.Totals.{Totals}
+
+-- how many chains a group of so many dups is: one, if they are two or more
+abbrev pub chains_of : ℕ → ℕ
+chains_of n = if nat_lt 1 n then 1 else 0
+
+-- how many dups of a group of so many are in a chain: all, if they are two or more
+abbrev pub chained_of : ℕ → ℕ
+chained_of n = if nat_lt 1 n then n else 0
+
+-- the totals count a group of so many dups, and are small
+pub record Tells (n : ℕ) (totals : Totals) : Type 0 where
+  pub chains : chains_of n ≤ totals.chains
+  pub dups : chained_of n ≤ totals.dups
+  pub few : totals.chains < 2 ^ 32
+  pub small : totals.dups < 2 ^ 32
+
+-- the totals once a group of `before` dups has `after`
+pub record IsRegrouped (before after : ℕ) (old new : Totals) : Type 0 where
+  pub chains : new.chains + chains_of before ≡ old.chains + chains_of after
+  pub dups : new.dups + chained_of before ≡ old.dups + chained_of after
+
+-- the totals are the book's: a chain is counted by its first dup
+pub record AreTotals (rows : List DupRow) (totals : Totals) : Type 0 where
+  pub chains : totals.chains ≡ count_by (λ d. in_chain rows d && leads_group rows d) rows
+  pub dups : totals.dups ≡ count_by (in_chain rows) rows
 
 -- what stands under a number, where there is one
 abbrev pub under : {X : Type 0} → X → (ℕ → X) → Option ℕ → X

@@ -10,5 +10,4 @@ pub mod Numbered
 pub mod Places
 pub mod Slots
 pub mod Terms
-pub mod Totals
 pub mod Waits

@@ -24,7 +24,7 @@ pub use Rattle.std.specs.Int.{bit_at}
 pub use Rattle.std.specs.List.{list_all, range_with_len}
 pub use Rattle.std.specs.Map.{lookup}
 pub use Rattle.std.specs.Option.{ForSome}
-pub use Rattle.std.specs.Prelude.{[], All, AllPairs, Bool, bytes_eq, cond, count_by, false, filter, filter_map, find, get_or, IfNone, IfOk, IfSome, if◌then◌else◌, is_none, is_some, IsOk}
-pub use Rattle.std.specs.Prelude.{IsTrue, length, List, map, MatchOption, nat_le, nat_lt, None, not, OnErr, OnOk, Option, option_copied, option_map, replicate, Result, set, slice_get, slice_index}
-pub use Rattle.std.specs.Prelude.{slice_index_or, slice_set, Some, suc, true, unwrap_or, ℕ, ◌%◌, ◌&&◌, ◌*◌, ◌++◌, ◌+◌, ◌/◌, ◌<◌, ◌==◌, ◌^◌, ◌||◌, ◌↔◌, ◌∷◌, ◌≡◌, ◌≢◌, ◌≤◌, ◌⊎◌}
+pub use Rattle.std.specs.Prelude.{[], All, AllPairs, Bool, bytes_eq, cond, count_by, false, filter, filter_map, find, get_or, IfNone, IfOk, IfSome, if◌then◌else◌, is_none, is_some, IsOk, IsTrue}
+pub use Rattle.std.specs.Prelude.{length, List, map, MatchOption, nat_le, nat_lt, None, not, OnErr, OnOk, Option, option_copied, option_map, replicate, set, slice_get, slice_index, slice_index_or}
+pub use Rattle.std.specs.Prelude.{slice_set, Some, suc, true, unwrap_or, ℕ, ◌%◌, ◌&&◌, ◌*◌, ◌++◌, ◌+◌, ◌/◌, ◌<◌, ◌==◌, ◌^◌, ◌||◌, ◌↔◌, ◌∷◌, ◌≡◌, ◌≢◌, ◌≤◌, ◌⊎◌}
 pub use Rattle.std.specs.declared.cmp.Ordering.{Ordering}

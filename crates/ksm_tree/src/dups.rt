@@ -267,7 +267,9 @@ impl Dups {
         ensures lawful { AreDups self.old }
     {
         let number = self.next;
-        let items = pair(self.alloc, first, second)?;
+        let mut items = Items::new(self.alloc);
+        items.add(first)?;
+        items.add(second)?;
         self.slots.reserve()?;
         self.groups.reserve(group)?;
         vacate(&mut self.slots, &mut self.groups, place);
@@ -527,16 +529,4 @@ fn vacate(slots: &mut Slots, groups: &mut Groups, place: u32)
         groups.remove(guess, dup.row.tree, &dup.row.bytes, place);
         slots.clear(place);
     }
-}
-
-/// The items of a new dup. The one fault is `Memory`.
-fn pair(alloc: Global, first: GuestPage, second: GuestPage) -> Result<Items, Fault>
-    requires { same_page first second ≡ false }
-    ensures both { IfOk result (λ items. items ≡ with_item second (first ∷ [])) }
-    ensures memory { FailsForMemory result }
-{
-    let mut items = Items::new(alloc);
-    items.add(first)?;
-    items.add(second)?;
-    Ok(items)
 }

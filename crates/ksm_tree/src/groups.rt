@@ -12,7 +12,6 @@
 ghost use Rattle.ksm_tree.specs.Terms.{[], FailsForMemory, false, get, IfOk, IfSome, is_some, IsOk, IsTrue, length, List, MOST_FRAMES as most_frames, MOST_SPARE as most_spare, OnOk, option_copied};
 ghost use Rattle.ksm_tree.specs.Terms.{Some, true, ℕ, ◌+◌, ◌≡◌, ◌≢◌, ◌≤◌, ◌⊎◌};
 ghost use Rattle.slab.specs.Slab.{HasRoomFor};
-ghost use Rattle.ksm_tree.specs.Totals.{IsRegrouped, Tells};
 ghost use Rattle.ksm_tree.specs.Numbered.{AreGroups, has_place, places_in};
 ghost use Rattle.ksm_tree.specs.Places.{with_place, without};
 
@@ -52,6 +51,8 @@ pub struct Totals {
 }
 
 impl Totals {
+    ghost use Rattle.ksm_tree.specs.Groups.{IsRegrouped, Tells};
+
     /// The totals once a group of `before` dups has `after`.
     pub fn regrouped(self, before: usize, after: usize) -> Totals
         requires told { Tells before self }
@@ -243,21 +244,14 @@ impl Groups {
     }
 
     // Where there are as many groups as may be, those go in which no dup stands.
+    #[tactic(auto, using(crate::proofs::Standing::all_used, std::proofs::lemmas::List::get_or_past))]
     fn make_room(&mut self)
         ensures chains { SameChains self.old self.new }
         ensures room { IsSwept self.new ⊎ SameNumbers self.old self.new }
     {
-        if self.numbers.len() >= self.most {
-            self.sweep();
+        if self.numbers.len() < self.most {
+            return;
         }
-    }
-
-    // The groups in which no dup stands go.
-    #[tactic(auto, using(crate::proofs::Standing::all_used, std::proofs::lemmas::List::get_or_past))]
-    fn sweep(&mut self)
-        ensures chains { SameChains self.old self.new }
-        ensures swept { IsSwept self.new }
-    {
         for number in 0..self.groups.capacity() {
             self.drop_idle(number);
         }

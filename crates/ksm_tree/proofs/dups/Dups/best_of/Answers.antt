@@ -1,5 +1,5 @@
-use Rattle.ksm_tree.proofs.Names.{[], ap, arith, content_in, content_of, found_at, nil_from_length, option_map, sym, true, ◌∙◌}
-use Rattle.ksm_tree.proofs.Chained.{group_here}
+use Rattle.ksm_tree.proofs.Names.{[], ap, arith, content_of, found_at, nil_from_length, option_map, sym, true, ◌∙◌}
+use Rattle.ksm_tree.proofs.Chained.{group_found, group_here}
 use Rattle.ksm_tree.proofs.Joining.{walk_best}
 use Rattle.ksm_tree.proofs.Standing.{not_unused}
 use Rattle.ksm_tree.proofs.dups.Dups.best_of.Goals as goal
@@ -7,15 +7,12 @@ use Rattle.ksm_tree.proofs.dups.Dups.best_of.Goals as goal
 pub returns-then-is_empty-clause-best : goal.returns-then-is_empty-clause-best
 returns-then-is_empty-clause-best c = rw (← c.self.view_is) (λ tree bytes is.
     let empty = sym (nil_from_length c.as_slice-chain.result.now (grind (arith, c.if-is_empty.ensures))) in
-    let none = empty ∙ c.as_slice-chain.ensures ∙ group_here c.self.invariant _ _ is c.in_ok-found.ensures in
+    let none = empty ∙ c.as_slice-chain.ensures ∙ group_here c.self.invariant _ c.in_ok-found.ensures tree bytes is in
     ap (option_map found_at) (walk_best _ _ _ _ [] true none c.self.invariant.lawful.in_place_order))
 
 pub best_in-requires : goal.best_in-requires
 best_in-requires c =
-    let s = c.self.inside in
-    let g = c.in_ok-found.found.now in
-    let own = (s.groups.lawful g.content c.args.group).1 (ap content_in (sym c.in_ok-found.ensures)) in
-    rw (← c.self.view_is) (c.as_slice-chain.ensures ∙ group_here c.self.invariant _ _ own c.in_ok-found.ensures)
+    rw (← c.self.view_is) (c.as_slice-chain.ensures ∙ group_found c.self.invariant _ c.in_ok-found.ensures)
 
 pub returns-clause-best : goal.returns-clause-best
 returns-clause-best c = rw (← c.self.view_is)

@@ -19,19 +19,19 @@ vacant c = c.vacate.ensures.chained _ (room_chained c.self.invariant c.reserve.e
 seen : (c : After-vacate) → dups_seen c.vacate.new.slots c.self.inside.next c.vacate.new.groups ≡ record c.args.self.now { dups = without_place c.args.place c.args.self.now.dups }
 seen c = grind (arith, c.self.view_is, c.reserve.ensures.kept, c.reserve-2.ensures.numbers, c.vacate.ensures.gone, c.vacate.ensures.numbers)
 
-pub add-requires-clause-counted : goal.add-requires-clause-counted
-add-requires-clause-counted c = told (vacant (goal.at.add-requires-clause-counted c).After-vacate)
+pub add-requires-3-clause-counted : goal.add-requires-3-clause-counted
+add-requires-3-clause-counted c = told (vacant (goal.at.add-requires-3-clause-counted c).After-vacate)
 
 pub invariant_of-self-2 : goal.invariant_of-self-2
 invariant_of-self-2 c =
     let here = (goal.at.invariant_of-self-2 c).After-vacate in
     let named = ap (λ s. number_of c.args.tree c.args.bytes.now s.numbers) (seen here) ∙ c.requires.known in
     rw c.put.ensures (fresh_chained _ _ (vacant here) refl (grind arith) (grind (arith, none_left))
-    (c.add.ensures.added _ _ named) (c.add.ensures.totals _ _ named))
+    (c.add-3.ensures.added _ _ named) (c.add-3.ensures.totals _ _ named))
 
 pub returns-clause-made : goal.returns-clause-made
 returns-clause-made c =
     let view = seen (goal.at.returns-clause-made c).After-vacate in
     let dup : ℕ → Dup = λ n. record { row = record { number = n; place = c.args.place; tree = c.args.tree; bytes = c.args.bytes.now }; items = with_item c.args.second (c.args.first ∷ []) } in
     let again = new_again (dup c.args.self.now.next) c.args.self.now.dups in
-    c.keep_open.ensures ∙ rw (c.put.ensures, c.in_ok-items.ensures.both) (grind (arith, view, again, c.add.ensures.numbers))
+    c.keep_open.ensures ∙ rw (c.put.ensures, c.in_ok-add-2.ensures.added) (grind (arith, view, again, c.add-3.ensures.numbers))

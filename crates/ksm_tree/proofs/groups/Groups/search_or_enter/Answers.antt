@@ -1,4 +1,5 @@
-use Rattle.ksm_tree.proofs.Names.{arith, content_of, get, Group, inl, None, number_in, refl, rules, Some, ◌∙◌, ◌≡◌}
+use Rattle.ksm_tree.proofs.Names.{arith, content_of, get, Group, inl, None, refl, rules, Some, ◌∙◌, ◌≡◌}
+use Rattle.ksm_tree.specs.Groups.{number_in}
 use Rattle.std.specs.BTreeMap.Entry.{map_with_value}
 use Rattle.slab.specs.Slab.{Updates as Fills}
 use Rattle.ksm_tree.proofs.Standing.{Keeps, keeps, no_other}

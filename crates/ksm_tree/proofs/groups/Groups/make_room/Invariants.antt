@@ -1,5 +1,6 @@
-use Rattle.ksm_tree.proofs.Names.{get, has_place, is_some, length, SameChains, true, ℕ, ◌<◌, ◌≡◌}
-use Rattle.ksm_tree.proofs.groups.Groups.sweep.Given as goal
+use Rattle.ksm_tree.proofs.Names.{get, has_place, is_some, length, true, ℕ, ◌<◌, ◌≡◌}
+use Rattle.ksm_tree.specs.Groups.{SameChains}
+use Rattle.ksm_tree.proofs.groups.Groups.make_room.Given as goal
 
 -- a dup stands in each of the groups so far
 abbrev pub invariant-loop-number : goal.invariant-loop-number
