@@ -4,8 +4,9 @@ ghost use Rattle.std.specs.Prelude.{◌≡◌, ◌<◌, ◌≤◌, ◌^◌, [], 
 ghost use Rattle.ksm_base.specs.declared.limits.TheConstants.{MOST_REFERENCES};
 ghost use Rattle.ksm_base.specs.declared.page.GuestPage.{GuestPage};
 ghost use Rattle.ksm_rmap.specs.Items.{AreAscending, has_item, with_item, without_item};
-ghost use Rattle.ksm_rmap.specs.Keys.{key_of, page_of};
+ghost use Rattle.ksm_rmap.specs.Keys.{page_of};
 
+use crate::key::{key_of, page_of};
 use ksm_base::{Fault, GuestPage};
 use ksm_order::{move_down, move_last, place_near_end, place_of, stands_at};
 use smallvec::SmallVec;
@@ -119,26 +120,4 @@ fn pages_of(alloc: Global, keys: &[u64]) -> Result<Vec<GuestPage>, AllocError>
     ensures { IfOk result (λ pages. pages.items ≡ map page_of keys.now) }
 {
     keys.iter().map(|key| page_of(*key)).collect(alloc)
-}
-
-/// The key of a page, below 2^48: its guest, then its number. Keys are in the order of their pages.
-#[inline(always)]
-pub fn key_of(page: GuestPage) -> u64
-    ensures key { result ≡ key_of page }
-    ensures small { result < 2 ^ 48 }
-    ensures few { page.page < 2 ^ 32 }
-{
-    (u64::from(page.guest) << 32) + u64::from(page.page)
-}
-
-/// The page of a key, which is below 2^48.
-#[inline(always)]
-pub fn page_of(key: u64) -> GuestPage
-    requires { key < 2 ^ 48 }
-    ensures { result ≡ page_of key }
-{
-    GuestPage {
-        guest: (key >> 32) as u16,
-        page: (key % (1 << 32)) as u32,
-    }
 }

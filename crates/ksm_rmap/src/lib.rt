@@ -2,5 +2,7 @@
 #![tactic(auto)]
 
 mod items;
+mod key;
 
-pub use items::{Items, key_of, page_of};
+pub use items::Items;
+pub use key::{key_of, page_of};

@@ -7,7 +7,7 @@ use Rattle.ksm_tree.proofs.Names.{none_counted, not, numbers_ordered, Option, or
 use Rattle.ksm_tree.proofs.Names.{suc, sym, true, with_dup, with_new, with_place, without, without_place, zero, ℕ, ◌&&◌, ◌++◌, ◌+◌, ◌<◌, ◌==◌, ◌||◌, ◌∙◌, ◌∷◌, ◌≡◌, ◌≤◌}
 use Rattle.ksm_tree.specs.Groups.{AreTotals, chain_in, chained_of, chains_of, IsCountedAnew, IsMoved, IsRegrouped, number_in, SameChains, Tells}
 use Rattle.ksm_base.specs.Counting.{group_size, in_chain, leads_group}
-use Rattle.ksm_tree.specs.declared.groups.Totals.{Totals}
+use Rattle.ksm_tree.specs.declared.totals.Totals.{Totals}
 use Rattle.ksm_tree.proofs.Alike.{chosen, count_alike, find_alike, map_alike}
 use Rattle.ksm_tree.proofs.OneSlot.{found_stands}
 use Rattle.ksm_tree.proofs.Rows.{group_joined, group_passed, own_group, self_group}

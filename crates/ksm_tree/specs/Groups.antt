@@ -4,7 +4,7 @@ use Rattle.ksm_tree.specs.Terms.{◌+◌, ◌<◌, ◌==◌, ◌^◌, ◌≡◌,
 use Rattle.smallvec.specs.SmallVec.{HasRoomFor}
 use Rattle.ksm_tree.specs.declared.groups.Groups.{Groups}
 use Rattle.ksm_tree.specs.Numbered.{KeepsReserve, number_of, places_in}
-use Rattle.ksm_tree.specs.declared.groups.Totals.{Totals}
+use Rattle.ksm_tree.specs.declared.totals.Totals.{Totals}
 
 -- how many chains a group of so many dups is: one, if they are two or more
 abbrev pub chains_of : ℕ → ℕ

@@ -9,15 +9,16 @@
 //! steps. How many groups are chains is kept beside them, so the counters of chains are read.
 #![tactic(auto, using(crate::proofs::Standing::steps))]
 
-ghost use Rattle.ksm_tree.specs.Terms.{[], FailsForMemory, false, get, IfOk, IfSome, is_some, IsOk, IsTrue, length, List, MOST_FRAMES as most_frames, MOST_SPARE as most_spare, OnOk, option_copied};
+ghost use Rattle.ksm_tree.specs.Terms.{[], FailsForMemory, false, get, IfOk, IfSome, is_some, IsTrue, length, List, MOST_FRAMES as most_frames, MOST_SPARE as most_spare, OnOk, option_copied};
 ghost use Rattle.ksm_tree.specs.Terms.{Some, true, ℕ, ◌+◌, ◌≡◌, ◌≢◌, ◌≤◌, ◌⊎◌};
-ghost use Rattle.slab.specs.Slab.{HasRoomFor};
 ghost use Rattle.ksm_tree.specs.Numbered.{AreGroups, has_place, places_in};
 ghost use Rattle.ksm_tree.specs.Places.{with_place, without};
 
 use crate::content::{Content, SLOTS, same_bytes, slot_of};
 use crate::guesses::Guesses;
 use crate::places::Places;
+use crate::room::reserve_one;
+use crate::totals::Totals;
 use ksm_base::{Fault, MOST_FRAMES, PageBytes};
 use slab::Slab;
 use std::alloc::Global;
@@ -38,41 +39,6 @@ pub const MOST_SPARE: usize = SPARE + 4 * MOST_FRAMES as usize;
 pub struct Group {
     pub content: Content,
     pub places: Places,
-}
-
-/// How many groups are chains, of two dups or more, and how many dups are in chains (mm/ksm: stable_node_chains,
-/// stable_node_dups).
-#[derive(Clone, Copy)]
-pub struct Totals {
-    pub chains: usize,
-    pub dups: usize,
-    /// The most dups that a chain has had since there was none. Nothing is promised of it.
-    pub longest: usize,
-}
-
-impl Totals {
-    ghost use Rattle.ksm_tree.specs.Groups.{IsRegrouped, Tells};
-
-    /// The totals once a group of `before` dups has `after`.
-    pub fn regrouped(self, before: usize, after: usize) -> Totals
-        requires told { Tells before self }
-        requires step { after ≤ before + 1 }
-        ensures { IsRegrouped before after self result }
-    {
-        let mut totals = self;
-        if before > 1 {
-            totals.chains -= 1;
-            totals.dups -= before;
-        }
-        if after > 1 {
-            totals.chains += 1;
-            totals.dups += after;
-            totals.longest = totals.longest.max(after);
-        } else if totals.chains == 0 {
-            totals.longest = 0;
-        }
-        totals
-    }
 }
 
 /// The groups, and how many of them are chains.
@@ -322,23 +288,4 @@ impl Groups {
             self.totals = self.totals.regrouped(before, group.places.list.len());
         }
     }
-}
-
-/// From so many values on a slab grows by a quarter.
-const LARGE: usize = 65_536;
-
-/// Takes room for one value more, or for more of them. The one fault is `Memory`.
-pub fn reserve_one<T>(slab: &mut Slab<T>) -> Result<(), Fault>
-    ensures room { OnOk result (HasRoomFor slab.new 1) }
-    ensures succeeds { HasRoomFor slab.old 1 → IsOk result }
-    ensures rest { slab.new ≡ record slab.old { capacity = slab.new.capacity } }
-    ensures memory { FailsForMemory result }
-{
-    let len = slab.len();
-    if len < LARGE || len < slab.capacity() {
-        slab.reserve(1)?;
-    } else {
-        slab.reserve_exact(len / 4)?;
-    }
-    Ok(())
 }
