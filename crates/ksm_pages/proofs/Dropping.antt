@@ -4,9 +4,8 @@ use Rattle.ksm_pages.proofs.Names.{eqb-true, false, filter, filter_all, find, fi
 use Rattle.ksm_pages.proofs.Names.{in_group, InPlaceOrder, is_item, is_live, is_some, is_stale, IsVacant, item_count, items_on, Knobs, length, List, list_any, lodging, lodgings_of, Merged}
 use Rattle.ksm_pages.proofs.Names.{merged_into, nat_tests, None, none_counted, none_found, not, one_of_each_place, Option, option_and_then, option_map, refl, Row, row_at, rows_of, rows_without, set}
 use Rattle.ksm_pages.proofs.Names.{slice_get, Some, stands_at, subst, sym, tied_counted, tree_of, true, without_place, ℕ, ◌&&◌, ◌<◌, ◌==◌, ◌∙◌, ◌≡◌}
-use Rattle.ksm_pages.proofs.Changing.{row_found}
+use Rattle.ksm_pages.proofs.Changing.{frame_by, row_found, seat}
 use Rattle.ksm_pages.proofs.Found.{find_kept}
-use Rattle.ksm_pages.proofs.Lodgings.{frame_by, seat}
 use Rattle.ksm_pages.proofs.Options.{some_mapped}
 use Rattle.ksm_pages.proofs.Leading.{get_set}
 

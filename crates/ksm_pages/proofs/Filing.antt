@@ -1,10 +1,10 @@
 -- Entries under keys and the order of their pages: what is found there, and what entries leave that come, go or change.
-use Rattle.ksm_pages.proofs.Names.{[], All, All-filter, All-map, ap, ap₂, AreAscending, AreFiled, arith, Bool, CalledAt, change_held, comes_before, count_by, count_mapped, count_none}
-use Rattle.ksm_pages.proofs.Names.{Entry, false, Fills, filter, filter_mapped, filter_passes, find, find_all, find_mapped, find_passes, forgotten, get, get_or, get_or-map, GuestPage, Held, held_at}
-use Rattle.ksm_pages.proofs.Names.{held_in, held_of, held_under, holds, if◌then◌else◌, InPageOrder, is_of, IsRows, IsTally, IsUnder, key_in, List, Listing, map, map-append, map_alike, map_fixed}
-use Rattle.ksm_pages.proofs.Names.{map_mapped, marked, mergeable_pages, merged_state, MutBor, Named, named_of, None, not, Not, on_row, Option, option_map, out_of_tree, PageState, pairs_mapped, refl}
-use Rattle.ksm_pages.proofs.Names.{RetainsFrom, Row, rows_of, RowsView, rules, same_page, same_page_eq, same_page_refl, same_Some, settled, settled_state, Slab, Some, sym, Tally, true, visited}
-use Rattle.ksm_pages.proofs.Names.{waiting_state, with_held, with_named, without_held, without_named, zero_state, ℕ, ◌+◌, ◌==◌, ◌∙◌, ◌∷◌, ◌≡◌, ◌≢◌, ◌≤◌}
+use Rattle.ksm_pages.proofs.Names.{[], All, All-filter, All-map, ap, ap₂, AreAscending, AreFiled, arith, Bool, CalledAt, change_held, comes_before, count_by, count_mapped, count_none, Entry, false}
+use Rattle.ksm_pages.proofs.Names.{Fills, filter, filter_mapped, filter_passes, find, find_all, find_mapped, find_passes, forgotten, get, get_or, get_or-map, GuestPage, Held, held_at, held_in}
+use Rattle.ksm_pages.proofs.Names.{held_of, held_under, holds, if◌then◌else◌, InPageOrder, is_of, IsRows, IsTally, IsUnder, key_in, List, Listing, map, map-append, map_alike, map_fixed, map_mapped}
+use Rattle.ksm_pages.proofs.Names.{marked, mergeable_pages, merged_state, MutBor, Named, named_of, None, not, Not, on_row, Option, option_map, out_of_tree, PageState, pairs_mapped, refl, RetainsFrom}
+use Rattle.ksm_pages.proofs.Names.{Row, rows_of, RowsView, rules, same_page, same_page_eq, same_page_refl, same_Some, settled, settled_state, Slab, Some, sym, Tally, true, visited, waiting_state}
+use Rattle.ksm_pages.proofs.Names.{with_held, with_named, without_held, without_named, zero_state, ℕ, ◌+◌, ◌==◌, ◌∙◌, ◌∷◌, ◌≡◌, ◌≢◌, ◌≤◌}
 use Rattle.ksm_pages.proofs.Options.{mapped_some, none_mapped}
 use Rattle.ksm_pages.specs.declared.rows.Rows.TheInside.{Inside}
 use Rattle.ksm_pages.proofs.Found.{each_found, find_change, find_gone, find_gone_other, find_put, find_put_other}

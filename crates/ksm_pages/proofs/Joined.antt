@@ -4,10 +4,8 @@ use Rattle.ksm_pages.proofs.Names.{get_or, GuestPage, has_number, HasRoom, Held,
 use Rattle.ksm_pages.proofs.Names.{merged_state, MOST_REFERENCES, nat_tests, None, number_found, Option, option_map, PageState, PagesValue, refl, relaid, row_found, rows_items, rows_of, RowsView}
 use Rattle.ksm_pages.proofs.Names.{seen, shared_state, shares, Some, subst, sym, tied_count, tied_joined, true, with_item, ℕ, ◌<◌, ◌==◌, ◌∙◌, ◌≡◌}
 use Rattle.ksm_tree.specs.Dups.{items_of as items_numbered}
-use Rattle.ksm_pages.proofs.Changing.{row_found as found_rows}
+use Rattle.ksm_pages.proofs.Changing.{frame_by, row_found as found_rows, seat, shared_lone}
 use Rattle.ksm_pages.proofs.Leaving.{AreLawful, Comes, of_dup, of_page, row_there, turned_so, view_of}
-use Rattle.ksm_pages.proofs.Lodgings.{frame_by, seat}
-use Rattle.ksm_pages.proofs.Lone.{shared_lone}
 
 -- a page with a frame of its own is not merged
 pub own_not_merged : (s : PageState) → shared_state s ≡ false → merged_state s ≡ false

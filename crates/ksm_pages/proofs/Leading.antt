@@ -1,12 +1,12 @@
 -- The unstable tree: what a key leaves of what is found that comes or goes, and an entry; and what rows show of it.
-use Rattle.ksm_pages.proofs.Names.{[], All, AreInTree, AreLed, AreWaitersLed, arith, Bool, BTreeMap, bytes_eq, bytes_eq-Decides, cases_Bool, Content, content_of, content_order, false_from_ne_true}
-use Rattle.ksm_pages.proofs.Names.{find_alike, same_page_refl, Entry, eq_bytes, false, Fills, find, find_all, find_nothing, find_passes, get, get_or, get_or-set_at, GONE, has_content, Held, held_of}
-use Rattle.ksm_pages.proofs.Names.{holder, holds, if◌then◌else◌, inl, inr, is_in, is_led, IsFree, Keeps, KeepsOthers, keys_at, length, length-set, List, list_any, list_any_at, MatchOption, meets}
-use Rattle.ksm_pages.proofs.Names.{nat_lt, nat_tests, NO_KEY, None, not, number_of, Option, option_map, page_in_tree, place, refl, same_page_eq, set, Slab, slice_get, slice_get_within, Some}
-use Rattle.ksm_pages.proofs.Names.{stands_as, stands_under, StaysLed, suc, told_equal, tree_by, true, UnstableTree, Updates, waiting_state, zero, ℕ, ⊤, ◌&&◌, ◌<◌, ◌==◌, ◌∷◌, ◌≡◌, ◌≢◌, ◌⊎◌}
+use Rattle.ksm_pages.proofs.Names.{[], All, AreInTree, AreLed, AreWaitersLed, arith, Bool, BTreeMap, bytes_eq, bytes_eq-Decides, cases_Bool, Content, content_of, content_order, Entry, eq_bytes, false}
+use Rattle.ksm_pages.proofs.Names.{false_from_ne_true, Fills, find, find_alike, find_all, find_nothing, find_passes, get, get_or, get_or-set_at, GONE, has_content, Held, held_of, holder, holds}
+use Rattle.ksm_pages.proofs.Names.{if◌then◌else◌, inl, inr, is_in, is_led, IsFree, Keeps, KeepsOthers, keys_at, length, length-set, List, list_any, list_any_at, MatchOption, meets, nat_lt, nat_tests}
+use Rattle.ksm_pages.proofs.Names.{NO_KEY, None, not, number_of, Option, option_map, page_in_tree, place, refl, same_page_eq, same_page_refl, set, Slab, slice_get, slice_get_within, Some, stands_as}
+use Rattle.ksm_pages.proofs.Names.{stands_under, StaysLed, suc, told_equal, tree_by, true, UnstableTree, Updates, waiting_state, zero, ℕ, ⊤, ◌&&◌, ◌<◌, ◌==◌, ◌∷◌, ◌≡◌, ◌≢◌, ◌⊎◌}
 use Rattle.std.specs.Vec.{with_item}
 use Rattle.ksm_pages.specs.declared.rows.Rows.TheInside.{Inside}
-use Rattle.ksm_pages.proofs.Filing.{all_held, differ_by, AreRows, one_key, row_found, rows_all, view_of}
+use Rattle.ksm_pages.proofs.Filing.{all_held, AreRows, differ_by, one_key, row_found, rows_all, view_of}
 
 -- where one content comes to have a number, or comes to have none, no other content does
 pub other_numbers : (old new : BTreeMap Content ℕ) (tree : ℕ) (bytes : List ℕ) (number : Option ℕ)
@@ -117,14 +117,7 @@ module _ {by_node : Bool} {slab : Slab Entry} {u : UnstableTree} (led : AreLed b
       → AreLed by_node later u
   led_out {later} {key} {o} fills out = led_less (λ t b k stands. grind (arith, differ_by, out, fills.others k))
 
-  -- where a search comes to each entry as before, the tree leads to all that are in it
-  pub led_kept : {new : UnstableTree} → Keeps by_node slab u new → AreLed by_node slab new
-  led_kept keeps = record {
-    at = λ t b k stands.
-        let was = led.at t b k stands in (was.0, keeps t b k (grind (arith, was.0)) was.1, was.2);
-  }
-
-  -- and so it does where one entry came to be in it, and a search comes to that too
+  -- where a search comes to each entry as before, and to one that came to be in the tree, it leads to all that are in it
   pub led_entered : {later : Slab Entry} {key : ℕ} {d e : Entry} {new : UnstableTree} → get slab key ≡ Some d → Fills slab later key (Some e)
       → ((k : ℕ) → stands_as by_node (tree_by by_node d.home) d.bytes (get slab k) ≡ false) → e.home ≡ d.home → e.bytes ≡ d.bytes
       → nat_lt key GONE ≡ true → Keeps by_node slab u new → meets new (tree_by by_node d.home) d.bytes key ≡ true
@@ -133,8 +126,9 @@ module _ {by_node : Bool} {slab : Slab Entry} {u : UnstableTree} (led : AreLed b
     at = λ t b k stands. elim (same_or_apart k key) [
       | inl same ↦ (grind arith, grind (arith, here t b, stands), λ l also. grind (arith, differ_by, was t b l, here t b, none l, also, stands))
       | inr apart ↦
-          let there = (led_kept {new = new} keeps).at t b k (was t b k apart stands) in
-          (there.0, there.1, λ l also. grind (arith, differ_by, here t b, none k, was t b, there.2 l, stands, also))
+          let stood = was t b k apart stands in
+          let there = led.at t b k stood in
+          (there.0, keeps t b k (grind (arith, there.0, stood)) there.1, λ l also. grind (arith, differ_by, here t b, none k, was t b, there.2 l, stands, also))
     ];
   }
     where

@@ -1,15 +1,18 @@
 -- The pages once the row of one page changed, or went: they are lawful still, and what is seen of them is changed so.
-use Rattle.ksm_pages.proofs.Names.{altered, ap, AreAlone, AreKept, AreTied, arith, change_row, Dup, dup_rows, DupsState, false, find_passes, frame_of, Frames, GuestPage, Held, held_at, InPageOrder}
-use Rattle.ksm_pages.proofs.Names.{Inside, is_some, IsAlone, IsKnown, lies_on, List, lodging, lodgings_of, MatchOption, None, Option, option_map, ordered_change, PagesValue, PagesView, relaid, Row}
-use Rattle.ksm_pages.proofs.Names.{row_at, rows_of, RowsView, same_page_eq, seen, shared_state, Some, subst, sym, true, ℕ, ◌∙◌, ◌≡◌}
-use Rattle.ksm_pages.proofs.Changing.{row_told, rows_changed}
+use Rattle.ksm_pages.proofs.Names.{altered, ap, AreAlone, AreKept, AreTied, arith, Bool, change_row, Dup, dup_rows, DupsState, false, find_passes, frame_of, Frames, GuestPage, Held, held_at}
+use Rattle.ksm_pages.proofs.Names.{InPageOrder, Inside, is_some, IsAlone, IsKnown, Knobs, lies_on, List, lodging, lodgings_of, MatchOption, None, not, Option, option_map, ordered_change, PagesValue}
+use Rattle.ksm_pages.proofs.Names.{PagesView, relaid, Row, row_at, rows_of, RowsView, same_page_eq, seen, shared_state, Some, subst, sym, tree_by, tree_of, true, ℕ, ◌==◌, ◌∙◌, ◌≡◌}
+use Rattle.ksm_pages.proofs.Changing.{frame_by, held_rise, IsLone, lodged_changed, lone_changed, page_of, row_told, rows_changed, seat}
 use Rattle.ksm_pages.proofs.Found.{change_one}
-use Rattle.ksm_pages.proofs.Lodgings.{frame_by, lodged_changed, page_of, seat}
-use Rattle.ksm_pages.proofs.Lone.{held_rise, IsLone, lone_changed}
 
 -- where the items of each dup lie
 abbrev pub of_dup : Inside → ℕ → Option ℕ
 of_dup s = lodging (dup_rows s.dups.dups) s.frames.items
+
+-- the tree of a row with a home
+pub tree_is : (knobs : Knobs) {by_node : Bool} → by_node ≡ not (knobs.merge_across_nodes == 1) → (row : Row)
+    → tree_by by_node row.home ≡ tree_of knobs row
+tree_is knobs by row = grind arith
 
 -- what is seen of the pages inside, as the value that tells pages apart
 abbrev pub view_of : Inside → PagesValue

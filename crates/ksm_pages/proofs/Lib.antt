@@ -6,15 +6,11 @@ pub mod Filing
 pub mod Changing
 pub mod Spots
 pub mod Writing
-pub mod Gathering
-pub mod Lodgings
-pub mod Lone
 pub mod Leaving
 pub mod Paging
 pub mod Dropping
 pub mod Joined
 pub mod Turning
-pub mod Partners
 pub mod Visiting
 pub mod Paired
 pub mod Leading

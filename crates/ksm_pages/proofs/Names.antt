@@ -6,7 +6,7 @@ pub use Rattle.ksm_base.proofs.Pages.{before_irrefl, one_before, same_page_eq, s
 pub use Rattle.ksm_base.proofs.RowCounts.{count_change_row, count_with_row, count_without_page, each_at_page, filter_all}
 pub use Rattle.ksm_base.proofs.Sums.{states-add}
 pub use Rattle.ksm_base.specs.Apply.{let_go, unshared}
-pub use Rattle.ksm_base.specs.Rows.{all_zero, InPlaceOrder, settled_state}
+pub use Rattle.ksm_base.specs.Rows.{InPlaceOrder, settled_state}
 pub use Rattle.ksm_order.proofs.Changes.{mark_of, mark_rises, same_key}
 pub use Rattle.ksm_order.proofs.Ordered.{absent_kept, absent_parts, any_found, found_parts, none_found, without_rises}
 pub use Rattle.ksm_order.proofs.Parts.{up_to_few}
@@ -17,17 +17,15 @@ pub use Rattle.ksm_pages.specs.Filed.{StaysLed}
 pub use Rattle.ksm_pages.specs.Held.{altered, AreInOrder, AreInTree, AreSmall, AreWaitersLed, beside, change_held, forgotten, has_content, HasGap, Held, held_at, held_of, holds, in_tree_by, is_alone}
 pub use Rattle.ksm_pages.specs.Held.{is_in, is_restless, IsAddedTo, IsFree, IsPutAmong, Listing, low_spot, on_row, out_of_tree, page_in_tree, pages_of, rows_of, RowsView, shares, state_of, tree_by}
 pub use Rattle.ksm_pages.specs.Held.{waiting_in, with_held, without_held, written}
-pub use Rattle.ksm_pages.specs.Left.{IsLeft}
+pub use Rattle.ksm_pages.specs.Paged.{AreAlone, AreKept, at_home_on, changed, elsewhere, frame_of, frame_seen, Frames, HasRoom, is_item, is_next, IsAlone, IsHeld, IsKnown, IsLeft, IsVacant, items_on}
+pub use Rattle.ksm_pages.specs.Paged.{lies_on, live_at, lodging, lodgings_of, MayPair, NoneHas, of_guest, on_its_own, PagesValue, PagesView, paired, relaid, seen}
 pub use Rattle.ksm_pages.specs.Ordered.{AreAscending, is_of, marked, named_by, visited, with_named, without_named}
-pub use Rattle.ksm_pages.specs.Paged.{AreAlone, AreKept, at_home_on, changed, elsewhere, Finds, FindsAt, frame_of, frame_seen, Frames, HasRoom, HasRow, is_item, is_next, IsAlone, IsHeld, IsKnown}
-pub use Rattle.ksm_pages.specs.Paged.{IsVacant, items_on, lies_on, live_at, lodging, lodgings_of, MayPair, NoneHas, of_guest, on_its_own, page_beside, PagesValue, PagesView, paired, relaid, seen}
-pub use Rattle.ksm_pages.specs.Terms.{after_cursor, AreTied, best_dup, best_of, change_row, change_rows, comes_before, counters_from, default_knobs, Dup, dup_numbered, dup_rows, DupRow, DupsState}
-pub use Rattle.ksm_pages.specs.Terms.{found_at, fresh_row, GuestPage, has_item, in_group, InPageOrder, is_for_zero, IsPlace, Item, item_count, items_of, Knobs, let_out, Merged, merged_into}
-pub use Rattle.ksm_pages.specs.Terms.{merged_state, MOST_REFERENCES, number_of, page_of, PageState, partner, place_count, Private, private_state, Row, row_at, same_page, settled, shared_state, stored}
-pub use Rattle.ksm_pages.specs.Terms.{tree_of, Waiting, waiting_state, waits_for, with_dup, with_row, without_page, Zero, zero_state}
-pub use Rattle.ksm_pages.specs.Unstable.{AreLed, digest, holder, is_led, Keeps, KeepsOthers, keys_at, meets, place, stands_as, stands_under, turned}
+pub use Rattle.ksm_pages.specs.Terms.{after_cursor, AreTied, best_dup, best_of, change_row, change_rows, comes_before, Dup, dup_numbered, dup_rows, DupRow, DupsState, fresh_row, GuestPage, has_item}
+pub use Rattle.ksm_pages.specs.Terms.{in_group, InPageOrder, IsPlace, Item, item_count, items_of, Knobs, let_out, Merged, merged_into, merged_state, MOST_REFERENCES, number_of, page_of, PageState}
+pub use Rattle.ksm_pages.specs.Terms.{partner, place_count, Private, private_state, Row, row_at, same_page, settled, shared_state, stored, tree_of, Waiting, waiting_state, waits_for, with_dup}
+pub use Rattle.ksm_pages.specs.Terms.{with_row, without_page, Zero, zero_state}
+pub use Rattle.ksm_pages.specs.Unstable.{AreLed, digest, holder, is_led, Keeps, KeepsOthers, keys_at, meets, place, stands_as, stands_under}
 pub use Rattle.ksm_pages.specs.declared.named.Named.{Named}
-pub use Rattle.ksm_pages.specs.declared.pages.Find.{Find}
 pub use Rattle.ksm_pages.specs.declared.pages.Pages.TheInside.{Inside}
 pub use Rattle.ksm_pages.specs.declared.restless.Listed.{Listed}
 pub use Rattle.ksm_pages.specs.declared.row.Entry.{Entry}
@@ -35,7 +33,7 @@ pub use Rattle.ksm_pages.specs.declared.row.InTree.{InTree}
 pub use Rattle.ksm_pages.specs.declared.row.InTree.TheVariants.{Not}
 pub use Rattle.ksm_pages.specs.declared.row.Spot.{Spot}
 pub use Rattle.ksm_pages.specs.declared.tally.Tally.{Tally}
-pub use Rattle.ksm_pages.specs.declared.unstable.TheConstants.{GONE, NO_KEY, SPREAD}
+pub use Rattle.ksm_pages.specs.declared.unstable.TheConstants.{GONE, NO_KEY}
 pub use Rattle.ksm_pages.specs.declared.unstable.UnstableTree.{UnstableTree}
 pub use Rattle.ksm_rmap.proofs.Keys.{before_as_key, behind_as_key, same_as_key}
 pub use Rattle.ksm_rmap.proofs.Pages.{pages_ordered}
@@ -54,14 +52,13 @@ pub use Rattle.ksm_tree.proofs.Ties.{number_found, tied_absent, tied_count, tied
 pub use Rattle.ksm_tree.specs.Dups.{AreDups, change_items, dup_at, dup_of, has_number, is_live, is_stale, items_in, stands_at, with_new, without_place}
 pub use Rattle.ksm_tree.specs.Numbered.{content_of, content_order}
 pub use Rattle.ksm_tree.specs.declared.content.Content.{Content}
-pub use Rattle.ksm_tree.specs.declared.dup.Best.{Best}
 pub use Rattle.slab.proofs.SlabLemmas.{Updates-with_value}
 pub use Rattle.slab.specs.Slab.{CalledAt, get, RetainsFrom, Slab, Updates as Fills, with_value}
-pub use Rattle.std.proofs.Common.{add-one, ap, ap₂, arith, Bool, drop, false, get_or, inl, inr, is_some, length, length-set, List, map, MutBor, None, Option, refl, rules, Some, subst, suc, sym, take}
-pub use Rattle.std.proofs.Common.{true, true≢false, unwrap_or, zero, [], ℕ, ◌++◌, ◌+◌, ◌-◌, ◌<◌, ◌^◌, ◌∙◌, ◌∷◌, ◌≡◌, ◌≢◌, ◌≤◌, ◌⊎◌}
+pub use Rattle.std.proofs.Common.{[], add-one, ap, ap₂, arith, Bool, drop, false, get_or, inl, inr, is_some, length, length-set, List, map, MutBor, None, Option, refl, rules, Some, subst, suc, sym}
+pub use Rattle.std.proofs.Common.{take, true, true≢false, unwrap_or, zero, ℕ, ◌++◌, ◌+◌, ◌-◌, ◌<◌, ◌^◌, ◌∙◌, ◌∷◌, ◌≡◌, ◌≢◌, ◌≤◌, ◌⊎◌}
 pub use Rattle.std.proofs.Math.ListN.{get_or-map}
 pub use Rattle.std.proofs.Math.Seq.{take-suc}
-pub use Rattle.std.proofs.lemmas.Bool.{cases_Bool, cond_both, eq-eqb, eqb-true, false_from_ne_true, not-true}
+pub use Rattle.std.proofs.lemmas.Bool.{cases_Bool, cond_both, eq-eqb, eqb-true, false_from_ne_true}
 pub use Rattle.std.proofs.lemmas.Bool.Decides.{nat_tests}
 pub use Rattle.std.proofs.lemmas.Fn.{always_returns_same, filter_same}
 pub use Rattle.std.proofs.lemmas.Grind.{get_or-set_at}
@@ -78,6 +75,6 @@ pub use Rattle.std.proofs.lemmas.Slice.Eq.{bytes_eq-Decides}
 pub use Rattle.std.specs.Fn.{FnOnceReturnsAtMut}
 pub use Rattle.std.specs.List.{AllWithin, list_any}
 pub use Rattle.std.specs.List.Sorted.{IsNonDecreasingBy, IsPermutation}
-pub use Rattle.std.specs.Option.{IfSome, is_none, MatchOption, option_and_then}
+pub use Rattle.std.specs.Option.{IfSome, MatchOption, option_and_then}
 pub use Rattle.std.specs.Prelude.{All, AllPairs, bytes_eq, cond, count_by, Err, filter, find, IfNone, if◌then◌else◌, insert, IsTrue, nat_le, nat_lt, not, Ok, OnErr, OnOk, option_map, Result, set}
-pub use Rattle.std.specs.Prelude.{slice_get, ⊤, ◌%◌, ◌&&◌, ◌*◌, ◌==◌, ◌||◌}
+pub use Rattle.std.specs.Prelude.{slice_get, ⊤, ◌%◌, ◌&&◌, ◌==◌, ◌||◌}

@@ -12,7 +12,3 @@ none_mapped f o none = grind arith
 -- an option that is full once it is mapped was full, with something that is mapped to what it has
 pub mapped_some : {X Y : Type 0} (f : X → Y) (o : Option X) {y : Y} → option_map f o ≡ Some y → (x : X) × (o ≡ Some x) × (f x ≡ y)
 mapped_some f o none = grind arith
-
--- two maps of an option, one after the other, are one map
-pub mapped_twice : {X Y Z : Type 0} (f : Y → Z) (g : X → Y) (o : Option X) → option_map f (option_map g o) ≡ option_map (λ x. f (g x)) o
-mapped_twice f g o = grind arith

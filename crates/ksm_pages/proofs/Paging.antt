@@ -1,15 +1,15 @@
 -- What is read of the pages: rows and dups found by their pages, places and numbers, and the first page after a cursor.
 use Rattle.ksm_pages.proofs.Names.{after_cursor, All, any_found, ap, AreDups, AreTied, arith, Bool, comes_before, Dup, dup_at, dup_numbered, dup_of, dup_rows, DupRow, DupsState, each_at_page}
 use Rattle.ksm_pages.proofs.Names.{each_has_number, false, false_from_ne_true, filter_passes, find, find-append, find_all, find_none, find_nothing, find_passes, found_parts, found_passing, get_or}
-use Rattle.ksm_pages.proofs.Names.{GuestPage, Held, IfSome, InPageOrder, InPlaceOrder, Inside, is_live, is_next, is_some, is_stale, IsHeld, items_in, items_of, length, List, list_any, live_at}
-use Rattle.ksm_pages.proofs.Names.{live_placed, lodging, lodgings_of, MatchOption, merged_into, None, none-some, of_guest, Option, option_and_then, option_map, pages_ordered, PagesValue, refl, Row}
-use Rattle.ksm_pages.proofs.Names.{row_at, rows_of, same_page_eq, seen, slice_get, slice_get-get_or, Some, stale_alike, stands_at, sym, tied_counted, true, unwrap_or, unwrap_or-slice_get, ℕ, ◌&&◌}
-use Rattle.ksm_pages.proofs.Names.{◌<◌, ◌==◌, ◌∙◌, ◌≡◌, ◌≤◌}
+use Rattle.ksm_pages.proofs.Names.{GuestPage, has_number, Held, IfSome, InPageOrder, InPlaceOrder, Inside, is_live, is_next, is_some, is_stale, IsHeld, items_in, items_of, length, List, list_any}
+use Rattle.ksm_pages.proofs.Names.{live_at, live_placed, lodging, lodgings_of, MatchOption, merged_into, None, none-some, of_guest, Option, option_and_then, option_map, pages_ordered, PagesValue}
+use Rattle.ksm_pages.proofs.Names.{refl, Row, row_at, rows_of, same_page_eq, seen, slice_get, slice_get-get_or, Some, stale_alike, stands_at, sym, tied_counted, true, unwrap_or, unwrap_or-slice_get}
+use Rattle.ksm_pages.proofs.Names.{ℕ, ◌&&◌, ◌<◌, ◌==◌, ◌∙◌, ◌≡◌, ◌≤◌}
 use Rattle.ksm_base.specs.Rows.{is_stale as is_stale_row}
 use Rattle.ksm_tree.proofs.Changes.{row_found as dup_row_found}
 use Rattle.ksm_pages.specs.Paged.{frame_of as lies_at}
 use Rattle.ksm_pages.proofs.Joined.{item_lies}
-use Rattle.ksm_pages.proofs.Options.{mapped_some, mapped_twice, none_mapped}
+use Rattle.ksm_pages.proofs.Options.{mapped_some, none_mapped}
 use Rattle.ksm_pages.proofs.Found.{find_narrower, first_found}
 use Rattle.ksm_pages.specs.declared.pages.Held.{Held as Told}
 use Rattle.ksm_pages.proofs.Leaving.{AreLawful, view_of}
@@ -17,8 +17,7 @@ use Rattle.ksm_pages.proofs.Leaving.{AreLawful, view_of}
 -- the dup with a number stands at the place that the dup row with that number tells
 pub place_numbered : (number : ℕ) (dups : List Dup) → option_map (λ d. d.row.place) (dup_of number dups) ≡ option_map (λ d. d.place) (dup_numbered number (dup_rows dups))
 place_numbered number dups =
-    sym (grind (arith, mapped_twice))
-    ∙ ap (option_map (λ (d : DupRow). d.place)) (dup_row_found _ _ (λ d. refl) dups)
+    grind (arith, dup_row_found (has_number number) (λ r. r.number == number) (λ d. refl) dups)
 
 -- a dup is found at a place exactly where a row stands there
 pub any_at : (place : ℕ) (dups : List Dup) → is_some (option_map (λ d. d.row.number) (dup_at place dups)) ≡ list_any (λ d. d.place == place) (dup_rows dups)

@@ -7,16 +7,13 @@ use Rattle.ksm_pages.proofs.Names.{PagesValue, paired, refl, Row, row_at, rows_n
 use Rattle.ksm_pages.proofs.Names.{subst, sym, tied_made, tree_of, true, waiting_state, with_dup, with_item, with_new, ℕ, ◌&&◌, ◌+◌, ◌<◌, ◌==◌, ◌||◌, ◌∙◌, ◌∷◌, ◌≡◌}
 use Rattle.std.specs.Vec.{with_item as with_frame}
 use Rattle.ksm_base.proofs.Orders.{elsewhere}
-use Rattle.ksm_pages.proofs.Changing.{row_told, rows_changed}
+use Rattle.ksm_pages.proofs.Changing.{frame_by, IsLone, lodged_changed, lone_changed, row_told, rows_changed, seat, shared_lone}
 use Rattle.ksm_pages.proofs.Dropping.{frame_away, lodged_alike, none_live, not_vacant}
 use Rattle.ksm_pages.proofs.Found.{change_one, find_changed_other, find_kept}
 use Rattle.ksm_pages.proofs.Joined.{own_not_merged, own_seat}
-use Rattle.ksm_pages.proofs.Leaving.{AreLawful, lies, lies_same, of_dup, of_page, row_seen, view_of}
+use Rattle.ksm_pages.proofs.Leaving.{AreLawful, lies, lies_same, of_dup, of_page, row_seen, tree_is, view_of}
 use Rattle.ksm_pages.proofs.Leading.{get_set}
-use Rattle.ksm_pages.proofs.Lodgings.{frame_by, lodged_changed, seat}
-use Rattle.ksm_pages.proofs.Lone.{IsLone, lone_changed, shared_lone}
-use Rattle.ksm_pages.proofs.Partners.{each_led, held_led, tree_is, waits_parts}
-use Rattle.ksm_pages.proofs.Visiting.{lawful_numbered}
+use Rattle.ksm_pages.proofs.Visiting.{each_led, held_led, lawful_numbered, waits_parts}
 
 module _ (dups : List DupRow) (dup : DupRow) (frames : List ℕ) (frame : ℕ) where
   abbrev of_now : ℕ → Option ℕ

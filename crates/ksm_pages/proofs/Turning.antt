@@ -1,17 +1,15 @@
 -- The pages once a call changed the row of one page, or gave it one: they are lawful, and what is seen of them changed so.
 use Rattle.ksm_pages.proofs.Names.{[], All, All-filter, All-map, altered, ap, AreAlone, AreTied, arith, Bool, change_held, changed, cond_both, dup_rows, DupsState, Err, false, frame_of, get_or}
-use Rattle.ksm_pages.proofs.Names.{map_fixed, GuestPage, Held, held_at, if◌then◌else◌, inl, InPageOrder, inr, Inside, is_alone, IsAlone, IsKnown, IsLeft, Knobs, let_out, lies_on, List, lodgings_of}
-use Rattle.ksm_pages.proofs.Names.{map, map_mapped, MatchOption, merged_state, None, not, Ok, on_row, OnErr, OnOk, Option, option_and_then, ordered_map, ordered_with, ordered_without, out_of_tree}
-use Rattle.ksm_pages.proofs.Names.{PagesValue, PagesView, Private, refl, relaid, Result, Row, row_at, rows_of, rows_out, RowsView, rules, same_page, seen, settled, settled_state, shared_state, Some}
-use Rattle.ksm_pages.proofs.Names.{subst, sym, tied_dropped, tied_inserted, tied_left, tied_mapped, true≢false, waiting_state, with_held, with_row, without_held, without_page, ℕ, ⊤, ◌==◌, ◌∙◌, ◌∷◌}
-use Rattle.ksm_pages.proofs.Names.{◌≡◌, ◌⊎◌}
-use Rattle.ksm_pages.proofs.Changing.{idle_settled, nothing_held, rows_with, rows_without, settled_again}
+use Rattle.ksm_pages.proofs.Names.{GuestPage, Held, held_at, if◌then◌else◌, inl, InPageOrder, inr, Inside, is_alone, IsAlone, IsKnown, IsLeft, Knobs, let_out, lies_on, List, lodgings_of, map}
+use Rattle.ksm_pages.proofs.Names.{map_fixed, map_mapped, MatchOption, merged_state, None, not, Ok, on_row, OnErr, OnOk, Option, option_and_then, ordered_map, ordered_with, ordered_without}
+use Rattle.ksm_pages.proofs.Names.{out_of_tree, PagesValue, PagesView, Private, refl, relaid, Result, Row, row_at, rows_of, rows_out, RowsView, rules, same_page, seen, settled, settled_state}
+use Rattle.ksm_pages.proofs.Names.{shared_state, Some, subst, sym, tied_dropped, tied_inserted, tied_left, tied_mapped, true≢false, waiting_state, with_held, with_row, without_held, without_page, ℕ}
+use Rattle.ksm_pages.proofs.Names.{⊤, ◌==◌, ◌∙◌, ◌∷◌, ◌≡◌, ◌⊎◌}
+use Rattle.ksm_pages.proofs.Changing.{held_rise, idle_settled, IsLone, lodged_gone, lodged_one, lone_with, nothing_held, rows_with, rows_without, seat, settled_again}
 use Rattle.ksm_pages.proofs.Joined.{let_out_alone, own_not_merged, seen_own}
-use Rattle.ksm_pages.proofs.Lodgings.{frame_by, lodged_gone, lodged_one, seat}
-use Rattle.ksm_pages.proofs.Leaving.{alone_found, AreLawful, Become, Comes, comes, held_as, IsLoneIn, known_there, lies, lies_same, of_dup, of_page, row_there, turned_so, view_of}
-use Rattle.ksm_pages.proofs.Lone.{held_rise, IsLone, lone_with}
+pub use Rattle.ksm_pages.proofs.Leaving.{Comes, held_as}
+use Rattle.ksm_pages.proofs.Leaving.{alone_found, AreLawful, Become, comes, IsLoneIn, known_there, lies, lies_same, of_dup, of_page, row_there, tree_is, turned_so, view_of}
 use Rattle.ksm_pages.proofs.Found.{find_put, find_put_other}
-use Rattle.ksm_pages.proofs.Partners.{tree_is}
 
 -- a page has a row, and is let out of its dup
 pub record HasLeft (s : Inside) (p : PagesValue) (page : GuestPage) (later : DupsState) (frames : List ℕ) (lone : Option ℕ) : Type 0 where
@@ -28,10 +26,6 @@ module _ {s : Inside} {p : PagesValue} {page : GuestPage} {later : DupsState} {f
   known_left are seen_as known left = grind (arith, known_there, seen_as)
 
   module _ (it : HasLeft s p page later frames lone) where
-    -- a page that has left lay on the frame that is told
-    pub lay : frames ≡ s.frames.items → lone ≡ frame_of p.lodgings page
-    lay same = grind (arith, lies)
-
     at : it.held.row.page ≡ page
     at = of_page s it.lawful page it.found
 
@@ -189,10 +183,6 @@ module _ (s : Inside) (are : AreLawful s) {p : PagesValue} (seen_as : view_of s 
     (absent : row_at h.row.page p.rows ≡ None) where
   away : row_at h.row.page (rows_of s.rows.held) ≡ None
   away = grind arith
-
-  -- the page lay on no frame
-  pub lay_nowhere : frame_of p.lodgings h.row.page ≡ None
-  lay_nowhere = grind (arith, frame_by, nothing_held, away)
 
   -- a page that comes with a row that is not merged, and in no tree, leaves the pages lawful, and is seen with that row
   pub entered : merged_state h.row.state ≡ false → is_alone h.in_tree ≡ false → (rows : RowsView)

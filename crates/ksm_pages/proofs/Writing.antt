@@ -1,13 +1,13 @@
 -- What each change of one row, found under its key, leaves: rows still, and what is seen of them.
 use Rattle.ksm_pages.proofs.Names.{absent_kept, altered, ap, AreLed, AreListed, arith, Bool, CanMove, change_held, change_none, Entry, false, Fills, find, find_none, get, GuestPage, has_item, Held}
-use Rattle.ksm_pages.proofs.Names.{same_page_eq, held_at, held_in, held_of, held_under, holds, IfSome, inl, inr, is_of, is_restless, is_some, IsAddedTo, IsInVain, IsMoved, IsRows, IsUnder, key_in}
-use Rattle.ksm_pages.proofs.Names.{length, length-map, List, Listing, marked, Named, named_of, None, pages_ordered, PageState, Private, refl, row_at, rows_of, RowsView, rules, same_page_refl}
+use Rattle.ksm_pages.proofs.Names.{held_at, held_in, held_of, held_under, holds, IfSome, inl, inr, is_of, is_restless, is_some, IsAddedTo, IsInVain, IsMoved, IsRows, IsUnder, key_in, length}
+use Rattle.ksm_pages.proofs.Names.{length-map, List, Listing, marked, Named, named_of, None, pages_ordered, PageState, Private, refl, row_at, rows_of, RowsView, rules, same_page_eq, same_page_refl}
 use Rattle.ksm_pages.proofs.Names.{shared_state, Slab, Some, state_of, StaysBegun, StaysLed, sym, Tally, true, Updates-with_value, with_held, with_named, with_value, without_held, without_named}
 use Rattle.ksm_pages.proofs.Names.{without_rises, ℕ, ◌<◌, ◌^◌, ◌∙◌, ◌≡◌, ◌≢◌, ◌≤◌, ◌⊎◌}
 use Rattle.ksm_pages.proofs.Options.{none_mapped}
 use Rattle.ksm_pages.specs.declared.row.Kind.TheVariants as kinds
 use Rattle.ksm_pages.specs.declared.rows.Rows.TheInside.{Inside}
-use Rattle.ksm_pages.proofs.Changing.{marked_same, row_told, rows_changed, rows_with, rows_without, can_move, tally_changed, tally_gone, tally_put}
+use Rattle.ksm_pages.proofs.Changing.{can_move, marked_same, row_told, rows_changed, rows_with, rows_without, tally_changed, tally_gone, tally_put}
 use Rattle.ksm_pages.proofs.Filing.{all_filled, all_held, AreRows, filed_marked, filed_put, filed_taken, held_found, held_nowhere, named_under, one_key, put, rows_rise, taken, unmarked, view, view_of}
 use Rattle.ksm_pages.proofs.Filing.{written}
 use Rattle.ksm_pages.proofs.Leading.{led_less, led_written}

@@ -74,10 +74,6 @@ is_useless order spot (Some e) =
 abbrev pub IsInVain : Slab Entry → List Named → GuestPage → Type 0
 IsInVain slab order page = (key : ℕ) × (is_useless order (record { page = page; key = key }) (get slab key) ≡ true)
 
--- the number of no entry with a frame of its own is beyond the pass
-abbrev pub AreBegun : Slab Entry → ℕ → Type 0
-AreBegun slab pass = (key : ℕ) (e : Entry) → get slab key ≡ Some e → e.kind ≡ kinds.Own → e.number ≤ pass
-
 -- the row that stands under a key, or some row where none does
 abbrev pub held_under : ℕ → Option Entry → Held
 held_under pass (Some e) = held_of pass e
@@ -117,12 +113,12 @@ IsMade R page old new = (change : Held → Held)
     → new ≡ altered page change old
 
 -- the pages ascend, each is named as its entry says, those that a visit may change are listed if they are known,
--- the tally is that of the rows, and no entry's pass is beyond the one that goes on
+-- the tally is that of the rows, and the number of no entry with a frame of its own is beyond the pass
 pub record IsRows (slab : Slab Entry) (order : List Named) (restless : Listing) (tally : Tally) (pass : ℕ)
     : Type 0 where
   pub ascending : AreAscending order
   pub filed : AreFiled slab order
   pub listed : restless.known ≡ true → AreListed slab restless.pages
   pub counted : IsTally (rows_of (held_in pass slab order)) tally
-  pub begun : AreBegun slab pass
+  pub begun : (key : ℕ) (e : Entry) → get slab key ≡ Some e → e.kind ≡ kinds.Own → e.number ≤ pass
   pub counting : 1 ≤ pass

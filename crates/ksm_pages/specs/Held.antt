@@ -1,7 +1,7 @@
 -- Rows as they are kept, in the order of their pages, each with the frame of its own if it has one. (own)
 use Rattle.std.specs.Prelude.{◌≡◌, ℕ, ◌<◌, ◌≤◌, ◌^◌, ◌%◌, Bool, true, false, not, ◌&&◌, ◌||◌, ◌==◌, bytes_eq, if◌then◌else◌}
 use Rattle.std.specs.Prelude.{All, List, [], ◌∷◌, ◌++◌, drop, filter, find, length, map, take, option_map, Option, None, Some}
-use Rattle.ksm_pages.specs.Terms.{AreKeysInOrder, comes_before, GuestPage, has_item, Merged, page_of, PageState, Private, Row, same_page, settled, stored, Waiting, waiting_state, Zero}
+use Rattle.ksm_pages.specs.Terms.{AreKeysInOrder, comes_before, GuestPage, has_item, Merged, page_of, PageState, Private, Row, same_page, settled, Waiting, waiting_state, Zero}
 use Rattle.ksm_pages.specs.declared.row.InTree.{InTree}
 use Rattle.ksm_pages.specs.declared.row.InTree.TheVariants.{Alone, Beside, Not}
 use Rattle.ksm_pages.specs.declared.row.Kind.{Kind}
@@ -210,14 +210,9 @@ written bytes h = record h {
   in_tree = Not;
 }
 
--- a row with these bytes and a frame of its own
-abbrev pub copied : ℕ → List ℕ → Held → Held
-copied frame bytes h = record { row = stored bytes h.row; frame = Some frame; in_tree = Not }
-
--- a row at home on another node, with a frame of its own
-abbrev pub rehoused : ℕ → ℕ → Held → Held
-rehoused frame node h =
-    record { row = record h.row { home = node; state = Private }; frame = Some frame; in_tree = Not }
+-- a row that becomes another with a frame of its own, and to which the unstable tree does not lead
+abbrev pub laid_on : ℕ → (Row → Row) → Held → Held
+laid_on frame change h = record { row = change h.row; frame = Some frame; in_tree = Not }
 
 -- a row to which the unstable tree does not lead
 abbrev pub out_of_tree : Held → Held

@@ -5,4 +5,3 @@ pub mod Held
 pub mod Unstable
 pub mod Filed
 pub mod Paged
-pub mod Left

@@ -1,14 +1,14 @@
 -- The pages: the rows with the dups into which they are merged, the frame of each page, and the pages that wait; and
 -- what is seen of them (own).
-use Rattle.std.specs.Prelude.{◌≡◌, ℕ, ◌+◌, ◌<◌, ◌≤◌, ◌^◌, Bool, true, false, not, ◌&&◌, ◌||◌, ◌==◌, ◌-◌, List, slice_get, option_map, map, All, Contains, find, Option, Some, None, is_some}
-use Rattle.std.specs.Prelude.{option_and_then, MatchOption, length, if◌then◌else◌}
+use Rattle.std.specs.Prelude.{All, Bool, Contains, false, find, if◌then◌else◌, is_some, length, List, map, MatchOption, None, not, Option, option_and_then, option_map, slice_get, Some, true, ℕ, ◌&&◌}
+use Rattle.std.specs.Prelude.{◌+◌, ◌-◌, ◌<◌, ◌==◌, ◌^◌, ◌||◌, ◌≡◌, ◌≤◌}
 use Rattle.ksm_pages.specs.Terms.{after_cursor, AreTied, best_dup, change_row, change_rows, Dup, dup_numbered, dup_rows, DupRow, DupsState, every_row, frames_of, GuestPage, has_items, in_group}
-use Rattle.ksm_pages.specs.Terms.{InPageOrder, is_for_zero, is_of, IsShape, item_count, Knobs, Merged, merged_into, merged_state, MOST_REFERENCES, PageState, partner, Private, Row, row_at, same_page}
-use Rattle.ksm_pages.specs.Terms.{Shape, shared_state, tree_of, Waiting, waits_for, with_dup, Zero}
+use Rattle.ksm_pages.specs.Terms.{InPageOrder, is_for_zero, is_of, IsShape, item_count, Knobs, let_out, Merged, merged_into, merged_state, MOST_REFERENCES, PageState, partner, Private, Row, row_at}
+use Rattle.ksm_pages.specs.Terms.{same_page, Shape, shared_state, tree_of, Waiting, waits_for, with_dup, Zero}
 use Rattle.ksm_pages.specs.declared.pages.Find.{Find}
 use Rattle.ksm_pages.specs.declared.pages.Find.TheVariants as finds
 use Rattle.ksm_pages.specs.declared.pages.Held.{Held}
-use Rattle.ksm_pages.specs.Held.{Held as HeldRow, RowsView, is_alone, rows_of}
+use Rattle.ksm_pages.specs.Held.{Held as HeldRow, is_alone, rows_of, RowsView}
 
 -- the frame of each page, if it has one
 abbrev pub Frames : Type 0
@@ -235,3 +235,8 @@ pub record AreKept (shape : Shape) (knobs : Knobs) (rows : RowsView) (dups : Dup
   pub by_node : rows.by_node ≡ not (knobs.merge_across_nodes == 1)
   pub alone : AreAlone knobs rows.held (dup_rows dups.dups)
   pub room : length frames ≡ frames_of shape
+
+-- the page of a row is no item any more; it lay on this frame, if it did on one
+pub record IsLeft (frames : List ℕ) (old new : DupsState) (lone : Option ℕ) (h : HeldRow) : Type 0 where
+  pub dups : new ≡ record old { dups = let_out h.row.state h.row.page old.dups }
+  pub frame : lone ≡ frame_seen (lodging (dup_rows old.dups) frames) h.row.state h.frame

@@ -1,8 +1,7 @@
 //! What commands change: pages that come and go, get frames and bytes, and what else their rows say.
 
 ghost use Rattle.std.specs.Prelude.{◌≡◌, true, false, None, Some, Err, All, map, IfOk, OnOk, OnErr};
-ghost use Rattle.ksm_pages.specs.Terms.{as_let_go, as_settled, as_unshared, fresh_row, Memory, row_at, shared_state};
-ghost use Rattle.ksm_pages.specs.Terms.{stored, with_row, without_page};
+ghost use Rattle.ksm_pages.specs.Terms.{as_let_go, as_settled, as_unshared, fresh_row, Memory, row_at, shared_state, stored, with_row, without_page};
 ghost use Rattle.ksm_pages.specs.Paged.{IsAlone, IsKnown, at_home_on, changed, lies_on, on_its_own, relaid, seen};
 
 use crate::left::leave;
@@ -10,6 +9,7 @@ use crate::pages::Pages;
 use crate::row::Spot;
 use ksm_base::{Fault, GuestPage, PageBytes};
 
+#[tactic(auto, using(crate::proofs::Changing::frame_by, crate::proofs::Changing::nothing_held, crate::proofs::Leaving::known_there))]
 impl Pages {
     /// Adds a page that has no row, at home on a node; which frame is its own is told next, by `lay`. Refused for
     /// memory alone, it changes nothing.
@@ -55,6 +55,7 @@ impl Pages {
     }
 
     /// A page with a frame of its own lies on this one from now on.
+    #[tactic(auto, using(crate::proofs::Changing::row_found))]
     #[inline(always)]
     pub fn lay(&mut self, spot: Spot, frame: u32)
         requires { IsAlone spot.page self.old.rows }

@@ -1,7 +1,6 @@
 //! The dups by their places: which stand there, with which pages and on which frame, and where a new one goes.
 
-ghost use Rattle.std.specs.Prelude.{◌≡◌, ◌<◌, true, All, filter, find, ◌==◌, option_map};
-ghost use Rattle.std.specs.Prelude.{IfErr, IfOk, IsSome};
+ghost use Rattle.std.specs.Prelude.{◌≡◌, ◌<◌, true, All, filter, find, ◌==◌, option_map, IfErr, IfOk, IsSome};
 ghost use Rattle.std.specs.List.{list_any};
 ghost use Rattle.ksm_pages.specs.Terms.{a_new_place, is_stale, items_of, place_count, shared_count};
 ghost use Rattle.ksm_pages.specs.Paged.{IsVacant, ItemsLieOn, elsewhere, items_on, live_at, seen};
@@ -30,6 +29,7 @@ impl Pages {
 
     /// The pages merged into the dup at a place, ascending, in a vector of their own; none where no dup with items
     /// stands there. Fails for memory alone, and only where such a dup stands there.
+    #[tactic(auto, using(crate::proofs::Paging::items_none, crate::proofs::Paging::items_there, crate::proofs::Options::some_mapped))]
     pub fn items_at(&self, alloc: Global, place: u32) -> Result<Option<Vec<GuestPage>>, AllocError>
         ensures items { let live = live_at place self.now.rows self.now.dups in
             IfOk result (λ pages. option_map (λ v. v.items) pages ≡ option_map (items_of self.now.rows) live) }
@@ -92,6 +92,7 @@ impl Pages {
     }
 
     /// The stale dup at a place goes, if there is one.
+    #[tactic(auto, using(crate::proofs::Paging::any_at, crate::proofs::Dropping::all_elsewhere))]
     pub fn drop_stale(&mut self, place: u32)
         requires { IsVacant place self.old.rows self.old.dups }
         ensures { seen self.new ≡ record (seen self.old) { dups = filter (elsewhere place) self.old.dups } }

@@ -3,8 +3,7 @@
 ghost use Rattle.std.specs.Prelude.{◌≡◌, ⊤, MatchOption, option_and_then, slice_get};
 ghost use Rattle.ksm_pages.specs.Terms.{dup_rows};
 ghost use Rattle.ksm_pages.specs.Held.{held_at, held_of};
-ghost use Rattle.ksm_pages.specs.Left.{IsLeft};
-ghost use Rattle.ksm_pages.specs.Paged.{frame_seen, lodging};
+ghost use Rattle.ksm_pages.specs.Paged.{IsLeft, frame_seen, lodging};
 
 use crate::row::{Entry, Kind, Spot};
 use crate::rows::Rows;

@@ -12,10 +12,8 @@ mod reads;
 mod restless;
 pub mod row;
 mod rows;
-mod scanning;
 mod slot;
 mod tally;
-mod tree;
 mod unstable;
 mod visited;
 

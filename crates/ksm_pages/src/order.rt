@@ -166,6 +166,7 @@ impl<P: Part> Order<P> {
     }
 
     /// How many of the pages that a scan visits do not come behind a cursor. The guess is tried first.
+    #[tactic(auto, using(crate::proofs::Names::filter_all))]
     fn passed(&self, cursor: Option<GuestPage>, guess: usize) -> usize
         ensures ahead { pages_behind cursor (visited self.now) ≡ drop result (visited self.now) }
         ensures within { result ≤ length (visited self.now) }

@@ -2,8 +2,8 @@
 //! change to all of them.
 //!
 //! A page is named by a `Spot`, whose key is a guess that no contract reads; a change is told by the page. What is read
-//! of pages is in `reads.rt`, what commands change in `changes.rt`, what visits find and change in `visited.rt`, which
-//! visits are ahead in `scanning.rt`, and the dups by their places in `dups.rt`.
+//! of pages is in `reads.rt`, what commands change in `changes.rt`, which visits are ahead and what they change in
+//! `visited.rt`, and the dups by their places in `dups.rt`.
 
 ghost use Rattle.std.specs.Prelude.{◌≡◌, ◌⊎◌, [], true, false, None, All, IfOk, IfErr};
 ghost use Rattle.ksm_pages.specs.Terms.{default_knobs, InPageOrder, IsShape, Memory, row_at, waiting_state};
@@ -111,7 +111,7 @@ impl Pages {
     }
 
     /// A law: the rows are in the order of their pages, and a page without a row lies on no frame.
-    #[tactic(auto, using(crate::proofs::Lodgings::frame_by, crate::proofs::Changing::nothing_held))]
+    #[tactic(auto, using(crate::proofs::Changing::frame_by, crate::proofs::Changing::nothing_held))]
     pub fn lie_in_order(&self)
         ensures rise { InPageOrder self.now.rows }
         ensures absent { (page : GuestPage) → row_at page self.now.rows ≡ None → (seen self.now).frame page ≡ None }

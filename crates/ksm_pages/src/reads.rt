@@ -1,15 +1,13 @@
 //! What is read of pages: where they lie, what they hold, which comes next, and how many there are of each kind.
 
-ghost use Rattle.std.specs.Prelude.{◌≡◌, ◌≤◌, ◌==◌, true, false, None, Some, All, find, is_some, length, option_map};
-ghost use Rattle.std.specs.Prelude.{option_and_then, MatchOption, IfSome};
-ghost use Rattle.ksm_pages.specs.Terms.{after_cursor, comes_before, counters_from, mergeable_count, place_of};
-ghost use Rattle.ksm_pages.specs.Terms.{private_state, Row, row_at, waiting_state};
+ghost use Rattle.std.specs.Prelude.{◌≡◌, ◌≤◌, ◌==◌, true, false, None, Some, All, find, is_some, length, option_map, option_and_then, MatchOption, IfSome};
+ghost use Rattle.ksm_pages.specs.Terms.{after_cursor, comes_before, counters_from, mergeable_count, place_of, private_state, Row, row_at, waiting_state};
 ghost use Rattle.ksm_pages.specs.Paged.{IsHeld, IsKnown, is_next, of_guest, page_beside, seen};
 
 use crate::left::frame_of;
 use crate::pages::{Held, Pages};
 use crate::row::{Kind, Spot};
-use crate::tree::tree_in;
+use crate::unstable::tree_in;
 use ksm_base::{Counters, GuestPage, PageBytes, PageState};
 
 /// The cursor behind which the rows of a guest begin, or go on.
@@ -62,8 +60,7 @@ impl Pages {
     pub fn has(&self, page: GuestPage) -> bool
         ensures { result ≡ is_some (row_at page self.now.rows) }
     {
-        let key = self.rows.guess(page);
-        self.rows.has(Spot { page, key })
+        self.rows.has(self.rows.guess(page))
     }
 
     /// Where a page lies, and where it is at home; none where it has no row.
@@ -71,8 +68,7 @@ impl Pages {
     pub fn held(&self, page: GuestPage) -> Option<Held>
         ensures { MatchOption result (row_at page self.now.rows ≡ None) (IsHeld (seen self.now) page) }
     {
-        let key = self.rows.guess(page);
-        self.told(Spot { page, key })
+        self.told(self.rows.guess(page))
     }
 
     /// The bytes of a page that has a row.
@@ -100,7 +96,7 @@ impl Pages {
     }
 
     /// The page that waits in the tree of a merged page with its bytes, if one does.
-    #[tactic(auto, using(crate::proofs::Leaving::row_seen))]
+    #[tactic(auto, using(crate::proofs::Leaving::row_seen, crate::proofs::Visiting::partner_by))]
     pub fn waiting_beside(&self, spot: Spot) -> Option<Spot>
         ensures { option_map (λ s. s.page) result
             ≡ page_beside self.now.knobs self.now.rows (row_at spot.page self.now.rows) }
@@ -114,8 +110,7 @@ impl Pages {
                 let other = self.rows.in_tree(tree, &entry.bytes)?;
                 self.waits(other).then_some(other)
             }
-            Kind::Own => None,
-            Kind::Zero => None,
+            Kind::Own | Kind::Zero => None,
         }
     }
 
@@ -124,12 +119,10 @@ impl Pages {
     pub fn ticket(&self, page: GuestPage) -> Option<u32>
         ensures { result ≡ option_and_then (λ r. place_of r.state self.now.dups) (row_at page self.now.rows) }
     {
-        let key = self.rows.guess(page);
-        let entry = self.rows.find(Spot { page, key })?;
+        let entry = self.rows.find(self.rows.guess(page))?;
         match entry.kind {
             Kind::Merged => self.dups.place_by(entry.at, entry.number),
-            Kind::Own => None,
-            Kind::Zero => None,
+            Kind::Own | Kind::Zero => None,
         }
     }
 
@@ -158,13 +151,9 @@ impl Pages {
             option_map (λ r. r.page) (find (is_next guest cursor) self.now.rows) ≡ Some s.page) }
     {
         self.lie_in_order();
-        let page = least_next(guest, cursor)?;
-        let key = self.rows.guess(page);
-        let spot = Spot { page, key };
-        match self.rows.at(spot) {
-            Some(_) => Some(spot),
-            None => None,
-        }
+        let spot = self.rows.guess(least_next(guest, cursor)?);
+        self.rows.at(spot)?;
+        Some(spot)
     }
 
     /// What is counted, where so many passes have ended, and each row that waits, is merged or is Zero is mergeable.

@@ -127,18 +127,6 @@ fn gap_for(listed: &[Listed], added: &[Listed]) -> Option<usize>
     }
 }
 
-/// Puts what was added between others, in front of an index.
-fn put_between(listed: &mut Vec<Listed>, at: usize, added: &[Listed]) -> Result<(), AllocError>
-    requires small { AreSmall listed.old.items × AreSmall added.now }
-    requires gap { HasGap listed.old.items added.now at }
-    ensures { OnOk result (IsPutAmong listed.old.items added.now listed.new.items) }
-{
-    let behind = listed.split_off(at)?;
-    listed.extend_from_slice(added)?;
-    listed.extend_from_slice(behind.as_slice())?;
-    Ok(())
-}
-
 /// Puts each page that was added in its place among others. A guess of an index stays right.
 fn put_each(listed: &mut Vec<Listed>, guess: &mut usize, added: &[Listed]) -> Result<(), AllocError>
     requires order { AreInOrder listed.old.items }
@@ -192,7 +180,9 @@ fn put_all(
     }
     turn_falling(added);
     if let Some(at) = gap_for(listed.as_slice(), added) {
-        put_between(listed, at, added)?;
+        let behind = listed.split_off(at)?;
+        listed.extend_from_slice(added)?;
+        listed.extend_from_slice(behind.as_slice())?;
         return Ok(());
     }
     let in_runs = listed.len() / 8 > added.len();

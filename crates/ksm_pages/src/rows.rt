@@ -8,13 +8,13 @@
 ghost use Rattle.std.specs.Prelude.{◌≡◌, ◌⊎◌, ◌≤◌, ◌<◌, ◌^◌, true, false, [], None, Some, All, IfErr, IfOk, IfSome, MatchOption, OnErr, OnOk, ◌==◌, count_by, find, is_some, length, map, not};
 ghost use Rattle.std.specs.Prelude.{option_and_then, option_map};
 ghost use Rattle.std.specs.Fn.{FnOnceReturnsAtMut};
-ghost use Rattle.ksm_pages.specs.Terms.{after_cursor, fresh_row, GuestPage, InPageOrder, Merged, MOST_FRAMES, settled};
-ghost use Rattle.ksm_pages.specs.Terms.{shared_state, Waiting, Zero};
+ghost use Rattle.ksm_pages.specs.Terms.{after_cursor, fresh_row, GuestPage, InPageOrder, Merged, MOST_FRAMES, settled, shared_state, stored, Waiting, Zero};
 ghost use Rattle.ksm_pages.specs.Ahead.{EndsAt, FindsNext, last_of, mergeable_pages, pages_behind, pages_between};
 ghost use Rattle.ksm_pages.specs.Filed.{AreFiled, AreListed, IsMade, IsTally, IsUnder, KeepsPage, key_in};
-ghost use Rattle.ksm_pages.specs.Held.{AreInTree, AreWaitersLed, IsFree, altered, held_at, held_of, is_in, on_row, out_of_tree, in_tree_by, page_in_tree, rehoused, rows_of, copied, shares};
+ghost use Rattle.ksm_pages.specs.Held.{AreInTree, AreWaitersLed, IsFree, altered, held_at, held_of, is_in, on_row, out_of_tree, in_tree_by, page_in_tree, laid_on, rows_of, shares};
 ghost use Rattle.ksm_pages.specs.Held.{waiting_in, with_held, without_held, written};
 ghost use Rattle.ksm_pages.specs.Ordered.{AreAscending};
+ghost use Rattle.ksm_pages.specs.Paged.{at_home_on};
 ghost use Rattle.ksm_pages.specs.Unstable.{AreLed, IsFreeAt, LeadsAt};
 ghost use Rattle.slab.specs.Slab.{get};
 
@@ -61,6 +61,7 @@ impl Model for Rows {
 }
 
 /// The key of a page's row. The guess is tried first.
+#[tactic(auto, using(crate::proofs::Filing::under))]
 #[inline(always)]
 fn key_of(entries: &Slab<Entry>, order: &Order, spot: Spot) -> Option<usize>
     requires { AreFiled entries.now order.now }
@@ -83,10 +84,7 @@ fn key_of(entries: &Slab<Entry>, order: &Order, spot: Spot) -> Option<usize>
 fn search(order: &Order, page: GuestPage) -> Option<usize>
     ensures { result ≡ key_in order.now page }
 {
-    match order.find(page) {
-        Some(named) => Some(named.key as usize),
-        None => None,
-    }
+    Some(order.find(page)?.key as usize)
 }
 
 /// Lists anew all pages that a visit may change, by a walk over all.
@@ -172,6 +170,7 @@ impl Rows {
 
     /// A law: the rows are in the order of their pages, those with frames of their own have them, and the unstable tree
     /// leads to those that wait, and from each tree and bytes to one row at most.
+    #[tactic(auto, using(crate::proofs::Filing::rows_rise, crate::proofs::Spots::rows_framed, crate::proofs::Leading::rows_led, crate::proofs::Leading::rows_found))]
     pub fn are_lawful(&self)
         ensures rise { InPageOrder (rows_of self.now.held) }
         ensures framed { All (λ h. is_some h.frame ≡ not (shared_state h.row.state)) self.now.held }
@@ -208,10 +207,7 @@ impl Rows {
         ensures { MatchOption result (held_at spot.page self.now.held ≡ None)
             (λ entry. held_at spot.page self.now.held ≡ Some (held_of self.now.pass entry.now)) }
     {
-        match self.look_up(spot) {
-            Some((_, entry)) => Some(entry),
-            None => None,
-        }
+        Some(self.look_up(spot)?.1)
     }
 
     /// The same, with a guess of the row's key.
@@ -228,6 +224,7 @@ impl Rows {
     }
 
     // The same, without a guess.
+    #[tactic(auto, using(crate::proofs::Filing::held_nowhere))]
     #[inline(never)]
     fn look_up_anew(&self, page: GuestPage) -> Option<(Spot, &Entry)>
         ensures { MatchOption result (held_at page self.now.held ≡ None) (λ found.
@@ -237,10 +234,13 @@ impl Rows {
         Some((Spot { page, key }, &self.entries[key]))
     }
 
-    /// A guess of the key of a page's row.
+    /// A page with a guess of the key of its row.
     #[inline(always)]
-    pub fn guess(&self, page: GuestPage) -> usize {
-        self.keys.guess(page)
+    pub fn guess(&self, page: GuestPage) -> Spot
+        ensures { result.page ≡ page }
+    {
+        let key = self.keys.guess(page);
+        Spot { page, key }
     }
 
     /// The number of the pass: a row waits exactly where its number is this one, and it has a frame of its own.
@@ -256,13 +256,10 @@ impl Rows {
     pub fn in_tree(&self, tree: u32, bytes: &PageBytes) -> Option<Spot>
         ensures { option_map (λ s. s.page) result ≡ page_in_tree self.now tree bytes.now }
     {
-        let key = self
-            .unstable
-            .find(&self.entries, self.by_node, tree, bytes)? as usize;
-        Some(Spot {
-            page: self.entries[key].page,
-            key,
-        })
+        let unstable = &self.unstable;
+        let key = unstable.find(&self.entries, self.by_node, tree, bytes)? as usize;
+        let page = self.entries[key].page;
+        Some(Spot { page, key })
     }
 
     /// How many rows there are.
@@ -292,13 +289,11 @@ impl Rows {
         ensures { option_map (λ s. s.page) result
             ≡ option_map (λ r. r.page) (find (λ r. after_cursor cursor r.page) (rows_of self.now.held)) }
     {
-        match self.order.after(cursor) {
-            Some(named) => Some(Spot {
-                page: named.page,
-                key: named.key as usize,
-            }),
-            None => None,
-        }
+        let named = self.order.after(cursor)?;
+        Some(Spot {
+            page: named.page,
+            key: named.key as usize,
+        })
     }
 
     /// What so many visits behind the cursor come to. How many visits of the pass led to the cursor is a guess.
@@ -356,10 +351,8 @@ impl Rows {
             unchanged: false,
         });
         self.keys.remember(self.alloc, &self.entries, page, key);
-        let spot = Spot {
-            page,
-            key: key as usize,
-        };
+        let key = key as usize;
+        let spot = Spot { page, key };
         self.restless.add(spot, self.order.len());
         Ok(spot)
     }
@@ -381,15 +374,15 @@ impl Rows {
 
     // ------------------------------------------------------------ rows that change
 
-    /// The entry of a page becomes what is made of it, if it has one. Gives what it was before, and its key.
+    /// The entry of a page becomes what is made of it, if it has one. Gives what it was before.
     #[tactic(auto, using(crate::proofs::Writing::nothing, crate::proofs::Writing::row_there, crate::proofs::Filing::held_nowhere))]
     #[inline(always)]
-    pub fn change<F: FnOnce(&mut Entry)>(&mut self, spot: Spot, make: F) -> Option<(usize, Entry)>
+    pub fn change<F: FnOnce(&mut Entry)>(&mut self, spot: Spot, make: F) -> Option<Entry>
         requires callable { F.IsAlwaysCallable make }
         requires kept { KeepsPage self.old.pass (λ old new. FnOnceReturnsAtMut F.FnOnce make old tt new) }
         ensures made { IsMade (λ old new. FnOnceReturnsAtMut F.FnOnce make old tt new) spot.page self.old self.new }
         ensures before { MatchOption result (held_at spot.page self.old.held ≡ None)
-            (λ found. held_at spot.page self.old.held ≡ Some (held_of self.old.pass found.1)) }
+            (λ was. held_at spot.page self.old.held ≡ Some (held_of self.old.pass was)) }
     {
         let Some(key) = key_of(&self.entries, &self.order, spot) else {
             return None;
@@ -407,13 +400,9 @@ impl Rows {
         }
         let rows = self.order.len();
         if !listed {
-            let spot = Spot {
-                page: spot.page,
-                key,
-            };
-            self.restless.add(spot, rows);
+            self.restless.add(Spot { key, ..spot }, rows);
         }
-        Some((key, was))
+        Some(was)
     }
 
     /// A row with a frame of its own has this one from now on.
@@ -430,6 +419,7 @@ impl Rows {
     }
 
     /// The row has these bytes, and waits no more. Where its bytes were others, it is not unchanged.
+    #[tactic(auto, using(crate::proofs::Writing::nothing))]
     #[inline(always)]
     pub fn store(&mut self, spot: Spot, bytes: &PageBytes)
         ensures { self.new ≡ altered spot.page (written bytes.now) self.old }
@@ -438,7 +428,7 @@ impl Rows {
             return;
         };
         if self.entries[key].in_tree.is_in() {
-            self.change_in_tree(spot, |entry| {
+            self.change_in_tree(Spot { key, ..spot }, |entry| {
                 entry.in_tree = InTree::Not;
                 entry.take_bytes(bytes);
             });
@@ -451,7 +441,7 @@ impl Rows {
     /// not unchanged.
     #[inline(always)]
     pub fn store_on(&mut self, spot: Spot, frame: u32, bytes: &PageBytes)
-        ensures { self.new ≡ altered spot.page (copied frame bytes.now) self.old }
+        ensures { self.new ≡ altered spot.page (laid_on frame (stored bytes.now)) self.old }
     {
         self.change_out_of_tree(spot, |entry| {
             entry.in_tree = InTree::Not;
@@ -462,7 +452,7 @@ impl Rows {
 
     /// The row has a frame of its own in the stead of what it had, and is at home on another node.
     pub fn move_on(&mut self, spot: Spot, frame: u32, home: u32)
-        ensures { self.new ≡ altered spot.page (rehoused frame home) self.old }
+        ensures { self.new ≡ altered spot.page (laid_on frame (at_home_on home)) self.old }
     {
         self.change_out_of_tree(spot, |entry| {
             entry.in_tree = InTree::Not;
@@ -485,31 +475,25 @@ impl Rows {
         requires kept { KeepsPage self.old.pass (λ old new. FnOnceReturnsAtMut F.FnOnce make old tt new) }
         ensures { IsMade (λ old new. FnOnceReturnsAtMut F.FnOnce make old tt new) spot.page self.old self.new }
     {
-        if self.is_in_tree(spot) {
-            self.change_in_tree(spot, make);
-        } else {
-            self.change(spot, make);
-        }
-    }
-
-    // Whether the unstable tree leads to the row.
-    #[inline(always)]
-    fn is_in_tree(&self, spot: Spot) -> bool {
         match key_of(&self.entries, &self.order, spot) {
-            Some(key) => self.entries[key].in_tree.is_in(),
-            None => false,
+            Some(key) if self.entries[key].in_tree.is_in() => {
+                self.change_in_tree(Spot { key, ..spot }, make);
+            }
+            _ => {
+                self.change(spot, make);
+            }
         }
     }
 
-    // The same where the unstable tree led to it, which forgets the key.
+    // The same where the unstable tree led to it, which forgets the key of the spot.
     #[inline(never)]
     fn change_in_tree<F: FnOnce(&mut Entry)>(&mut self, spot: Spot, make: F)
         requires callable { F.IsAlwaysCallable make }
         requires kept { KeepsPage self.old.pass (λ old new. FnOnceReturnsAtMut F.FnOnce make old tt new) }
         ensures { IsMade (λ old new. FnOnceReturnsAtMut F.FnOnce make old tt new) spot.page self.old self.new }
     {
-        if let Some((key, was)) = self.change(spot, make) {
-            self.forget(key, &was);
+        if let Some(was) = self.change(spot, make) {
+            self.forget(spot.key, &was);
         }
     }
 
@@ -592,7 +576,7 @@ impl Rows {
         ensures left { result ≡ option_and_then (λ h. h.frame) (held_at spot.page self.old.held) }
         ensures merged { self.new ≡ altered spot.page (shares (Merged number)) self.old }
     {
-        let (_, was) = self.change(spot, |entry| {
+        let was = self.change(spot, |entry| {
             entry.kind = Kind::Merged;
             entry.number = number;
             entry.at = place;
@@ -607,7 +591,7 @@ impl Rows {
         ensures left { result ≡ option_and_then (λ h. h.frame) (held_at spot.page self.old.held) }
         ensures zero { self.new ≡ altered spot.page (shares Zero) self.old }
     {
-        let (_, was) = self.change(spot, |entry| {
+        let was = self.change(spot, |entry| {
             entry.kind = Kind::Zero;
             entry.in_tree = entry.in_tree.beside();
         })?;
@@ -660,7 +644,7 @@ impl Rows {
             entry.unchanged = false;
             entry.forget_pass();
         });
-        if let Some((_, was)) = before {
+        if let Some(was) = before {
             if was.is_restless() {
                 self.restless.let_be();
             }
@@ -715,6 +699,7 @@ impl Rows {
 
     /// The first page behind a cursor that a visit may change, or a page before it. Where not all of them are listed in
     /// order, it is the first page behind the cursor.
+    #[tactic(auto, using(crate::proofs::Filing::rows_rise, crate::proofs::Spots::found_next))]
     #[inline(always)]
     pub fn next_restless(&mut self, cursor: Option<GuestPage>) -> Option<Spot>
         ensures kept { self.new ≡ self.old }

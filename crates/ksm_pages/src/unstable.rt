@@ -8,10 +8,10 @@ ghost use Rattle.std.specs.List.{list_any};
 ghost use Rattle.std.specs.Prelude.{◌≡◌, ◌==◌, ◌<◌, ℕ, Bool, List, [], None, Some, IfErr, IfSome, OnErr, OnOk, true, false, find, not, slice_index_or};
 ghost use Rattle.ksm_pages.specs.Held.{tree_by as tree_of_home};
 ghost use Rattle.ksm_pages.specs.Unstable.{Keeps, KeepsOthers, holder, if_passes, is_led, meets, other_holder, place, stands_under, turned as halves_turned};
-ghost use Rattle.ksm_pages.specs.Terms.{number_of};
+ghost use Rattle.ksm_pages.specs.Terms.{number_of, Row, tree_of};
 
 use crate::row::Entry;
-use ksm_base::{Fault, PageBytes};
+use ksm_base::{Fault, Knobs, PageBytes};
 use ksm_tree::{Content, same_bytes};
 use slab::Slab;
 use std::alloc::Global;
@@ -44,6 +44,14 @@ pub fn tree_by(by_node: bool, home: u32) -> u32
     if by_node { home } else { 0 }
 }
 
+/// The tree of a row with a home, under knobs.
+#[inline(always)]
+pub fn tree_in(knobs: &Knobs, home: u32) -> u32
+    ensures { (row : Row) → row.home ≡ home → result ≡ tree_of knobs.now row }
+{
+    tree_by(knobs.merge_across_nodes != 1, home)
+}
+
 // A number with its halves in each other's place, so that what hangs on its high bits alone comes to hang on all.
 #[inline(always)]
 fn turned(number: u64) -> u64
@@ -53,6 +61,7 @@ fn turned(number: u64) -> u64
 }
 
 /// The number of the place of a tree and bytes, in a table of so many.
+#[tactic(auto, using(crate::proofs::Names::drop_more, crate::proofs::Names::drop_all))]
 #[inline(always)]
 fn place_of(places: usize, tree: u32, bytes: &PageBytes) -> usize
     ensures { result ≡ place places tree bytes.now }
@@ -190,10 +199,7 @@ impl UnstableTree {
     ) -> Option<u32>
         ensures { result ≡ other_holder by_node entries.now self.now tree bytes.now }
     {
-        let content = Content {
-            tree,
-            bytes: *bytes,
-        };
+        let content = Content::of(tree, bytes);
         let key = self.others.get(&content).copied()?;
         stands(entries, by_node, key, tree, bytes).then_some(key)
     }
@@ -268,10 +274,7 @@ impl UnstableTree {
             ≡ if_passes (λ k. not (k == key)) (number_of tree bytes.now self.old.others.entries) }
         ensures others { KeepsOthers tree bytes.now self.old self.new }
     {
-        let content = Content {
-            tree,
-            bytes: *bytes,
-        };
+        let content = Content::of(tree, bytes);
         if self.others.get(&content).copied() == Some(key) {
             self.others.remove(&content);
         }

@@ -1,5 +1,5 @@
 use Rattle.ksm_pages.proofs.Names.{ap, arith, is_some, sym}
-use Rattle.ksm_pages.proofs.Gathering.{all_passed, fewer_behind, next_stands, one_added, one_passed}
+use Rattle.ksm_pages.proofs.Spots.{all_passed, fewer_behind, next_stands, one_added, one_passed}
 use Rattle.ksm_pages.proofs.rows.gather.Goals as goal
 use Rattle.ksm_pages.proofs.rows.gather.Goals.{else-is_restless, then-is_restless}
 

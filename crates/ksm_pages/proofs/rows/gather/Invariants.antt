@@ -1,5 +1,5 @@
 use Rattle.ksm_pages.proofs.Names.{after_cursor, filter, length}
-use Rattle.ksm_pages.proofs.Gathering.{AreListedUpTo}
+use Rattle.ksm_pages.proofs.Spots.{AreListedUpTo}
 use Rattle.ksm_pages.proofs.rows.gather.Given as goal
 
 -- the pages up to the last are listed

@@ -1,9 +1,6 @@
-use Rattle.ksm_pages.proofs.Names.{ap, arith, drop, filter_all, Some, sym, up_to_few, visited, ◌∙◌}
+use Rattle.ksm_pages.proofs.Names.{ap, arith, drop, Some, sym, up_to_few, visited, ◌∙◌}
 use Rattle.ksm_pages.proofs.Ranked.{behind_is, visited_many}
 use Rattle.ksm_pages.proofs.order.Order.passed.Goals as goal
-
-pub returns-in_default-clause-ahead : goal.returns-in_default-clause-ahead
-returns-in_default-clause-ahead g c = grind (arith, filter_all)
 
 pub returns-clause-ahead : goal.returns-clause-ahead
 returns-clause-ahead g c =

@@ -1,7 +1,6 @@
 use Rattle.ksm_pages.proofs.Names.{None, refl, relaid, seen, sym, true≢false, Zero, ◌∙◌}
-use Rattle.ksm_pages.proofs.Leaving.{Comes}
-use Rattle.ksm_pages.proofs.Lone.{not_alone}
-use Rattle.ksm_pages.proofs.Turning.{moved, own_frame, own_left}
+use Rattle.ksm_pages.proofs.Changing.{not_alone}
+use Rattle.ksm_pages.proofs.Turning.{Comes, moved, own_left}
 use Rattle.ksm_pages.proofs.pages.Pages.become_zero.Goals as goal
 
 gone : (c : goal.After-become_zero)
@@ -12,9 +11,6 @@ gone c =
 
 pub invariant_of-self : goal.invariant_of-self
 invariant_of-self c = (gone c).lawful
-
-pub returns-clause-left : goal.returns-clause-left
-returns-clause-left c = c.become_zero.ensures.left ∙ own_frame (own_left {s = c.self.inside} c.self.invariant c.self.view_is c.requires) c.requires
 
 pub returns-clause-zero : goal.returns-clause-zero
 returns-clause-zero c = (gone c).told_as

@@ -1,7 +1,6 @@
 use Rattle.ksm_pages.proofs.Names.{ap, arith, dup_rows, DupRow, DupsState, elsewhere, filter, frame_of, IsVacant, List, lodging, lodgings_of, PagesValue, rows_of, rows_without, rules, seen, subst}
 use Rattle.ksm_pages.proofs.Names.{sym, tied_pruned, ◌∙◌}
-use Rattle.ksm_pages.proofs.Dropping.{all_elsewhere, lodged_dropped, lone_dropped, stale_there}
-use Rattle.ksm_pages.proofs.Paging.{any_at}
+use Rattle.ksm_pages.proofs.Dropping.{lodged_dropped, lone_dropped, stale_there}
 use Rattle.ksm_pages.proofs.Leaving.{view_of}
 use Rattle.ksm_pages.proofs.pages.Pages.drop_stale.Goals as goal
 
@@ -22,6 +21,3 @@ returns-then-is_some c =
     ∙ lodged_dropped _ _ _ (grind arith) in
     (λ i. record (seen (view_of s)) { dups = dropped i; frame = lain i; next = ap (λ (d : DupsState). d.next) c.drop_stale.ensures i })
     ∙ ap (λ (v : PagesValue). record (seen v) { dups = filter (elsewhere place) v.dups }) c.self.view_is
-
-pub returns-else-is_some : goal.returns-else-is_some
-returns-else-is_some c = search (rules, any_at, all_elsewhere)

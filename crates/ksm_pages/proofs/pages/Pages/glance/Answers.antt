@@ -1,8 +1,6 @@
 use Rattle.ksm_pages.proofs.Names.{arith, changed, refl, same_page_refl, seen, Waiting}
-use Rattle.ksm_pages.proofs.Leaving.{Comes}
-use Rattle.ksm_pages.proofs.Partners.{held_led, partner_by}
-use Rattle.ksm_pages.proofs.Turning.{own_left, rested}
-use Rattle.ksm_pages.proofs.Visiting.{alone_seen, asked, IsAsked, known, lone_none}
+use Rattle.ksm_pages.proofs.Visiting.{alone_seen, asked, held_led, IsAsked, known, lone_none, partner_by}
+use Rattle.ksm_pages.proofs.Turning.{Comes, own_left, rested}
 use Rattle.ksm_pages.proofs.pages.Pages.glance.Goals as goal
 use Rattle.ksm_pages.proofs.pages.Pages.glance.Goals.{After-wait}
 

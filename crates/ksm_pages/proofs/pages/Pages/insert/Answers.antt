@@ -1,11 +1,6 @@
-use Rattle.ksm_pages.proofs.Names.{frame_of, fresh_row, Held, lies_on, Not, on_ok_weaker, refl, rules, seen, Some, with_held, with_row, ◌≡◌}
-use Rattle.ksm_pages.proofs.Turning.{but_there, either_way, entered, lay_nowhere}
-use Rattle.ksm_pages.proofs.Changing.{nothing_held}
-use Rattle.ksm_pages.proofs.Leaving.{Comes, held_as}
+use Rattle.ksm_pages.proofs.Names.{frame_of, fresh_row, Held, lies_on, Not, on_ok_weaker, refl, seen, Some, with_held, with_row, ◌≡◌}
+use Rattle.ksm_pages.proofs.Turning.{but_there, Comes, either_way, entered, held_as}
 use Rattle.ksm_pages.proofs.pages.Pages.insert.Goals as goal
-
-pub insert-requires : goal.insert-requires
-insert-requires c = search (rules, nothing_held)
 
 abbrev fresh : (c : goal.After-insert) → Held
 fresh c = record { row = fresh_row c.args.page c.args.node c.args.bytes.now; frame = Some 0; in_tree = Not }
@@ -28,6 +23,3 @@ returns-clause-added c =
 pub returns-clause-others : goal.returns-clause-others
 returns-clause-others c =
     on_ok_weaker c.insert.result (λ put. (but_there (seen c.args.self.now) _ _ _ (came c put).told_as).1) c.insert.ensures.added
-
-pub returns-clause-nowhere : goal.returns-clause-nowhere
-returns-clause-nowhere c = lay_nowhere c.self.inside c.self.invariant c.self.view_is (fresh c) c.requires

@@ -1,13 +1,8 @@
 use Rattle.ksm_pages.proofs.Names.{arith, frame_of, lies_on, map_fixed, refl, seen, Some, subst}
 use Rattle.ksm_pages.proofs.Joined.{own_not_merged, seen_own}
-use Rattle.ksm_pages.proofs.Leaving.{alone_found, Comes}
-use Rattle.ksm_pages.proofs.Turning.{moved, own_left}
+use Rattle.ksm_pages.proofs.Leaving.{alone_found}
+use Rattle.ksm_pages.proofs.Turning.{Comes, moved, own_left}
 use Rattle.ksm_pages.proofs.pages.Pages.lay.Goals as goal
-
-pub lay-requires : goal.lay-requires
-lay-requires c =
-    let left = own_left {s = c.self.inside} c.self.invariant c.self.view_is c.requires in
-    rw left.found (alone_found c.self.inside c.self.view_is _ left.found c.requires)
 
 laid : (c : goal.After-lay) → Comes c.self.inside c.lay.new.self c.self.inside.dups (record (seen c.args.self.now) {
   frame = lies_on c.args.spot.page (Some c.args.frame) (frame_of c.args.self.now.lodgings);

@@ -1,6 +1,5 @@
 use Rattle.ksm_pages.proofs.Names.{arith, changed, let_go, refl, seen}
-use Rattle.ksm_pages.proofs.Leaving.{Comes}
-use Rattle.ksm_pages.proofs.Turning.{own_left, rested}
+use Rattle.ksm_pages.proofs.Turning.{Comes, own_left, rested}
 use Rattle.ksm_pages.proofs.pages.Pages.let_go.Goals as goal
 
 came : (c : goal.After-let_go) → Comes c.self.inside c.let_go.new.self c.self.inside.dups (changed c.args.spot.page let_go (seen c.args.self.now))

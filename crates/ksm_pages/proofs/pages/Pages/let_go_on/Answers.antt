@@ -1,6 +1,5 @@
 use Rattle.ksm_pages.proofs.Names.{let_go, refl, relaid, rules, seen, Some}
-use Rattle.ksm_pages.proofs.Leaving.{Comes}
-use Rattle.ksm_pages.proofs.Turning.{known_left, lay, relaid_on}
+use Rattle.ksm_pages.proofs.Turning.{Comes, known_left, relaid_on}
 use Rattle.ksm_pages.proofs.pages.Pages.let_go_on.Goals as goal
 
 came : (c : goal.After-change)
@@ -12,9 +11,6 @@ came c =
 
 pub invariant_of-self : goal.invariant_of-self
 invariant_of-self c = (came c).lawful
-
-pub returns-clause-left : goal.returns-clause-left
-returns-clause-left c = lay (known_left {s = c.self.inside} c.self.invariant c.self.view_is c.requires c.leave-left.ensures) c.deref.ensures.value
 
 pub returns-clause-gone : goal.returns-clause-gone
 returns-clause-gone c = (came c).told_as

@@ -1,6 +1,5 @@
 use Rattle.ksm_pages.proofs.Names.{changed, refl, rules, seen, true}
-use Rattle.ksm_pages.proofs.Leaving.{Comes, held_as}
-use Rattle.ksm_pages.proofs.Turning.{stays}
+use Rattle.ksm_pages.proofs.Turning.{Comes, held_as, stays}
 use Rattle.ksm_pages.proofs.pages.Pages.make_mergeable.Goals as goal
 
 came : (c : goal.After-change)

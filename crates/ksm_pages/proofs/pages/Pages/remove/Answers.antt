@@ -1,13 +1,10 @@
 use Rattle.ksm_pages.proofs.Names.{arith}
-use Rattle.ksm_pages.proofs.Turning.{known_left, lay, parted}
+use Rattle.ksm_pages.proofs.Turning.{known_left, parted}
 use Rattle.ksm_pages.proofs.pages.Pages.remove.Goals as goal
 
 pub invariant_of-self : goal.invariant_of-self
 invariant_of-self c =
     (parted (known_left {s = c.self.inside} c.self.invariant c.self.view_is c.requires c.leave-left.ensures) c.remove.ensures).lawful
-
-pub returns-clause-left : goal.returns-clause-left
-returns-clause-left c = lay (known_left {s = c.self.inside} c.self.invariant c.self.view_is c.requires c.leave-left.ensures) c.deref.ensures.value
 
 pub returns-clause-gone : goal.returns-clause-gone
 returns-clause-gone c = grind (

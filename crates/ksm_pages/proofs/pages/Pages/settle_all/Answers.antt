@@ -1,6 +1,5 @@
 use Rattle.ksm_pages.proofs.Names.{map, seen, settled}
-use Rattle.ksm_pages.proofs.Leaving.{Comes}
-use Rattle.ksm_pages.proofs.Turning.{settle_then}
+use Rattle.ksm_pages.proofs.Turning.{Comes, settle_then}
 use Rattle.ksm_pages.proofs.pages.Pages.settle_all.Goals as goal
 
 came : (c : goal.After-make_room) → Comes c.self.inside c.make_room.new.self c.self.inside.dups (record (seen c.args.self.now) {

@@ -1,6 +1,5 @@
 use Rattle.ksm_pages.proofs.Names.{arith, changed, on_its_own, on_row, refl, rules, seen, settled}
-use Rattle.ksm_pages.proofs.Leaving.{Comes}
-use Rattle.ksm_pages.proofs.Turning.{own_left, rested}
+use Rattle.ksm_pages.proofs.Turning.{Comes, own_left, rested}
 use Rattle.ksm_pages.proofs.pages.Pages.stop_waiting.Goals as goal
 
 came : (c : goal.After-change) → Comes c.self.inside c.change.new.self c.self.inside.dups (changed c.args.spot.page on_its_own (seen c.args.self.now))

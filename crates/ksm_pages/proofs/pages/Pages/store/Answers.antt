@@ -1,6 +1,5 @@
 use Rattle.ksm_pages.proofs.Names.{arith, changed, refl, seen, stored}
-use Rattle.ksm_pages.proofs.Leaving.{Comes}
-use Rattle.ksm_pages.proofs.Turning.{own_left, rested}
+use Rattle.ksm_pages.proofs.Turning.{Comes, own_left, rested}
 use Rattle.ksm_pages.proofs.pages.Pages.store.Goals as goal
 
 came : (c : goal.After-store) → Comes c.self.inside c.store.new.self c.self.inside.dups (changed c.args.spot.page (stored c.args.bytes.now) (seen c.args.self.now))

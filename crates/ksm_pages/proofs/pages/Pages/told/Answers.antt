@@ -1,6 +1,5 @@
 use Rattle.ksm_pages.proofs.Names.{arith, dup_rows, held_of, lodging, refl}
-use Rattle.ksm_pages.proofs.Lodgings.{frame_by}
-use Rattle.ksm_pages.proofs.Changing.{row_told}
+use Rattle.ksm_pages.proofs.Changing.{frame_by, row_told}
 use Rattle.ksm_pages.proofs.pages.Pages.told.Goals as goal
 
 pub returns : goal.returns

@@ -1,7 +1,6 @@
 use Rattle.ksm_pages.proofs.Names.{ap, arith, false, map, map_alike, on_row, refl, Row, seen, settled, ◌∙◌}
 use Rattle.ksm_pages.proofs.Changing.{settled_again}
-use Rattle.ksm_pages.proofs.Leaving.{Comes, held_as}
-use Rattle.ksm_pages.proofs.Turning.{still}
+use Rattle.ksm_pages.proofs.Turning.{Comes, held_as, still}
 use Rattle.ksm_pages.proofs.pages.Pages.unshare_all.Goals as goal
 
 abbrev at_rest : Row → Row

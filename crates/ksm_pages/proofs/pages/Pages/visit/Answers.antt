@@ -1,8 +1,7 @@
 use Rattle.ksm_pages.proofs.Names.{ap, arith, changed, held_of, inl, inr, on_err, on_row, Private, refl, Row, rows_of, rules, same_page_eq, same_page_refl, seen, settled, Some, sym, true, ◌∙◌, ◌≡◌}
-use Rattle.ksm_pages.proofs.Leaving.{Comes}
-use Rattle.ksm_pages.proofs.Partners.{free_but, free_by, partner_by, tree_is, waits_page}
-use Rattle.ksm_pages.proofs.Turning.{own_left, rested}
-use Rattle.ksm_pages.proofs.Visiting.{alone, alone_seen, asked, entered, entered_lone, known, lone_none, MayEnter, still_asked}
+use Rattle.ksm_pages.proofs.Visiting.{alone, alone_seen, asked, entered, entered_lone, free_but, free_by, known, lone_none, MayEnter, partner_by, still_asked, waits_page}
+use Rattle.ksm_pages.proofs.Leaving.{tree_is}
+use Rattle.ksm_pages.proofs.Turning.{Comes, own_left, rested}
 use Rattle.ksm_pages.proofs.pages.Pages.visit.Goals as goal
 use Rattle.ksm_pages.proofs.pages.Pages.visit.Goals.{After-enter-arg-1, in-Some-in_tree+else-ne, in-Some-in_tree+then-ne+else-waits, in_default-in_tree}
 

@@ -1,13 +1,7 @@
 use Rattle.ksm_pages.proofs.Names.{ap, arith, row_at, same_page_eq, ◌∙◌}
-use Rattle.ksm_pages.proofs.Partners.{partner_by, waits_page}
+use Rattle.ksm_pages.proofs.Visiting.{partner_by, waits_page}
 use Rattle.ksm_pages.proofs.Leaving.{row_seen}
 use Rattle.ksm_pages.proofs.pages.Pages.waiting_beside.Goals as goal
-
-pub returns-in_err-other-in-Merged : goal.returns-in_err-other-in-Merged
-returns-in_err-other-in-Merged c =
-    let by = partner_by c.self.inside c.self.invariant c.self.view_is c.args.spot.page c.in_ok-entry.entry.now c.in_ok-entry.ensures
-    c.are_lawful.ensures.led c.are_lawful.ensures.found c.tree_in-tree.ensures in
-    grind (arith, by, row_seen c.self.inside c.self.view_is _ c.in_ok-entry.ensures)
 
 pub returns-in_ok-other-in-Merged : goal.returns-in_ok-other-in-Merged
 returns-in_ok-other-in-Merged c =

@@ -1,10 +1,7 @@
 use Rattle.ksm_pages.proofs.Names.{arith, false, inr, is_in, refl, rules, sym, true≢false, written, ◌∙◌, ◌≡◌}
-use Rattle.ksm_pages.proofs.Writing.{kept_mark, nothing, still_led, viewed}
+use Rattle.ksm_pages.proofs.Writing.{kept_mark, still_led, viewed}
 use Rattle.ksm_pages.proofs.rows.Rows.store.Goals as goal
 use Rattle.ksm_pages.proofs.rows.Rows.store.Goals.{After-take_bytes}
-
-pub returns-in_default : goal.returns-in_default
-returns-in_default c = search (rules, nothing)
 
 out : (c : After-take_bytes) → is_in c.index_mut.result.now.in_tree ≡ false
 out c = grind (arith, c.index.ensures, c.index_mut.ensures.value, c.is_in.ensures, c.if-is_in.false)
