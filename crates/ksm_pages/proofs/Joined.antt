@@ -11,10 +11,6 @@ use Rattle.ksm_pages.proofs.Leaving.{AreLawful, Comes, of_dup, of_page, row_ther
 pub own_not_merged : (s : PageState) → shared_state s ≡ false → merged_state s ≡ false
 own_not_merged s e = grind arith
 
--- a page with a frame of its own leaves no dup, so letting it out changes none
-pub let_out_alone : (state : PageState) (page : GuestPage) {dups : List Dup} → shared_state state ≡ false → let_out state page dups ≡ dups
-let_out_alone state page alone = grind arith
-
 -- a dup with room for an item is found by its number, and has fewer items than there are references at most
 pub room_found : (s : Inside) → AreLawful s → {p : PagesValue} → view_of s ≡ p → {number : ℕ}
     → HasRoom p.rows p.dups number

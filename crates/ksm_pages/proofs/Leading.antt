@@ -93,10 +93,6 @@ module _ (old new : UnstableTree) (same : new.places.items ≡ old.places.items)
       → number_of tree bytes new.others.entries ≡ Some key → meets new tree bytes key ≡ true
   beside_meets slab key full number = grind (arith, nat_tests, keys_same tree bytes, all_taken slab)
 
--- two numbers are one, or differ
-same_or_apart : (m n : ℕ) → (m ≡ n) ⊎ (m ≢ n)
-same_or_apart m n = grind arith
-
 module _ {by_node : Bool} {slab : Slab Entry} {u : UnstableTree} (led : AreLed by_node slab u) where
   -- where no more entries are in the tree than were, each with its tree and bytes, it leads to all that are
   pub led_less : {later : Slab Entry}
@@ -123,10 +119,12 @@ module _ {by_node : Bool} {slab : Slab Entry} {u : UnstableTree} (led : AreLed b
       → nat_lt key GONE ≡ true → Keeps by_node slab u new → meets new (tree_by by_node d.home) d.bytes key ≡ true
       → AreLed by_node later new
   led_entered {later} {key} {d} {e} {new} stood fills none home bytes below keeps met = record {
-    at = λ t b k stands. elim (same_or_apart k key) [
-      | inl same ↦ (grind arith, grind (arith, here t b, stands), λ l also. grind (arith, differ_by, was t b l, here t b, none l, also, stands))
+    at = λ t b k stands. elim (cases_Bool (k == key)) [
+      | inl is ↦
+          let same : k ≡ key = grind (arith, nat_tests) in
+          (grind arith, grind (arith, here t b, stands), λ l also. grind (arith, differ_by, was t b l, here t b, none l, also, stands))
       | inr apart ↦
-          let stood = was t b k apart stands in
+          let stood = was t b k (differ_by apart) stands in
           let there = led.at t b k stood in
           (there.0, keeps t b k (grind (arith, there.0, stood)) there.1, λ l also. grind (arith, differ_by, here t b, none k, was t b, there.2 l, stands, also))
     ];

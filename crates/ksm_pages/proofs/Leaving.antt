@@ -81,12 +81,9 @@ pub lies_same : (page : GuestPage) {frames : Frames} → lies_on page (frames pa
 lies_same page = grind arith
 
 module _ (s : Inside) {p : PagesValue} (seen_as : view_of s ≡ p) (page : GuestPage) where
-  rows_seen : rows_of s.rows.held ≡ p.rows
-  rows_seen = λ i. (seen_as i).rows
-
   -- the row of a page that is seen is the row of what is held of the page
   pub row_seen : {o : Option Held} → held_at page s.rows.held ≡ o → row_at page p.rows ≡ option_map (λ g. g.row) o
-  row_seen is = grind (arith, rows_seen, row_told)
+  row_seen is = grind (arith, ap (λ (v : PagesValue). v.rows) seen_as, row_told)
 
   -- a page that has a row among those seen is held
   pub known_there : held_at page s.rows.held ≡ None → IsKnown page p.rows → true ≡ false

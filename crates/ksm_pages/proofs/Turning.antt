@@ -6,7 +6,7 @@ use Rattle.ksm_pages.proofs.Names.{out_of_tree, PagesValue, PagesView, Private, 
 use Rattle.ksm_pages.proofs.Names.{shared_state, Some, subst, sym, tied_dropped, tied_inserted, tied_left, tied_mapped, true≢false, waiting_state, with_held, with_row, without_held, without_page, ℕ}
 use Rattle.ksm_pages.proofs.Names.{⊤, ◌==◌, ◌∙◌, ◌∷◌, ◌≡◌, ◌⊎◌}
 use Rattle.ksm_pages.proofs.Changing.{held_rise, idle_settled, IsLone, lodged_gone, lodged_one, lone_with, nothing_held, rows_with, rows_without, seat, settled_again}
-use Rattle.ksm_pages.proofs.Joined.{let_out_alone, own_not_merged, seen_own}
+use Rattle.ksm_pages.proofs.Joined.{own_not_merged, seen_own}
 pub use Rattle.ksm_pages.proofs.Leaving.{Comes, held_as}
 use Rattle.ksm_pages.proofs.Leaving.{alone_found, AreLawful, Become, comes, IsLoneIn, known_there, lies, lies_same, of_dup, of_page, row_there, tree_is, turned_so, view_of}
 use Rattle.ksm_pages.proofs.Found.{find_put, find_put_other}
@@ -96,7 +96,7 @@ own_left {s} {p} {page} are seen_as alone = go _ refl
     go (Some h) found =
         let own = alone_found s seen_as page found alone in
         let left : IsLeft s.frames.items s.dups s.dups (frame_of p.lodgings page) h =
-        grind (arith, let_out_alone h.row.state h.row.page {dups = s.dups.dups} own, lies s are page found seen_as) in
+        grind (arith, own, lies s are page found seen_as) in
         record { lawful = are; seen_as = seen_as; held = h; found = found; left = left }
 
 rows_by : (F : Held → Held) (f : Row → Row) → ((x : Held) → (F x).row ≡ f x.row) → (held : List Held)
