@@ -1,21 +1,17 @@
-use Rattle.ksm_pages.proofs.Names.{arith, Entry, inr, refl, rules}
+use Rattle.ksm_pages.proofs.Names.{arith, inr, refl, rules}
 use Rattle.ksm_pages.proofs.Writing.{can_be, kept_mark, row_there, still_led, viewed}
 use Rattle.ksm_pages.proofs.rows.Rows.wait.Goals as goal
-use Rattle.ksm_pages.proofs.rows.Rows.wait.Goals.{After-change}
 
 pub change-requires : goal.change-requires
 change-requires c = search (rules, can_be c.self.inside c.self.invariant.0 c.in-Some.ensures.there)
 
-abbrev later : After-change → Entry
-later c = record c.index_mut-entry.result.now { number = c.self.inside.pass }
-
 pub invariant_of-self : goal.invariant_of-self
 invariant_of-self c =
-    still_led c.self.inside c.self.invariant.0 c.in-Some.ensures.there c.index_mut-entry.ensures.value c.self.view_is (later c) (search (rules, kept_mark))
+    still_led c.self.inside c.self.invariant.0 c.in-Some.ensures.there c.index_mut-entry.ensures.value c.self.view_is _ (search (rules, kept_mark))
     (refl, λ _ own. grind arith) c.self.invariant.1 (λ led. (led, refl, refl)) c.state_alone-old.ensures
     (grind (arith, row_there)) c.change.ensures (inr (refl, λ may. may))
 
 pub returns : goal.returns
 returns c =
-    viewed c.self.inside c.self.invariant.0 c.in-Some.ensures.there c.index_mut-entry.ensures.value c.self.view_is (later c) (search (rules, kept_mark))
+    viewed c.self.inside c.self.invariant.0 c.in-Some.ensures.there c.index_mut-entry.ensures.value c.self.view_is _ (search (rules, kept_mark))
     (refl, λ _ own. grind arith) _ (λ _. grind (arith, row_there))
