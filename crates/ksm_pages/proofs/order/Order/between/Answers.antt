@@ -7,13 +7,11 @@ use Rattle.ksm_pages.proofs.order.Order.between.Goals.{After-up_to-before}
 before : (g : _) (c : After-up_to-before g) → c.up_to-before.result ≡ up_to (key_of c.args.page) c.self.inside.pages
 before g c = c.up_to-before.ensures ∙ ap (λ n. up_to n c.self.inside.pages) c.key_of.ensures.key
 
--- so many come in between
-many : (g : _) (c : After-up_to-before g) → length (pages_between c.args.cursor c.args.page (visited c.args.self.now)) ≡ c.up_to-before.result - c.passed-passed.result
-many g c = search (rules, passed_many)
-
 pub returns-then-before-passed-clause-count : goal.returns-then-before-passed-clause-count
 returns-then-before-passed-clause-count g c =
-    let a = (goal.at.returns-then-before-passed-clause-count g c).After-up_to-before in search (rules, many g a)
+    let many : length (pages_between c.args.cursor c.args.page (visited c.args.self.now)) ≡ c.up_to-before.result - c.passed-passed.result =
+    search (rules, passed_many) in
+    search (rules, many)
 
 pub returns-then-before-passed-clause-last : goal.returns-then-before-passed-clause-last
 returns-then-before-passed-clause-last g c =
