@@ -3,7 +3,7 @@ use Rattle.ksm_pages.proofs.Names.{[], All, AreInTree, AreLed, AreWaitersLed, ar
 use Rattle.ksm_pages.proofs.Names.{false_from_ne_true, Fills, find, find_alike, find_all, find_nothing, find_passes, get, get_or, get_or-set_at, GONE, has_content, Held, held_of, holder, holds}
 use Rattle.ksm_pages.proofs.Names.{if◌then◌else◌, inl, inr, is_in, is_led, IsFree, Keeps, KeepsOthers, keys_at, length, length-set, List, list_any, list_any_at, MatchOption, meets, nat_lt, nat_tests}
 use Rattle.ksm_pages.proofs.Names.{NO_KEY, None, not, number_of, Option, option_map, page_in_tree, place, refl, same_page_eq, same_page_refl, set, Slab, slice_get, slice_get_within, Some, stands_as}
-use Rattle.ksm_pages.proofs.Names.{stands_under, StaysLed, suc, told_equal, tree_by, true, UnstableTree, Updates, waiting_state, zero, ℕ, ⊤, ◌&&◌, ◌<◌, ◌==◌, ◌∷◌, ◌≡◌, ◌≢◌, ◌⊎◌}
+use Rattle.ksm_pages.proofs.Names.{stands_under, StaysLed, suc, told_equal, tree_by, true, UnstableTree, Updates, waiting_state, zero, ℕ, ⊤, ◌&&◌, ◌<◌, ◌==◌, ◌∷◌, ◌≡◌, ◌≢◌}
 use Rattle.std.specs.Vec.{with_item}
 use Rattle.ksm_pages.specs.declared.rows.Rows.TheInside.{Inside}
 use Rattle.ksm_pages.proofs.Filing.{all_held, AreRows, differ_by, one_key, row_found, rows_all, view_of}

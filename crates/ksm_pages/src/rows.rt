@@ -644,10 +644,8 @@ impl Rows {
             entry.unchanged = false;
             entry.forget_pass();
         });
-        if let Some(was) = before {
-            if was.is_restless() {
-                self.restless.let_be();
-            }
+        if before.is_some_and(|was| was.is_restless()) {
+            self.restless.let_be();
         }
     }
 

@@ -1,4 +1,4 @@
-use Rattle.ksm_pages.proofs.Names.{arith, refl, rules, true≢false, ◌≡◌}
+use Rattle.ksm_pages.proofs.Names.{arith, refl, rules, true≢false}
 use Rattle.ksm_pages.proofs.Paired.{are_apart, can_pair, CanPair, is_free, lawful_paired, lay_first, lay_second, may_both, told_paired}
 use Rattle.ksm_pages.proofs.Visiting.{lawful_numbered}
 use Rattle.ksm_pages.proofs.pages.Pages.pair.Goals as goal

@@ -1,4 +1,4 @@
-use Rattle.ksm_pages.proofs.Names.{ap, arith, in_tree_by, inr, is_some, refl, rules, Updates-with_value, waiting_in, with_value}
+use Rattle.ksm_pages.proofs.Names.{ap, arith, in_tree_by, inr, is_some, refl, rules, Updates-with_value, waiting_in}
 use Rattle.ksm_pages.proofs.Leading.{free_none}
 use Rattle.ksm_pages.proofs.Writing.{can_be, kept_mark, of_page, row_there, still, viewed}
 use Rattle.ksm_pages.proofs.rows.Rows.enter.Goals as goal

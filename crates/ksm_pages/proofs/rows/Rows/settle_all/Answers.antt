@@ -11,8 +11,7 @@ pub invariant_of-self-in-None : goal.invariant_of-self-in-None
 invariant_of-self-in-None c =
     let slots = retained_each _ forgotten (λ f k old keep new next t. search rules) _ c.self.inside.entries c.retain.new.self c.retain.ensures.retained in (
       (anew c.self.invariant.0 c.retain.new.self slots).rows,
-      led_mapped _ _ forgotten slots (λ e led. (led, refl, refl))
-          c.self.invariant.1,
+      led_mapped _ _ forgotten slots (λ e led. (led, refl, refl)) c.self.invariant.1,
     )
 
 pub returns-in-Some : goal.returns-in-Some

@@ -7,8 +7,7 @@ pub invariant_of-self : goal.invariant_of-self
 invariant_of-self c =
     let slots = retained_each _ plain (λ f k old keep new next t. search rules) _ c.self.inside.entries c.retain.new.self c.retain.ensures.retained in (
       (plain_seen c.self.invariant.0 c.retain.new.self slots).rows,
-      led_mapped _ _ plain slots (λ e led. (led, refl, refl))
-          c.self.invariant.1,
+      led_mapped _ _ plain slots (λ e led. (led, refl, refl)) c.self.invariant.1,
     )
 
 pub returns : goal.returns

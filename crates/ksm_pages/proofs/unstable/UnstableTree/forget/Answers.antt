@@ -6,8 +6,7 @@ use Rattle.ksm_pages.proofs.unstable.UnstableTree.forget.Goals.{in-Some+in_defau
 pub returns-in-Some-index_in : goal.returns-in-Some-index_in
 returns-in-Some-index_in c by_node =
     put_keeps c.args.self.now c.place_of-at.result c.in-Some.keys.now c.in-Some-index_in.here GONE
-    (search (rules, slice_get_read))
-    c.args.entries.now refl (grind arith) by_node
+    (search (rules, slice_get_read)) c.args.entries.now refl (grind arith) by_node
 
 -- where the key does not stand in the place, the tree is as it was
 same : (c : goal.After-forget_beside) → IsAs c.match-get_mut.self c.args.self.now

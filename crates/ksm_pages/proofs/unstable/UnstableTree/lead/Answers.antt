@@ -7,14 +7,12 @@ use Rattle.ksm_pages.proofs.unstable.UnstableTree.lead.Goals.{in-Some+in_default
 pub returns-in-Some-free_in-clause-leads : goal.returns-in-Some-free_in-clause-leads
 returns-in-Some-free_in-clause-leads c =
     put_meets c.args.self.now c.place_of-at.result c.in-Some.keys.now c.in-Some-free_in.free c.args.key
-    (search (rules, slice_get_read))
-    c.args.tree c.args.bytes.now (search rules) (search rules)
+    (search (rules, slice_get_read)) c.args.tree c.args.bytes.now (search rules) (search rules)
 
 pub returns-in-Some-free_in-clause-kept : goal.returns-in-Some-free_in-clause-kept
 returns-in-Some-free_in-clause-kept c by_node _ =
     put_keeps c.args.self.now c.place_of-at.result c.in-Some.keys.now c.in-Some-free_in.free c.args.key
-    (search (rules, slice_get_read))
-    c.args.entries.now (grind arith) (search rules) by_node
+    (search (rules, slice_get_read)) c.args.entries.now (grind arith) (search rules) by_node
 
 -- where no key of the place is another, the tree is as it was, and leads to each key there
 same : (c : goal.After-lead_beside) → IsAs c.match-get_mut.self c.args.self.now
