@@ -1,13 +1,14 @@
 -- An item that comes in, and a part that changes or is cut in two: what that is for all items.
 use Rattle.ksm_order.proofs.Names.{[], add-one, All, All-append, All-cons, All-drop, All-nil, All-take, AllPairs-filter, ap, append-nil, append_assoc, AreAscending, AreBefore, AreBehind, AreParts}
-use Rattle.ksm_order.proofs.Names.{arith, begins_behind, Bool, cond, drop, drop-set-lt, drop_at, false, flat_map, flat_map-append, get_or, get_or-insert_at, get_or-map, if◌then◌else◌, insert, is_at}
+use Rattle.ksm_order.proofs.Names.{arith, begins_behind, Bool, cond, count-append, drop, drop-set-lt, drop_at, false, flat_map, flat_map-append, get_or, get_or-insert_at, if◌then◌else◌, insert, is_at}
 use Rattle.ksm_order.proofs.Names.{IsCounted, IsCut, IsPartOf, Item, length, length-append, length-drop, length-insert, length-map, length-set, length-take-le, List, many, nat_tests, nil_from_length}
 use Rattle.ksm_order.proofs.Names.{refl, remove, set, set_split, take, take-append-drop, take-set, take_at, true, with_item, with_mark, without, ℕ, ◌++◌, ◌+◌, ◌-◌, ◌<◌, ◌==◌, ◌∷◌, ◌≡◌, ◌≢◌, ◌≤◌}
+use Rattle.std.proofs.lemmas.List.{get_or-map}
 use Rattle.std.specs.Int.{from_bool}
 use Rattle.std.proofs.lemmas.Grind.{take-set_at}
 use Rattle.std.proofs.lemmas.List.Sums.{sum_by-remove}
 use Rattle.ksm_order.proofs.Places.{with_rises}
-use Rattle.ksm_order.proofs.Parts.{ahead_of, behind_of, cut, front, halves_rise, many-append, mark_between, rest, with_between}
+use Rattle.ksm_order.proofs.Parts.{ahead_of, behind_of, cut, front, halves_rise, mark_between, rest, with_between}
 use Rattle.ksm_order.proofs.Ordered.{numbers_ordered, without_between}
 
 -- a test as a number is 1 where it passes and 0 where it does not
@@ -25,7 +26,7 @@ removed_counted {xs = xs} is at {x = x} within stood = grind (arith, sum_by-remo
 counted_halves : {xs : List Item} {n : ℕ} (ys zs : List Item) → IsCounted xs n → ys ++ zs ≡ xs
     → (many zs ≤ n) × IsCounted ys (n - many zs) × IsCounted zs (many zs)
 counted_halves ys zs is whole =
-    grind (arith, halves_rise ys zs (rw whole is.ascending), ap many whole, many-append ys zs)
+    grind (arith, halves_rise ys zs (rw whole is.ascending), ap many whole, count-append)
 
 -- the same at a place
 pub counted_cut : {xs : List Item} {n : ℕ} (is : IsCounted xs n) (at : ℕ)
@@ -102,7 +103,7 @@ module _ {P : Type 0} {f : P → List Item} {key : ℕ} {parts : List P} {at : �
       let old = cut f parts at place.within is in
       let now : flat_map f all ≡ front f parts at ++ (flat_map f news ++ rest f parts at) = grind (arith, whole, flat_map-append) in
       let each = All-append (Full f) (take at parts) (news ++ later) (All-take (Full f) at parts are.filled) (All-append (Full f) news later filled (All-drop (Full f) (at + 1) parts are.filled)) in
-      grind (arith, whole, each, local.between (front f parts at) (f q) (rest f parts at) place.ahead place.behind, local.rises _ are.ascending, many-append)
+      grind (arith, whole, each, local.between (front f parts at) (f q) (rest f parts at) place.ahead place.behind, local.rises _ are.ascending, count-append)
 
   -- one part in its place
   pub set_part : {p : P} → f p ≡ h (f q) → h (f q) ≢ []

@@ -11,8 +11,7 @@ pub use Rattle.std.proofs.Common.{add-one, ap, append-nil, append_assoc, arith, 
 pub use Rattle.std.proofs.Common.{length-drop, length-set, length-take-le, ltb-true, rules, sym, take-append-drop, take_at, tests, ◌∙◌}
 pub use Rattle.std.proofs.Math.Seq.{get_or-append_seam, take-append_seam, take-suc}
 pub use Rattle.std.proofs.lemmas.Bool.Decides.{nat_tests}
-pub use Rattle.std.proofs.lemmas.List.{drop-take, drop_all, drop_more, get_or-map, get_or_append_left, get_or_default, length-map, map-append, nil_from_length, set_at, set_split, take-append-le}
-pub use Rattle.std.proofs.lemmas.List.{take-set}
+pub use Rattle.std.proofs.lemmas.List.{drop-take, drop_all, drop_more, get_or_append_left, get_or_default, length-map, map-append, nil_from_length, set_at, set_split, take-append-le, take-set}
 pub use Rattle.std.proofs.lemmas.List.Concat.{flat_map-append}
 pub use Rattle.std.proofs.lemmas.List.Edits.{get_or-insert_at, length-insert, length-remove}
 pub use Rattle.std.proofs.lemmas.List.Elements.{All-append, All-cons, All-drop, All-filter, All-head, All-map, All-nil, All-tail, All-take, filter-append, filter_passes}

@@ -9,26 +9,19 @@ use Rattle.std.proofs.lemmas.List.Sums.{count_by-le-length, length-filter}
 use Rattle.ksm_order.proofs.Ordered.{absent_parts, numbers_ordered}
 use Rattle.ksm_order.proofs.Places.{before_here, behind_here, cut_here, from_there, high, in_front, low}
 
--- one more is counted where it is marked, and the marked ones of two lists in a row are those of both;
--- so it is with the marked ones that come before a key
-pub many-cons : (x : Item) (xs : List Item) → many (x ∷ xs) ≡ cond x.marked 1 0 + many xs
+-- one more is counted where it is marked; so it is with the marked ones that come before a key
+many-cons : (x : Item) (xs : List Item) → many (x ∷ xs) ≡ cond x.marked 1 0 + many xs
 many-cons = count_more (λ (x : Item). x.marked)
 
-pub many-append : (xs ys : List Item) → many (xs ++ ys) ≡ many xs + many ys
-many-append = count-append (λ (x : Item). x.marked)
-
-pub up_to-cons : (key : ℕ) (x : Item) (xs : List Item)
+up_to-cons : (key : ℕ) (x : Item) (xs : List Item)
     → up_to key (x ∷ xs) ≡ cond (x.marked && nat_lt x.key key) 1 0 + up_to key xs
 up_to-cons key = count_more (λ (x : Item). x.marked && nat_lt x.key key)
-
-pub up_to-append : (key : ℕ) (xs ys : List Item) → up_to key (xs ++ ys) ≡ up_to key xs + up_to key ys
-up_to-append key = count-append (λ (x : Item). x.marked && nat_lt x.key key)
 
 -- where all items are marked, so are all in front of a place
 pub all_in_front : (xs : List Item) → many xs ≡ length xs → (n : ℕ) → n ≤ length xs → many (take n xs) ≡ n
 all_in_front xs all n within =
     let few = count_by-le-length (λ (x : Item). x.marked) in
-    omega (arith, ap many (take-append-drop n xs), many-append (take n xs) (drop n xs), few (take n xs), few (drop n xs), length-take-le n xs within, length-drop n xs)
+    grind (arith, ap many (take-append-drop n xs), count-append, few (take n xs), few (drop n xs), length-take-le n xs within, length-drop n xs)
 
 -- and the marked ones are all there are
 pub all_marked : (xs : List Item) → length xs ≤ many xs → marked xs ≡ xs
@@ -45,7 +38,7 @@ pub many_with : (x : Item) (xs : List Item) → AreAscending xs → find (is_at 
     → many (with_item x xs) ≡ many xs + cond x.marked 1 0
 many_with x xs rise absent =
     let parts = absent_parts numbers_ordered (λ y. y.key) x.key xs (λ i j d less lt. grind (arith, nat_tests, rise i j d)) absent in
-    grind (arith, ap many parts, many-append, many-cons x (filter (high (λ y. y.key) x.key) xs))
+    grind (arith, ap many parts, count-append, many-cons x (filter (high (λ y. y.key) x.key) xs))
 
 -- what stands at a place stands first from there on
 slice_get-drop : (at : ℕ) (xs : List Item) → slice_get xs at ≡ slice_get (drop at xs) 0
@@ -93,7 +86,7 @@ from_place {key} {xs} {at} place =
 -- and so many marked ones come before the key as are marked in front
 pub up_to_cut : {key : ℕ} {xs : List Item} {at : ℕ} → IsPlace (λ x. x.key) key xs at → up_to key xs ≡ many (take at xs)
 up_to_cut {key} {xs} {at} place =
-    omega (arith, ap (up_to key) (take-append-drop at xs), up_to-append key (take at xs) (drop at xs), before key (take at xs) (in_front place), from_on key (drop at xs) (from_there place))
+    grind (arith, ap (up_to key) (take-append-drop at xs), count-append, before key (take at xs) (in_front place), from_on key (drop at xs) (from_there place))
 
 -- the item of a key is marked where it stands
 pub mark_here : {key : ℕ} {xs : List Item} {at : ℕ} → AreAscending xs → IsHere (λ x. x.key) key xs at → (d : Item) (mark : Bool)
@@ -163,7 +156,7 @@ first_of (x ∷ xs) ys some = refl
 -- no more are marked in front than in all
 pub many_front : {P : Type 0} (f : P → List Item) (parts : List P) (at : ℕ)
     → many (front f parts at) ≤ many (flat_map f parts)
-many_front f parts at = grind (arith, ap (flat_map f) (take-append-drop at parts), flat_map-append, many-append)
+many_front f parts at = grind (arith, ap (flat_map f) (take-append-drop at parts), flat_map-append, count-append)
 
 module _ {P : Type 0} (f : P → List Item) (parts : List P) (at : ℕ) {q : P} (within : at < length parts) (is : q ≡ get_or parts at q) where
   -- all items from a part on are its own and those behind, and all are those and the ones in front
@@ -193,7 +186,7 @@ module _ {P : Type 0} (f : P → List Item) (parts : List P) (at : ℕ) {q : P} 
 module _ {P : Type 0} {f : P → List Item} {key : ℕ} {parts : List P} {at : ℕ} {q : P} (place : IsPartOf f key parts at) (is : q ≡ get_or parts at q) where
   -- a part has no more items than all, and no more of them are marked
   pub few_in_part : (length (f q) ≤ length (flat_map f parts)) × (many (f q) ≤ many (flat_map f parts))
-  few_in_part = grind (arith, cut f parts at place.within is, length-append, many-append)
+  few_in_part = grind (arith, cut f parts at place.within is, length-append, count-append)
 
   -- what is found of the key in all is found there
   pub find_in_part : find (is_at key) (flat_map f parts) ≡ find (is_at key) (f q)
@@ -201,7 +194,7 @@ module _ {P : Type 0} {f : P → List Item} {key : ℕ} {parts : List P} {at : �
 
   pub up_to_in_part : up_to key (flat_map f parts) ≡ many (front f parts at) + up_to key (f q)
   up_to_in_part =
-      omega (arith, ap (up_to key) (cut f parts at place.within is), up_to-append key (front f parts at) (f q ++ rest f parts at), up_to-append key (f q) (rest f parts at), before key _ place.ahead, behind key _ place.behind)
+      grind (arith, ap (up_to key) (cut f parts at place.within is), count-append, before key _ place.ahead, behind key _ place.behind)
 
   -- the first item that does not come before the key is in its part, or the first behind it
   pub from_in_part : find (is_from key) (flat_map f parts) ≡ option_or (find (is_from key) (f q)) (slice_get (rest f parts at) 0)

@@ -106,15 +106,9 @@ module _ (t : ℕ) (b : List ℕ) where
     apart_kept = grind (arith, count_alike, same_size)
 
     -- the totals of rows change as the group does that has one row more
-    regrouped : IsRegrouped (length (group_places t b less)) (length (group_places t b more)) (totals_of less) (totals_of more)
+    pub regrouped : IsRegrouped (length (group_places t b less)) (length (group_places t b more)) (totals_of less) (totals_of more)
     regrouped = rw (places_size less, places_size more)
         (omega (arith, apart_kept, chains_parted less rise, chains_parted more more_rise, dups_parted less, dups_parted more))
-
-    pub totals_more : {u v : Totals} → IsRegrouped (length (group_places t b less)) (length (group_places t b more)) u v → AreTotals less u → AreTotals more v
-    totals_more change are = omega (arith, regrouped)
-
-    pub totals_less : {u v : Totals} → IsRegrouped (length (group_places t b more)) (length (group_places t b less)) u v → AreTotals more u → AreTotals less v
-    totals_less change are = omega (arith, regrouped)
 
 -- a row's place is no less than how many rows stand before it
 place_most : (rows : List DupRow) → InPlaceOrder rows → (k : ℕ) (d : DupRow) → k < length rows → k ≤ (get_or rows k d).place
@@ -192,7 +186,7 @@ module _ {s : SlotsState} {next : ℕ} {groups : Groups} (h : AreChained s next 
       by_rows (filter test rows) (rows_without p s.dups) h.few rise
       (All-filter test (λ r. r.place < s.places) rows law.places_below)
       (All-filter test (λ r. r.number < next) rows law.numbers_below)
-      (totals_less d.row.tree d.row.bytes more (self_group d.row) rise law.in_place_order (grind arith) h.counted)
+      (grind (arith, regrouped d.row.tree d.row.bytes more (self_group d.row) rise law.in_place_order, h.counted, h.grouped d.row.tree d.row.bytes, grouped d.row.tree d.row.bytes))
       grouped
 
 -- where callers are told the place of a number
@@ -264,7 +258,7 @@ fresh_chained {s} {next} {groups} {new} dup ready h number within none joined co
     by_rows all (rows_new dup s.dups) h.few new_rise
     (all_with_dup (λ e. e.place < s.places) _ _ within h.lawful.places_below)
     (all_with_dup (λ e. e.number < next + 1) r rows (omega arith) (λ k d lt. omega (arith, h.lawful.numbers_below k d lt)))
-    (totals_more r.tree r.bytes more (self_group r) rise new_rise (grind arith) h.counted) grouped
+    (grind (arith, regrouped r.tree r.bytes more (self_group r) rise new_rise, h.counted, h.grouped r.tree r.bytes, grouped r.tree r.bytes)) grouped
 
 -- a choice of none at a place is one also without the dup there
 kept_by : (test : Dup → Bool) (p : ℕ) → ((d : Dup) → test d ≡ true → stands_at p d ≡ false) → (dups : List Dup) → filter test (without_place p dups) ≡ filter test dups

@@ -1,9 +1,9 @@
 -- The definitions, and the laws of the libraries and crates below, by their names, for proofs.
 pub use Rattle.ksm_order.proofs.Names.{All-append, All-cons, All-filter, All-map, AllPairs-filter, filter-append, filter_passes, IsHere, IsPlace, nat_tests}
-pub use Rattle.ksm_tree.specs.Terms.{[], All, bit_at, Bool, bytes_eq, Choice, cond, Content, count_by, Dup, DupRow, empty_from, false, filter, filter_map, find, get, get_or, GuestPage, has_item}
-pub use Rattle.ksm_tree.specs.Terms.{if◌then◌else◌, InPlaceOrder, is_at, is_none, is_some, item_count, items_of, length, List, list_all, lookup, map, Merged, MOST_FRAMES, nat_le, nat_lt, None, not}
-pub use Rattle.ksm_tree.specs.Terms.{OnErr, Option, option_copied, option_map, PageState, replicate, Row, same_page, set, Slab, Some, suc, true, with_item, without_item, ℕ, ◌%◌, ◌&&◌, ◌*◌, ◌++◌, ◌+◌}
-pub use Rattle.ksm_tree.specs.Terms.{◌/◌, ◌<◌, ◌==◌, ◌^◌, ◌||◌, ◌∷◌, ◌≡◌, ◌≢◌, ◌≤◌, ◌⊎◌}
+pub use Rattle.ksm_tree.specs.Terms.{[], All, bit_at, Bool, bytes_eq, Choice, cond, Content, count_by, Dup, DupRow, false, filter, filter_map, find, get, get_or, GuestPage, has_item, if◌then◌else◌}
+pub use Rattle.ksm_tree.specs.Terms.{InPlaceOrder, is_at, is_none, is_some, item_count, items_of, length, List, list_all, lookup, map, Merged, MOST_FRAMES, nat_le, nat_lt, None, not, OnErr, Option}
+pub use Rattle.ksm_tree.specs.Terms.{option_copied, option_map, PageState, replicate, Row, same_page, set, Slab, Some, suc, true, with_item, without_item, ℕ, ◌%◌, ◌&&◌, ◌*◌, ◌++◌, ◌+◌, ◌/◌, ◌<◌, ◌==◌}
+pub use Rattle.ksm_tree.specs.Terms.{◌^◌, ◌||◌, ◌∷◌, ◌≡◌, ◌≢◌, ◌≤◌, ◌⊎◌}
 pub use Rattle.ksm_base.proofs.Edits.{count-append, count_more, count_none, find_all, find_none, find_nothing, find_passes, none_counted}
 pub use Rattle.ksm_base.proofs.Orders.{all_with_dup, dups_parted, dups_with, filter_none, Lower, one_of_each, ordered_filter, ordered_map, pairs_head, pairs_tail}
 pub use Rattle.ksm_base.proofs.RowCounts.{each_at_page, filter_all}
@@ -24,6 +24,7 @@ pub use Rattle.ksm_tree.specs.declared.groups.Group.{Group}
 pub use Rattle.ksm_tree.specs.declared.groups.Groups.{Groups}
 pub use Rattle.ksm_tree.specs.declared.shelf.Kept.{Kept}
 pub use Rattle.slab.proofs.SlabLemmas.{Updates-with_value}
+pub use Rattle.slab.specs.Slab.{with_value}
 pub use Rattle.std.proofs.Common.{add-one, ap, arith, BTreeMap, eqb-true, get_or-set_other, get_or-set_same, inl, inr, length-append, length-set, length-take, map-id, nat_cmp, rules, shr-shr, subst}
 pub use Rattle.std.proofs.Common.{sym, w64, ◌∙◌}
 pub use Rattle.std.proofs.Math.ListN.{drop_of_length-le, get_or-map}

@@ -1,10 +1,11 @@
 -- What a change of one slot does to the dups and to the places whose slots pass a test.
 use Rattle.ksm_tree.proofs.Names.{[], absent_kept, All, ArePlaced, AreSlots, arith, Bool, change_at, change_items_of, change_slot, cond, count_by, count_by-le-length, count_in, count_more, Dup}
-use Rattle.ksm_tree.proofs.Names.{dup_at, empty_from, empty_place, eqb-true, false, filter_all, filter_none, find, find_nothing, find_passes, FindsLeast, get_or, get_or-le-sum_by, get_or-map}
-use Rattle.ksm_tree.proofs.Names.{get_or-replicate, get_or-set_other, get_or-set_same, get_or_past, GuestPage, has, has_item, HasNone, holds, is_live, is_none, is_open, is_some, is_stale, IsMarked}
-use Rattle.ksm_tree.proofs.Names.{IsSetOf, items_in, length, length-map, length-replicate, length-set, List, map, map-set, MayBeMarked, MOST_FRAMES, None, none_found, Option, option_map}
-use Rattle.ksm_tree.proofs.Names.{pages_ordered, place_of, places_open, places_where, present, refl, replicate, rows_of, set, set-get_or, ShelfState, slots_seen, SlotsState, Some, stands_at, suc}
-use Rattle.ksm_tree.proofs.Names.{sum_by-replicate, sum_by-set, true, with_new, without_item, without_place, zero, ℕ, ◌*◌, ◌+◌, ◌<◌, ◌==◌, ◌∷◌, ◌≡◌, ◌≤◌}
+use Rattle.ksm_tree.proofs.Names.{dup_at, empty_place, eqb-true, false, filter_all, filter_none, find, find_nothing, find_passes, FindsLeast, get_or, get_or-le-sum_by, get_or-map, get_or-replicate}
+use Rattle.ksm_tree.proofs.Names.{get_or-set_other, get_or-set_same, get_or_past, GuestPage, has, has_item, HasNone, holds, is_live, is_none, is_open, is_some, is_stale, IsMarked, IsSetOf, items_in}
+use Rattle.ksm_tree.proofs.Names.{length, length-map, length-replicate, length-set, List, map, map-set, MayBeMarked, MOST_FRAMES, None, none_found, Option, option_map, pages_ordered, place_of}
+use Rattle.ksm_tree.proofs.Names.{places_open, places_where, present, refl, replicate, rows_of, set, set-get_or, ShelfState, slots_seen, SlotsState, Some, stands_at, suc, sum_by-replicate, sum_by-set}
+use Rattle.ksm_tree.proofs.Names.{true, with_new, without_item, without_place, zero, ℕ, ◌*◌, ◌+◌, ◌<◌, ◌==◌, ◌∷◌, ◌≡◌, ◌≤◌}
+use Rattle.ksm_base.specs.Visit.{empty_from}
 use Rattle.ksm_tree.specs.declared.number_set.CountedSet.{CountedSet}
 use Rattle.ksm_tree.proofs.Alike.{change_none}
 
@@ -98,11 +99,6 @@ empty_first k (suc i) (s ∷ slots) placed before within here =
 pub found_stands : {p : ℕ} (dups : List Dup) {d : Dup} → dup_at p dups ≡ Some d → d.row.place ≡ p
 found_stands dups found = search (eqb-true, find_passes)
 
--- a dup found at a place stands there with other items
-stands : (p : ℕ) (dups : List Dup) (f : List GuestPage → List GuestPage) (s : Option Dup) → dup_at p dups ≡ s → ArePlaced p (option_map (change_items_of f) s ∷ [])
-stands p dups f None is = (tt, tt)
-stands p dups f (Some d) is = (found_stands dups is, tt)
-
 module _ {slots : Slots} {counts : List ℕ} {empty stale : CountedSet} (h : AreSlots slots counts empty stale) where
   before : {test : Option Dup → Bool} {places : CountedSet} {p : ℕ} → IsSetOf test slots places → p ≤ length slots → HasNone places.set 0 p → NoneBefore test slots p
   before set within none j less = grind (arith, set.each j)
@@ -133,7 +129,7 @@ module _ {slots : Slots} {counts : List ℕ} {empty stale : CountedSet} (h : Are
       → IsMarked stale stale' p (n == 0) → AreSlots (change_slot p f slots) (set counts p n) empty stale'
   slots_changed p {n} f {stale'} some is marked =
       let within : p < length slots = grind (arith, get_or_past) in
-      let at = stands p _ f _ (slot_found 0 p p slots (omega arith) h.placed) in
+      let at : ArePlaced p (option_map (change_items_of f) (get_or slots p None) ∷ []) = grind (arith, slot_found 0 p p slots, h.placed, found_stands {p = p} (present slots)) in
       slots_set p _ within (grind arith) at (grind (arith, h.empties)) (grind arith)
 
 module _ (p : ℕ) (shelf : ShelfState) {s : SlotsState} (view : slots_seen shelf ≡ s) (placed : ArePlaced 0 shelf.slots) where

@@ -1,8 +1,8 @@
 -- What a change of one key, or of what lies under it, does to the slots of a shelf.
 use Rattle.ksm_tree.proofs.Names.{[], ap, arith, change_items_of, change_slot, Dup, get, get_or, get_or-replicate, get_or-set_other, get_or-set_same, get_or_default, get_or_past, GuestPage, has_room}
 use Rattle.ksm_tree.proofs.Names.{is_some, items_in, Kept, kept_at, length, length-replicate, length-set, List, None, Option, replicate, set, set-get_or, ShelfState, Slab, slots_by, Some, sym, true}
-use Rattle.ksm_tree.proofs.Names.{Updates-with_value, ℕ, ◌<◌, ◌∙◌, ◌≡◌, ◌≢◌, ◌≤◌}
-use Rattle.slab.specs.Slab.{Updates as Fills, with_value}
+use Rattle.ksm_tree.proofs.Names.{Updates-with_value, with_value, ℕ, ◌<◌, ◌∙◌, ◌≡◌, ◌≢◌, ◌≤◌}
+use Rattle.slab.specs.Slab.{Updates as Fills}
 use Rattle.std.proofs.lemmas.List.FromFn.{fill_by_all, get_or-map-range_with_len, length-map-range_with_len}
 
 -- what a place holds by its key

@@ -1,8 +1,8 @@
 -- What a change of one group makes of the chains, and which contents are in use.
 use Rattle.ksm_tree.proofs.Names.{[], ap, AreGroups, arith, BTreeMap, bytes_eq, bytes_eq-Decides, Content, content_in, content_of, content_order, false, get, Group, Groups, has_place, if◌then◌else◌}
-use Rattle.ksm_tree.proofs.Names.{is_some, IsUnused, List, None, number_of, Numbers, Option, places_in, Slab, Some, sym, true, Updates, Updates-with_value, ℕ, ◌&&◌, ◌==◌, ◌≡◌, ◌⊎◌}
+use Rattle.ksm_tree.proofs.Names.{is_some, IsUnused, List, None, number_of, Numbers, Option, places_in, Slab, Some, sym, true, Updates, Updates-with_value, with_value, ℕ, ◌&&◌, ◌==◌, ◌≡◌, ◌⊎◌}
 use Rattle.ksm_tree.specs.Groups.{chain_in, GroupsKeepReserve, is_used_in, IsSwept, number_in, SameNumbers, under}
-use Rattle.slab.specs.Slab.{Updates as Fills, with_value}
+use Rattle.slab.specs.Slab.{Updates as Fills}
 use Rattle.ksm_tree.proofs.Numbering.{same_content, told_equal}
 use Rattle.ksm_tree.proofs.Rows.{eq_bytes}
 use Rattle.ksm_tree.specs.declared.places.Places.{Places}

@@ -79,7 +79,12 @@ impl Counts {
             self.open_at.clear();
         } else if self.each.len() <= self.open_at.list.capacity() {
             self.limit = limit;
-            open_anew(limit, self.each.as_slice(), &mut self.open_at);
+            self.open_at.clear();
+            for place in 0..self.each.len() as u32 {
+                if is_open(limit, self.each[place as usize]) {
+                    self.open_at.insert(place);
+                }
+            }
         }
     }
 
@@ -130,19 +135,4 @@ pub fn none_open(limit: u32, counts: &[u32], places: &[u32]) -> bool
         }
     }
     true
-}
-
-/// Fills `open_at` with the places that are open by a limit.
-fn open_anew(limit: u32, counts: &[u32], open_at: &mut Places)
-    requires few { length counts.now ≤ MOST_FRAMES }
-    requires room { length counts.now ≤ open_at.old.list.capacity }
-    ensures opens { open_at.new.list.items ≡ places_where (is_open_count limit) 0 counts.now }
-    ensures capacity { open_at.new.list.capacity ≡ open_at.old.list.capacity }
-{
-    open_at.clear();
-    for place in 0..counts.len() as u32 {
-        if is_open(limit, counts[place as usize]) {
-            open_at.insert(place);
-        }
-    }
 }
