@@ -33,8 +33,7 @@ behind_first cursor (p ∷ pages) page more rise is =
 pub place_splits : (pages : List GuestPage) (n : ℕ) (page : GuestPage) → AreAscending pages → slice_get pages n ≡ Some page
     → (filter (λ p. comes_before p page) pages ≡ take n pages) × (filter (λ p. not (comes_before page p)) pages ≡ take (suc n) pages)
 place_splits [] n page rise at = cc
-place_splits (p ∷ pages) zero page rise at =
-    grind (arith, filter_none, pairs_head Before p pages rise)
+place_splits (p ∷ pages) zero page rise at = grind (arith, filter_none, pairs_head Before p pages rise)
 place_splits (p ∷ pages) (suc n) page rise at =
     let first = pairs_head Before p pages rise n page (slice_get_within _ n _ at) in
     grind (arith, place_splits pages n page (pairs_tail Before p _ rise) at, get_or_from_slice_get pages n page page at, not_both)

@@ -1,7 +1,7 @@
 -- Rows that change at one page: what becomes of what holds of each row, and of how many lie on a frame.
-use Rattle.ksm_book.proofs.Names.{All, All-map, arith, change_row, count_alike, count_mapped, count_with_row, count_without_page, counts_one, eq-eqb, false, filter_passes, find_all, find_changed}
-use Rattle.ksm_book.proofs.Names.{find_none, find_passes, Frames, GuestPage, if◌then◌else◌, in_hand, InPageOrder, is_frame, lies_on, List, map, map_mapped, None, not, not-true, one_of_each_page}
-use Rattle.ksm_book.proofs.Names.{Option, Row, row_at, same_page, same_page_eq, same_page_refl, Some, true, uses, with_row, without_page, ℕ, ◌+◌, ◌≡◌, ◌≤◌}
+use Rattle.ksm_book.proofs.Names.{All, arith, change_row, count_alike, count_mapped, count_with_row, count_without_page, counts_one, eq-eqb, false, filter_passes, find_all, find_none, find_passes}
+use Rattle.ksm_book.proofs.Names.{Frames, GuestPage, if◌then◌else◌, in_hand, InPageOrder, is_frame, lies_on, List, map, None, not, not-true, one_of_each_page, Option, Row, row_at, same_page}
+use Rattle.ksm_book.proofs.Names.{same_page_eq, same_page_refl, Some, true, uses, with_row, without_page, ℕ, ◌+◌, ◌≡◌, ◌≤◌}
 
 -- frames that are equal at each page are equal
 pub same_frames : (f g : Frames) → ((page : GuestPage) → f page ≡ g page) → f ≡ g
@@ -24,12 +24,6 @@ pub row_of_page : (page : GuestPage) (rows : List Row) (row : Row) → InPageOrd
 row_of_page page rows row rise found =
     let each = find_all (λ r. same_page r.page page) (λ r. All (λ s. same_page s.page r.page ≡ true → s ≡ r) rows) rows row found (one_of_each_page rows rise) in
     grind (arith, found_page)
-
--- where P holds of each row and the row of a page changes, Q holds of each, if P gives Q there and elsewhere
-pub all_changed_row : (P Q : Row → Type 0) (page : GuestPage) (c : Row → Row) (rows : List Row) (row : Row) → InPageOrder rows → row_at page rows ≡ Some row → All P rows
-    → ((r : Row) → same_page r.page page ≡ false → P r → Q r) → (P row → Q (c row)) → All Q (change_row page c rows)
-all_changed_row P Q page c rows row rise found all others here =
-    All-map Q _ _ (grind (arith, row_of_page page rows row rise found))
 
 -- as many rows lie on a frame once they are changed, each on its page
 pub uses_mapped : (f : ℕ) (frame : Frames) (c : Row → Row) (rows : List Row) → ((r : Row) → (c r).page ≡ r.page) → uses f frame (map c rows) ≡ uses f frame rows
@@ -63,12 +57,3 @@ uses_come f o frame row rows absent =
 -- a frame on which a row lies is used
 pub uses_some : (f : ℕ) (frame : Frames) (rows : List Row) → All (λ r. frame r.page ≡ Some f → 1 ≤ uses f frame rows) rows
 uses_some f frame rows = grind (arith, counts_one, eq-eqb)
-
--- a change of a page's row, and then another, are one change where the second makes the same of both
-pub change_twice : (page : GuestPage) (c d e : Row → Row) (rows : List Row) → ((r : Row) → (c r).page ≡ r.page) → All (λ r. same_page r.page page ≡ true → d (c r) ≡ e r) rows
-    → change_row page d (change_row page c rows) ≡ change_row page e rows
-change_twice page c d e rows keeps same = grind (arith, map_mapped)
-
--- where the row of a page changes, the changed row is found at the page
-pub at_changed : (page : GuestPage) (c : Row → Row) (rows : List Row) (row : Row) → ((r : Row) → (c r).page ≡ r.page) → row_at page rows ≡ Some row → row_at page (change_row page c rows) ≡ Some (c row)
-at_changed page c rows row keeps found = find_changed _ page c keeps _ row found

@@ -1,18 +1,16 @@
 -- The visit of a page that is due, by what was found of it: it takes over from none, but where a row further on waits
 -- for it; and which pages are due then.
 use Rattle.ksm_book.proofs.Names.{ap, AreDue, arith, before_differs, best_dup, BookState, BookValue, BookView, change_row, Comes, comes_before, due_visited, Dup, each_at_page, false, Find, find_all}
-use Rattle.ksm_book.proofs.Names.{find_passes, freed, GuestPage, has_item, hidden_from, is_restless, IsAlone, IsLaid, IsSound, KeeperView, List, None, not, not_both, one_before, Option}
-use Rattle.ksm_book.proofs.Names.{own_not_merged, page_visited, PagesView, Partner, refl, restless_at, row_at, row_visited, same_page, same_page_eq, same_page_refl, same_page_sym, settled, Some}
-use Rattle.ksm_book.proofs.Names.{state_of, StaysBefore, subst, sym, takes_over, TakesOver, true, view_of, visits, VisitsPage, waits_for, waits_tells, WaitsFor, with_rows, ℕ, ◌&&◌, ◌||◌, ◌∙◌, ◌∷◌}
-use Rattle.ksm_book.proofs.Names.{◌≡◌}
-use Rattle.ksm_base.specs.declared.row.PageState.TheVariants.{Private}
-use Rattle.ksm_pages.specs.Paged.{Finds}
+use Rattle.ksm_book.proofs.Names.{find_passes, FindsRow, freed, GuestPage, has_item, hidden_from, is_restless, IsAlone, IsLaid, IsSound, KeeperView, List, None, not, not_both, one_before, Option}
+use Rattle.ksm_book.proofs.Names.{own_not_merged, OwnPage, page_visited, PagesView, Partner, refl, restless_at, row_at, row_visited, same_page, same_page_eq, same_page_refl, same_page_sym, settled}
+use Rattle.ksm_book.proofs.Names.{Some, state_of, StaysBefore, subst, sym, takes_over, TakesOver, true, view_of, visits, VisitsPage, waits_for, waits_tells, WaitsFor, with_rows, ℕ, ◌&&◌, ◌||◌, ◌∙◌}
+use Rattle.ksm_book.proofs.Names.{◌∷◌, ◌≡◌}
 use Rattle.ksm_book.proofs.DueKept.{calm_stays, calm_undue, freed_found, freed_sound, IsDueNoMore, narrowed_over, own_due, row_undue}
 use Rattle.ksm_book.proofs.RowVisits.{filled_by, finds_it, Meets, page_is, restless_own, shared_visited, there_is, waits_visited}
 use Rattle.ksm_book.proofs.Singles.{book}
 use Rattle.ksm_pages.specs.declared.pages.Find.TheVariants as finds
 use Rattle.ksm_book.proofs.ByPage.{found_page}
-use Rattle.ksm_book.proofs.Reached.{changed_comes, comes_by, comes_to}
+use Rattle.ksm_book.proofs.Folded.{changed_comes, comes_by, comes_to}
 
 -- by what was found of a page, this was done then, where the page takes over from none and is due no longer
 abbrev pub Leaves : Find → GuestPage → BookView → BookView → Type 0
@@ -43,7 +41,7 @@ module _ {p : PagesView} {k : KeeperView} {cursor : Option GuestPage} {passes : 
         → has_item page due ≡ true → AreDue v.state due → AreDue (state_of q cursor passes) due
     changed_keeps at due there was =
         rw at.so.3
-        (own_due (state_of p cursor passes) at.row.page (λ r. record r { unchanged = true; state = Private }) at.row at.sound.rows_rise
+        (own_due (state_of p cursor passes) at.row.page (λ r. record r { unchanged = true; state = OwnPage }) at.row at.sound.rows_rise
         (there_is at) (own_not_merged _ (restless_own at.row at.so.0), refl) due due (grind (arith, page_is at)) (λ g _ is. is)
         (grind (arith, at.is)))
 
@@ -62,7 +60,7 @@ module _ {p : PagesView} {k : KeeperView} {cursor : Option GuestPage} {passes : 
 
     -- that was the visit of what is due then, and the page is due no longer
     pub left_due : (f : Find) (q : PagesView) → IsSound (state_of p cursor passes) × IsLaid p k → book p k cursor passes ≡ view_of v
-        → Finds p q page f → Leaves f page (book q k cursor passes) (view_of w)
+        → FindsRow p q page f → Leaves f page (book q k cursor passes) (view_of w)
         → Comes v w (λ s. due_visited s page) × IsDueNoMore page v.state w.state
     left_due finds.Gone q lawful told is did =
         let stays : view_of w ≡ view_of v = grind arith in

@@ -2,15 +2,14 @@
 -- waits on as it is, and what is due stays so.
 use Rattle.ksm_book.proofs.Names.{All, All-cons, All-head, All-map, All-tail, all_changed, all_with_dup, ap, AreDue, arith, before_irrefl, best_dup, BookState, Bool, bytes_eq-Decides, cases_Bool}
 use Rattle.ksm_book.proofs.Names.{change_row, change_rows, comes_before, comes_later, cond_both, count_by, count_mapped, Deed, due_visited, dup_frame, dup_of_row, DupRow, each_at_page, eqb-true}
-use Rattle.ksm_book.proofs.Names.{false, find_all, find_mapped, find_none, find_nothing, find_passes, Frames, freed, get_or, GuestPage, handled, has_item, hidden_from, if◌then◌else◌, inl, InPageOrder}
-use Rattle.ksm_book.proofs.Names.{inr, is_best, is_for_zero, is_no_rival, is_no_worse, is_restless, is_stale, IsSound, IsStill, item_count, Knobs, List, list_all-from_AllPass, made_dup, map_alike}
-use Rattle.ksm_book.proofs.Names.{map_mapped, may_join, mergeable_pages, Merged, merged_into, merged_state, nat_le, nat_lt, nat_tests, new_place, None, not, not_an_item, not_both, one_before}
-use Rattle.ksm_book.proofs.Names.{one_of_each_page, Option, option_map, own_not_merged, page_visited, PageState, paired, partner, place_count, refl, restless_at, Row, row_at, row_visited, same_page}
-use Rattle.ksm_book.proofs.Names.{same_page_eq, same_page_refl, same_page_sym, settled, settled_calmer, Some, sound_changed, Stage, subst, sym, takes_over, true, up_to, visited, Waiting}
-use Rattle.ksm_book.proofs.Names.{waiting_state, waits_for, waits_on, waits_tells, with_dup, Zero, [], ℕ, ◌&&◌, ◌+◌, ◌==◌, ◌||◌, ◌∙◌, ◌∷◌, ◌≡◌}
+use Rattle.ksm_book.proofs.Names.{false, find_all, find_changed, find_mapped, find_none, find_nothing, find_passes, Frames, freed, get_or, GuestPage, handled, has_item, hidden_from, if◌then◌else◌}
+use Rattle.ksm_book.proofs.Names.{inl, InPageOrder, inr, is_best, is_for_zero, is_no_rival, is_no_worse, is_restless, is_stale, IsSound, IsStill, item_count, Knobs, List, list_all-from_AllPass}
+use Rattle.ksm_book.proofs.Names.{made_dup, map_alike, map_mapped, may_join, mergeable_pages, Merged, merged_into, merged_state, nat_le, nat_lt, nat_tests, new_place, None, not, not_an_item, not_both}
+use Rattle.ksm_book.proofs.Names.{one_before, one_of_each_page, Option, option_map, own_not_merged, OwnPage, page_visited, PageState, paired, partner, place_count, refl, restless_at, Row, row_at}
+use Rattle.ksm_book.proofs.Names.{row_visited, same_page, same_page_eq, same_page_refl, same_page_sym, settled, settled_calmer, Some, sound_changed, Stage, subst, sym, takes_over, true, up_to}
+use Rattle.ksm_book.proofs.Names.{visited, Waiting, waiting_state, waits_for, waits_on, waits_tells, with_dup, Zero, [], ℕ, ◌&&◌, ◌+◌, ◌==◌, ◌||◌, ◌∙◌, ◌∷◌, ◌≡◌}
 use Rattle.ksm_book.proofs.Folded.{becomes, by_row, Goes, mergeable_kept, page_goes, then_idle}
-use Rattle.ksm_base.specs.declared.row.PageState.TheVariants.{Private}
-use Rattle.ksm_book.proofs.ByPage.{at_changed, row_of_page}
+use Rattle.ksm_book.proofs.ByPage.{row_of_page}
 use Rattle.ksm_book.proofs.RowVisits.{restless_own}
 use Rattle.ksm_book.proofs.Singles.{change_still}
 use Rattle.ksm_book.proofs.Walked.{Rests}
@@ -142,7 +141,7 @@ module _ (b : BookState) (s : IsSound b) (r : Row) where
         → handled o covered (settled r) ≡ narrowed_after (handled o b r)
     handled_alike (Some d) best = own_alike false (Merged d.number)
     handled_alike None none =
-        grind (arith, partner_alike, paired_alike (partner b.knobs b.rows r) refl, own_alike false Zero, own_alike true Private)
+        grind (arith, partner_alike, paired_alike (partner b.knobs b.rows r) refl, own_alike false Zero, own_alike true OwnPage)
 
     -- its visit does the same then; after it its own row may wait
     visit_alike : (deed : Deed) → visited (covered, deed) (Some (settled r))
@@ -166,8 +165,7 @@ module _ (b : BookState) (s : IsSound b) (r : Row) where
     none_waits = find_nothing waits _ (All-map (λ x. waits x ≡ false) (calmed of_w) b.rows (grind (arith, one_waits b r w s found, same_page_refl)))
 
 -- the visit of a page that is none that a visit may change changes nothing
-pub calm_stays : (s : Stage) (page : GuestPage) → restless_at page s.0.rows ≡ false
-    → due_visited s page ≡ s
+pub calm_stays : (s : Stage) (page : GuestPage) → restless_at page s.0.rows ≡ false → due_visited s page ≡ s
 calm_stays s page calm = grind arith
 
 -- our visit of a page keeps the book sound, and which pages scans visit; and the visit of the definitions does the same
@@ -394,11 +392,11 @@ still_undue b deed page sound =
     (λ calm _. let same : page_visited (b, deed) page ≡ (b, deed) = grind arith in
     rw same (calm_undue b page sound.rows_rise calm))
     (λ r found restless still pages was.
-    let mark : Row → Row = λ s. record s { unchanged = true; state = Private } in
+    let mark : Row → Row = λ s. record s { unchanged = true; state = OwnPage } in
     let at = λ (rows : List Row). find_mapped settled (λ s. same_page s.page r.page) (λ s. same_page s.page r.page) rows (λ k d lt. refl) in
     let same = rw (found, restless) at still in
     rw (found, restless) (row_undue b sound r found restless pages was (λ none.
-    grind (arith, ap (row_at r.page) same.rows, at b.rows, at (change_row r.page mark b.rows), at_changed r.page mark b.rows r (λ s. refl) found))))
+    grind (arith, ap (row_at r.page) same.rows, at b.rows, at (change_row r.page mark b.rows), find_changed (λ (s : Row). s.page) r.page mark (λ s. refl) b.rows r found))))
 
 -- the visit of a page that is not due does nothing
 pub undue_rests : (b : BookState) (due : List GuestPage) → IsSound b → AreDue b due → (page : GuestPage) → has_item page due ≡ false

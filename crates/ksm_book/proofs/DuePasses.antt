@@ -1,15 +1,14 @@
 -- A pass over what is due comes to what the pass of the definitions comes to; and where it stops, rows from a page on
 -- wait no more.
-use Rattle.ksm_book.proofs.Names.{after_cursor, ahead_before, ahead_up_to, All, ap, AreAscending, AreDue, arith, BookState, BookValue, BookView, Bool, change_row, Comes, comes_before, Deed}
-use Rattle.ksm_book.proofs.Names.{due_visited, each_at_page, every_row, false, filter, filter_all, find, FindsFirst, FindsNext, fold, fold-append, get_or, get_or_from_slice_get, GuestPage, has_item}
-use Rattle.ksm_book.proofs.Names.{hidden_from, if◌then◌else◌, InPageOrder, is_next, IsAlone, IsSound, length, List, map-id, map_alike, mergeable_pages, None, not, on_its_own, one_before, Option}
-use Rattle.ksm_book.proofs.Names.{option_map, ordered_change, page_visited, pages_ahead, pages_visited, part_before, part_visited, pass_begun, refl, restless_at, Row, row_at, same_page_eq}
-use Rattle.ksm_book.proofs.Names.{same_page_sym, settled, shared_state, slice_get-get_or, slice_get_within, Some, Stage, StaysBefore, StaysStill, Stops, suc, sym, take, take-suc, take_all, true}
-use Rattle.ksm_book.proofs.Names.{up_to, view_of, with_rows, zero, [], ℕ, ◌∙◌, ◌∷◌, ◌≡◌, ◌≤◌, ◌⊎◌}
+use Rattle.ksm_book.proofs.Names.{after_cursor, ahead_before, ahead_up_to, All, ap, AreAscending, AreDue, arith, BookState, BookValue, Bool, change_row, Comes, comes_before, Deed, due_visited}
+use Rattle.ksm_book.proofs.Names.{each_at_page, every_row, false, filter, filter_all, find, FindsFirst, FindsNext, fold, fold-append, get_or, get_or_from_slice_get, GuestPage, has_item, hidden_from}
+use Rattle.ksm_book.proofs.Names.{if◌then◌else◌, InPageOrder, is_next, IsAlone, IsSound, length, List, map-id, map_alike, mergeable_pages, None, not, on_its_own, one_before, Option, option_map}
+use Rattle.ksm_book.proofs.Names.{ordered_change, page_visited, pages_ahead, pages_visited, part_before, part_visited, pass_begun, refl, restless_at, Row, row_at, same_page_eq, same_page_sym, settled}
+use Rattle.ksm_book.proofs.Names.{shared_state, slice_get-get_or, slice_get_within, Some, Stage, StaysBefore, StaysStill, Stops, subst, suc, sym, take, take-suc, take_all, true, up_to, view_of, zero}
+use Rattle.ksm_book.proofs.Names.{[], ℕ, ◌∙◌, ◌∷◌, ◌≡◌, ◌≤◌, ◌⊎◌}
 use Rattle.ksm_book.proofs.DueKept.{at_own_page, calm_stays, narrowed, narrowed_alike, one_due, still_undue, undue_rests}
-use Rattle.ksm_book.proofs.Along.{along, along_end, along_next, has_filter, IsAlong, passed, place_of, place_splits}
-use Rattle.ksm_book.proofs.Reached.{agrees, begins, comes_by, comes_to, first}
-use Rattle.ksm_book.proofs.Folded.{ascending_ahead, begun_ahead, every_page, Goes, restless_mergeable}
+use Rattle.ksm_book.proofs.Along.{along_next, has_filter, IsAlong, passed, place_of, place_splits}
+use Rattle.ksm_book.proofs.Folded.{agrees, ascending_ahead, begins, begun_ahead, comes_by, comes_to, every_page, first, Goes, restless_mergeable}
 use Rattle.ksm_book.proofs.Walked.{before_it, is_ahead, IsVisit, IsWalking, resting, Rests}
 use Rattle.ksm_book.proofs.ByPage.{found_page, row_of_page}
 use Rattle.ksm_book.proofs.Singles.{change_still}
@@ -135,33 +134,23 @@ alone_settled page rows rise alone =
 abbrev pub hide : GuestPage → Row → Row
 hide page r = if not (comes_before r.page page) then settled r else r
 
--- up to a cursor, no row from a page on waits
-pub record Hides (page : GuestPage) (old now : BookValue) (last : Option GuestPage) : Type 0 where
-  pub are : view_of now ≡ with_rows (view_of old) (along every_row (hide page) last old.state.rows)
+-- of the rows up to a cursor none from a page on waits, and another page is next
+module _ (page : GuestPage) {rows now : List Row} {last : Option GuestPage} (so_far : IsAlong every_row (hide page) rows now last)
+    (rise : InPageOrder rows) {at : GuestPage} (told : option_map (λ r. r.page) (find (is_next None last) now) ≡ Some at) where
+  goes : IsAlong every_row (hide page) rows (change_row at (hide page) now) (Some at)
+  goes = along_next (grind arith) so_far rise told
 
-module _ {page : GuestPage} {old now : BookValue} {last : Option GuestPage} (h : Hides page old now last) where
-  so_far : IsAlong every_row (hide page) old.state.rows now.state.rows last
-  so_far = record { are = ap (λ (v : BookView). v.state.rows) h.are }
+  -- a shared page, or one that comes before, is left as it is
+  pub hiding_over : (row : Row) → row_at at now ≡ Some row → (shared_state row.state ≡ true) ⊎ (comes_before at page ≡ true)
+      → IsAlong every_row (hide page) rows now (Some at)
+  hiding_over row found why =
+      let order : InPageOrder now = rw so_far.are (ordered_change (passed every_row last) (hide page) _ (grind arith) rise) in
+      let still : change_row at (hide page) now ≡ now =
+      grind (arith, change_still at (hide page) now, row_of_page at _ row order found, found_page) in
+      subst (λ z. IsAlong every_row (hide page) rows z (Some at)) still goes
 
-  -- where no row is left, none from the page on waits
-  pub hiding_end : find (is_next None last) now.state.rows ≡ None → view_of now ≡ record (view_of old) { state = hidden_from page old.state }
-  hiding_end ended = h.are ∙ ap (with_rows (view_of old)) (sym so_far.are ∙ along_end (grind arith) so_far ended)
-
-  module _ (rise : InPageOrder old.state.rows) (at : GuestPage)
-      (told : option_map (λ r. r.page) (find (is_next None last) now.state.rows) ≡ Some at) where
-    hiding_next : (w : BookValue) → view_of w ≡ with_rows (view_of now) (change_row at (hide page) now.state.rows)
-        → Hides page old w (Some at)
-    hiding_next w hides = grind (arith, along_next, so_far)
-
-    -- a shared page, or one that comes before, is left as it is
-    pub hiding_over : (row : Row) → row_at at now.state.rows ≡ Some row
-        → (shared_state row.state ≡ true) ⊎ (comes_before at page ≡ true) → Hides page old now (Some at)
-    hiding_over row found why =
-        let order : InPageOrder now.state.rows = rw so_far.are (ordered_change (passed every_row last) (hide page) _ (grind arith) rise) in
-        hiding_next now (grind (arith, change_still at (hide page) now.state.rows, row_of_page at _ row order found, found_page))
-
-    -- any other page waits no more
-    pub hiding_more : (w : BookValue) → comes_before at page ≡ false
-        → view_of w ≡ with_rows (view_of now) (change_row at settled now.state.rows)
-        → Hides page old w (Some at)
-    hiding_more w behind stops = hiding_next w (stops ∙ ap (with_rows (view_of now)) (map_alike _ _ _ (grind (arith, same_page_eq))))
+  -- any other page waits no more
+  pub hiding_more : comes_before at page ≡ false → IsAlong every_row (hide page) rows (change_row at settled now) (Some at)
+  hiding_more behind =
+      let same : change_row at (hide page) now ≡ change_row at settled now = map_alike _ _ now (grind (arith, same_page_eq)) in
+      subst (λ z. IsAlong every_row (hide page) rows z (Some at)) same goes

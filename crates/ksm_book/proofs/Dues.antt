@@ -1,7 +1,7 @@
 -- The pages that are due, as they are kept: which there are once one came or went, and the first behind a cursor.
 use Rattle.ksm_book.proofs.Names.{added, after_cursor, All, All-map, any-filter_same, any_found, append-nil, arith, Bool, comes_before, false, filter, find, find_all, find_none, find_passes}
-use Rattle.ksm_book.proofs.Names.{FindsFirst, found_first, GuestPage, has_item, is_some, length, List, list_any, list_any-append, list_any_at, map, Named, None, not, Option, option_map, page}
-use Rattle.ksm_book.proofs.Names.{pages_of, refl, same_page, same_page_refl, Some, true, [], ◌&&◌, ◌++◌, ◌==◌, ◌||◌, ◌∙◌, ◌∷◌, ◌≡◌}
+use Rattle.ksm_book.proofs.Names.{FindsFirst, found_first, GuestPage, has_item, is_some, length, List, list_any, list_any-append, list_any_at, map, Named, None, not, Option, option_map, pages_of}
+use Rattle.ksm_book.proofs.Names.{refl, same_page, same_page_refl, Some, true, [], ◌&&◌, ◌++◌, ◌==◌, ◌||◌, ◌∙◌, ◌∷◌, ◌≡◌}
 use Rattle.ksm_pages.specs.declared.row.Spot.{Spot}
 use Rattle.ksm_pages.specs.Ordered.{AreAscending, is_of, with_named, without_named}
 
@@ -26,13 +26,8 @@ picked u x order = grind (arith, any_named, any-filter_same)
 pub has_put : (n : Named) (order : List Named) (x : GuestPage)
     → has_item x (pages_in (with_named n order)) ≡ (same_page n.page x || has_item x (pages_in order))
 has_put n order x =
-    grind (
-      arith,
-      picked (λ p. comes_before p n.page) x order,
-      picked (λ p. comes_before n.page p) x order,
-      any_named x,
-      list_any-append,
-    )
+    let parts = λ (u : GuestPage → Bool). picked u x order in
+    grind (arith, parts (λ p. comes_before p n.page), parts (λ p. comes_before n.page p), any_named x, list_any-append)
 
 -- a page that is taken out is there no more, and the others as before
 pub has_taken : (page : GuestPage) (order : List Named) (x : GuestPage)

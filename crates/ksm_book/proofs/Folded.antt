@@ -1,13 +1,14 @@
--- The visits of a pass are a fold over its pages: what they keep, and what the parts of a scan come to.
-use Rattle.ksm_book.proofs.Names.{after_cursor, Ahead, ahead_before, AllPairs-filter, and_right, ap, append-nil, AreAscending, arith, At, begun, BookState, Bool, cases_Bool, comes_before, Deed, drop}
-use Rattle.ksm_book.proofs.Names.{drop_all, drop_more, each_at_page, EndsAt, false, filter, filter_all, filter_mapped, find_all, find_passes, get_or_from_slice_get, GuestPage, has_item, idle, inl}
-use Rattle.ksm_book.proofs.Names.{InPageOrder, inr, is_none, is_nowhere, is_restless, is_some, IsSound, IsStill, last_of, last_of_take, last_visited, length, length-take-le, List, map, map_mapped}
-use Rattle.ksm_book.proofs.Names.{mapped_some, mergeable_pages, next_row, next_visited, None, Option, option_map, page_visited, pages_ahead, pages_visited, PageState, pairs_mapped, pass_begun}
-use Rattle.ksm_book.proofs.Names.{pass_ended_at_last, passes_ended, refl, restless_at, Row, row_at, row_visited, rowwise_visits, settled, slice_get, slice_get_within, Some, sound_cursor}
-use Rattle.ksm_book.proofs.Names.{sound_row_visited, sound_settings, sound_visit_begun, Stage, subst, suc, suc-mul, sym, take, take_all, then_doing, true, true≢false, up_to, visit, visit_begun}
-use Rattle.ksm_book.proofs.Names.{visit_of, visits, visits_beside, zero, [], ℕ, ⊤, ◌*◌, ◌+◌, ◌-◌, ◌<◌, ◌||◌, ◌∙◌, ◌∷◌, ◌≡◌, ◌≤◌}
+-- The visits of a pass are a fold over its pages: what they keep, what the parts of a scan come to, and what of it was reached.
+use Rattle.ksm_book.proofs.Names.{after_cursor, Ahead, ahead_before, AllPairs-filter, and_right, ap, append-nil, AreAscending, arith, At, begun, BookState, BookValue, Bool, cases_Bool, Comes}
+use Rattle.ksm_book.proofs.Names.{comes_before, Deed, drop, drop_all, drop_more, each_at_page, EndsAt, false, filter, filter_all, filter_mapped, find_all, find_passes, get_or_from_slice_get}
+use Rattle.ksm_book.proofs.Names.{GuestPage, has_item, idle, inl, InPageOrder, inr, is_none, is_nowhere, is_restless, is_some, IsSound, IsStill, last_of, last_of_take, last_visited, length}
+use Rattle.ksm_book.proofs.Names.{length-take-le, List, map, map_mapped, mapped_some, mergeable_pages, next_row, next_visited, None, Option, option_map, page_visited, pages_ahead, pages_visited}
+use Rattle.ksm_book.proofs.Names.{PageState, pairs_mapped, pass_begun, pass_ended_at_last, passes_ended, Reached, refl, restless_at, Row, row_at, row_visited, rowwise_visits, settled, slice_get}
+use Rattle.ksm_book.proofs.Names.{slice_get_within, Some, sound_cursor, sound_row_visited, sound_settings, sound_visit_begun, Stage, subst, suc, suc-mul, sym, take, take_all, then_doing, true}
+use Rattle.ksm_book.proofs.Names.{true≢false, up_to, view_of, visit, visit_begun, visit_of, visits, visits_beside, zero, [], ℕ, ⊤, ◌*◌, ◌+◌, ◌-◌, ◌<◌, ◌||◌, ◌∙◌, ◌∷◌, ◌≡◌, ◌≤◌}
 use Rattle.ksm_book.proofs.Along.{Before, behind_first, place_of, place_splits}
 use Rattle.ksm_book.proofs.ByPage.{found_page, row_of_page}
+use Rattle.ksm_book.proofs.Made.{made_none}
 
 -- the next row is that of the first page ahead
 pub next_first : (cursor : Option GuestPage) (rows : List Row)
@@ -115,8 +116,7 @@ module _ (cursor : Option GuestPage) (passes : ℕ) where
   page_alike s page = grind arith
 
   -- visits of pages from another cursor and count of passes come to the same but for these
-  pub pages_alike : (pages : List GuestPage) (s : Stage)
-      → pages_visited (moved s) pages ≡ moved (pages_visited s pages)
+  pub pages_alike : (pages : List GuestPage) (s : Stage) → pages_visited (moved s) pages ≡ moved (pages_visited s pages)
   pages_alike [] s = refl
   pages_alike (page ∷ pages) s = rw (page_alike s _) (pages_alike pages (page_visited s page))
 
@@ -306,3 +306,42 @@ module _ (s : Stage) (sound : IsSound s.0) (page : GuestPage) (there : has_item 
   stopped_fewer {most} a some comes passes =
       let order = ascending s sound (most - 1) place page in
       grind (arith, many, stands, get_or_from_slice_get, slice_get_within (ahead s) place page stands)
+
+-- the state of a book, and a deed without a step
+abbrev pub first : BookValue → Stage
+first v = (v.state, idle (view_of v).frame)
+
+-- a book has reached its own state with no step made
+pub begins : (v : BookValue) → Reached v v (first v)
+begins v = (refl, record { made = made_none refl; frame = refl })
+
+-- the state that was reached is what the change makes of the first one
+pub comes_to : (v w : BookValue) (change : Stage → Stage) → Comes v w change → w.state ≡ (change (first v)).0
+comes_to v w change comes = (comes v (first v) (begins v)).0
+
+-- and the keeper is of the same table
+pub comes_own : (v w : BookValue) (change : Stage → Stage) → Comes v w change → w.keeper.table ≡ v.keeper.table
+comes_own v w change comes = ap (λ k. k.table) (comes v (first v) (begins v)).1.made.after
+
+-- where the state alone changed, that change was reached
+pub changed_comes : (v w : BookValue) (f : BookState → BookState) → view_of w ≡ record (view_of v) { state = f v.state }
+    → Comes v w (λ s. (f s.0, s.1))
+changed_comes v w f same from s before = grind (arith, same, before)
+
+-- two changes come to the same of whatever was reached with a book
+pub record Agree (v : BookValue) (f g : Stage → Stage) : Type 0 where
+  pub same : (from : BookValue) (s : Stage) → Reached from v s → f s ≡ g s
+
+-- so they do where they come to the same of the book's state, with whatever deed was reached
+pub agrees : (v : BookValue) {f g : Stage → Stage}
+    → ((from : BookValue) (deed : Deed) → Reached from v (v.state, deed) → f (v.state, deed) ≡ g (v.state, deed)) → Agree v f g
+agrees v {f} {g} each = record { same = λ from s before. grind (arith, each from s.1, before) }
+
+-- what comes of the one comes of the other then
+pub comes_as : {v : BookValue} (w : BookValue) {f g : Stage → Stage} → Agree v f g → Comes v w f → Comes v w g
+comes_as w agree comes from s before = subst (Reached from w) (agree.same from s before) (comes from s before)
+
+-- so what comes of the one comes of the other where they come to the same of the book's state
+pub comes_by : (v w : BookValue) (f g : Stage → Stage) → Comes v w f
+    → ((from : BookValue) (deed : Deed) → Reached from v (v.state, deed) → f (v.state, deed) ≡ g (v.state, deed)) → Comes v w g
+comes_by v w f g comes each = comes_as w (agrees v each) comes

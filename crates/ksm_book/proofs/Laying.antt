@@ -1,9 +1,8 @@
 -- What becomes of pages that lie lawfully, where the keeper makes its steps, and where a page gets another frame.
 use Rattle.ksm_book.proofs.Names.{All, arith, blank, cases_lt, change_row, cond_both, default_knobs, DupRow, false, find_all, FindsNone, first_ledger, frame_at, Frames, get_or, get_or-replicate}
 use Rattle.ksm_book.proofs.Names.{get_or_past, GuestPage, HasNewFrame, IfSome, inl, InPageOrder, IsLaid, IsServed, IsShape, KeeperView, Keeps, Knobs, leaving, Ledger, length-replicate, lies_on}
-use Rattle.ksm_book.proofs.Names.{LiesWith, List, lying, MakesSteps, map, MayLeave, None, nowhere, Option, PagesView, Placed, Provides, refl, relaid, Resettles, Row, row_at, Shape, shared_state, Some}
-use Rattle.ksm_book.proofs.Names.{spent, subst, TurnedAway, with_row, [], ℕ, ◌≡◌, ◌≤◌, ◌⊎◌}
-use Rattle.ksm_base.specs.declared.row.PageState.TheVariants.{Private as OwnPage}
+use Rattle.ksm_book.proofs.Names.{LiesWith, List, lying, MakesSteps, map, MayLeave, None, nowhere, Option, OwnPage, PagesView, Placed, Provides, refl, relaid, Resettles, Row, row_at, Shape}
+use Rattle.ksm_book.proofs.Names.{shared_state, Some, spent, subst, TurnedAway, with_row, [], ℕ, ◌≡◌, ◌≤◌, ◌⊎◌}
 use Rattle.ksm_book.proofs.ByPage.{found_page, row_of_page}
 use Rattle.ksm_book.proofs.Moves.{inserted, noted, remapped, Serves, swapped}
 use Rattle.ksm_book.proofs.Carried.{provides_does}
@@ -55,8 +54,7 @@ module _ {p : PagesView} {k : KeeperView} (h : IsLaid p k) where
 
   -- pages lie lawfully where each row changes into one that may stand in its stead on its frame
   pub laid_mapped : (c : Row → Row) → ((r : Row) → (c r).page ≡ r.page) → All (λ r. LodgesAs (c r) r) p.rows → IsLaid (record p { rows = map c p.rows }) k
-  laid_mapped c keeps lodges =
-      laid_rows k refl (omega arith) (remapped None c keeps h.placed (grind arith))
+  laid_mapped c keeps lodges = laid_rows k refl (omega arith) (remapped None c keeps h.placed (grind arith))
 
   -- pages lie lawfully where the row of a page changes into one that may stand in its stead on its frame
   pub laid_changed : (page : GuestPage) (row : Row) (c : Row → Row) → InPageOrder p.rows → row_at page p.rows ≡ Some row

@@ -12,9 +12,7 @@ pub mod Along
 pub mod Promised
 pub mod Folded
 pub mod DuePasses
-pub mod Reached
 pub mod RowVisits
-pub mod Pairing
 pub mod DueFound
 pub mod Walked
 pub mod Carried

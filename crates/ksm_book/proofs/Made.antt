@@ -1,12 +1,11 @@
 -- Steps of the keeper that were made, one after the other; what they make of a placement, of the lives spent and of the sets of
 -- free and dying frames; and frames that are found, filled and mounted.
 use Rattle.ksm_book.proofs.Names.{Add, added, All, Allocates, along, ap, append-nil, append_assoc, AreSets, arith, blank, Bool, cases_eq, cases_lt, cond, count_in, did, drop, DupRow, Dying}
-use Rattle.ksm_book.proofs.Names.{dying_from, dying_kind, dying_on, false, filter_passes, Finds, FindsNone, frame_at, Frames, frames_of, Free, free_kind, Freeze, get_or, get_or-set_other}
-use Rattle.ksm_book.proofs.Names.{get_or-set_same, get_or_past, given_by, Gives, HasNewFrame, holding, inl, inr, IsLawful, KeeperStep, KeeperView, Keeps, Kind, Ledger, ledger_after, length}
-use Rattle.ksm_book.proofs.Names.{length-set, length-take-le, List, loads, Log, MakesSteps, map, map-append, Marks, MayLeave, mounting, named_anew, needed_after, None, NoneOf, Note, once_mounted}
-use Rattle.ksm_book.proofs.Names.{Open, opened, Option, PAGE_WORDS, Placed, puts, Raise, raised, Reap, reaped, refl, replayed, replicate, Row, set, set-get_or, set-set, set_past, Shape, Some, spent}
-use Rattle.ksm_book.proofs.Names.{spent_on, Stable, stepped, steps_of, Sub, suc, sum_by-set, take, take_more, true, with_frame, with_more, zero, [], ℕ, ◌*◌, ◌++◌, ◌+◌, ◌-◌, ◌<◌, ◌∙◌, ◌∷◌, ◌≡◌, ◌≢◌}
-use Rattle.ksm_book.proofs.Names.{◌≤◌, ◌⊎◌}
+use Rattle.ksm_book.proofs.Names.{dying_from, dying_kind, dying_on, false, filter_passes, Finds, FindsNone, frame_at, Frames, frames_of, Free, free_kind, get_or, get_or-set_other, get_or-set_same}
+use Rattle.ksm_book.proofs.Names.{get_or_past, given_by, Gives, HasNewFrame, holding, IsLawful, IsSetOf, KeeperStep, KeeperView, Keeps, Kind, Ledger, ledger_after, length, length-set, length-take-le}
+use Rattle.ksm_book.proofs.Names.{List, loads, Log, MakesSteps, map, map-append, Marks, mounting, named_anew, needed_after, None, NoneOf, Note, once_mounted, Open, opened, Option, PAGE_WORDS, Placed}
+use Rattle.ksm_book.proofs.Names.{puts, Raise, raised, Reap, reaped, refl, replayed, replicate, Row, set, set-get_or, set-set, set_past, Shape, Some, spent, spent_on, stepped, steps_of, suc}
+use Rattle.ksm_book.proofs.Names.{sum_by-set, take, take_more, true, with_frame, with_more, zero, [], ℕ, ◌*◌, ◌++◌, ◌+◌, ◌-◌, ◌<◌, ◌∙◌, ◌∷◌, ◌≡◌, ◌≢◌, ◌≤◌}
 use Rattle.ksm_book.proofs.Moves.{noted}
 
 -- a log is replayed part by part
@@ -36,12 +35,8 @@ pub along_one : (step : ℕ → ℕ → KeeperStep × ℕ) (v w w' : KeeperView)
     → w' ≡ stepped w (step i (get_or ws i 0) ∷ []) → w' ≡ stepped v (along step 0 (take (i + 1) ws))
 along_one step v w w' i ws lt so_far is =
     let place : 0 + length (take i ws) ≡ i = omega (arith, length-take-le i ws (omega arith)) in
-    grind (
-      arith,
-      take_more ws i 0 lt,
-      stepped_then v (along step 0 (take i ws)) (step i (get_or ws i 0) ∷ []),
-      along_push step 0 (get_or ws i 0) (take i ws),
-    )
+    let made = stepped_then v (along step 0 (take i ws)) (step i (get_or ws i 0) ∷ []) in
+    grind (arith, take_more ws i 0 lt, made, along_push step 0 (get_or ws i 0) (take i ws))
 
 -- one word more of a list is written over another
 pub word_written : (ws cs : List ℕ) (i : ℕ) → length cs ≡ length ws → i < length ws → set (take i ws ++ drop i cs) i (get_or ws i 0) ≡ take (i + 1) ws ++ drop (i + 1) cs
@@ -250,41 +245,18 @@ other_if made k f g note differs = grind (arith, get_or-set_other)
 -- a note that was put at a frame is there, if there is such a frame, and the others are as they were
 pub ruleset put_there = (cases_lt, get_or-set_same, get_or-set_other, get_or_past, length-set)
 
--- what is known of a frame
-abbrev note : KeeperView → ℕ → Note
-note v frame = frame_at v.ledger frame
+-- where no other frame changed, a set that was marked at a frame by its kind is right again
+set_marked : (asked : Kind → Bool) {v w : KeeperView} (frame : ℕ) {words words' : List ℕ} → w.table ≡ v.table
+    → ((f : ℕ) → f ≢ frame → frame_at w.ledger f ≡ frame_at v.ledger f) → IsSetOf asked v words
+    → Marks words words' frame (asked (frame_at w.ledger frame).kind) → IsSetOf asked w words'
+set_marked asked frame table others is marks = grind arith
 
--- a set was marked at a frame by its kind, or it stays and the kind is among those asked for exactly if it was
-abbrev Tracks : (Kind → Bool) → KeeperView → KeeperView → ℕ → List ℕ → List ℕ → Type 0
-Tracks asked v w frame words words' = Marks words words' frame (asked (note w frame).kind)
-    ⊎ ((words' ≡ words) × (asked (note w frame).kind ≡ asked (note v frame).kind))
-
--- where no other frame changed, a set that was marked so, or stays so, is right again
-module _ {v w : KeeperView} (frame : ℕ) (table : w.table ≡ v.table)
-    (others : (f : ℕ) → f ≢ frame → note w f ≡ note v f) where
-  both : {free dying free' dying' : List ℕ} → AreSets v free dying → Tracks free_kind v w frame free free'
-      → Tracks dying_kind v w frame dying dying' → AreSets w free' dying'
-  both are f d = grind arith
-
--- both sets after a step on a frame
-module _ {v w : KeeperView} (found frame : ℕ) {free dying : List ℕ} (are : AreSets v free dying) where
-  -- a frame that was reaped, with no reference left, and went from the dying ones: both sets are right
-  pub sets_reaped : w ≡ did v (Reap frame) found → count_in found ≡ 0 → {free' dying' : List ℕ}
-      → Marks dying dying' frame false → Marks free free' frame (free_kind (note w frame).kind) → AreSets w free' dying'
-  sets_reaped is none d f =
-      let over : dying_kind (note w frame).kind ≡ false = grind (arith, put_there) in
-      both frame (rw is) (λ g ne. grind (arith, other_if)) are (inl f) (inl (rw over d))
-
-  -- a shown frame that was frozen, and put among the dying ones: both sets are right
-  pub sets_frozen : w ≡ did v (Freeze frame) found → (note v frame).kind ≡ Stable → count_in found ≡ (note v frame).base
-      → {dying' : List ℕ} → Marks dying dying' frame true → AreSets w free dying'
-  sets_frozen is shown all marks =
-      let dies : (note w frame).kind ≡ Dying = grind (arith, put_there) in
-      both frame (rw is) (λ g ne. grind (arith, other_if)) are (inr (refl, grind arith)) (inl (grind arith))
-
-  -- a frame in use that has lost its last reference, and was put among the dying ones: both sets are right
-  pub sets_taken : w ≡ did v (Sub frame) found → MayLeave v frame → (note w frame).base ≡ 0 → {dying' : List ℕ} → Marks dying dying' frame true
-      → AreSets w free dying'
-  sets_taken is may none marks =
-      let dies : (note w frame).kind ≡ Dying = grind (arith, put_there) in
-      both frame (rw is) (λ g ne. grind (arith, get_or-set_other)) are (inr (refl, grind arith)) (inl (grind arith))
+-- a frame that was reaped, with no reference left, and went from the dying ones: the sets of free and dying frames are right
+pub sets_reaped : {v w : KeeperView} (found frame : ℕ) {free dying : List ℕ} → AreSets v free dying → w ≡ did v (Reap frame) found
+    → count_in found ≡ 0 → {free' dying' : List ℕ} → Marks dying dying' frame false → Marks free free' frame (free_kind (frame_at w.ledger frame).kind) → AreSets w free' dying'
+sets_reaped {w = w} found frame are is none d f =
+    let over : dying_kind (frame_at w.ledger frame).kind ≡ false = grind (arith, put_there) in
+    record {
+      free = set_marked free_kind frame (rw is) (λ g ne. grind (arith, other_if)) are.free f;
+      dying = set_marked dying_kind frame (rw is) (λ g ne. grind (arith, other_if)) are.dying (rw over d);
+    }

@@ -1,11 +1,11 @@
 -- What each step of a command does to a placement, where the note of one frame changes among others.
-use Rattle.ksm_book.proofs.Names.{Agrees, All, All-contains_itself, All-filter, All-map, All-weaker, all_with_dup, all_with_row, ap, arith, Bool, cases_eq, cases_lt, change_row, Contains}
+use Rattle.ksm_book.proofs.Names.{Agrees, All, All-contains_itself, All-filter, All-map, All-weaker, all_changed, all_with_dup, all_with_row, ap, arith, Bool, cases_eq, cases_lt, change_row, Contains}
 use Rattle.ksm_book.proofs.Names.{Contains-append_left, Contains-append_right, Contains-get_or, contains_filter, count_alike, DupFits, DupRow, elsewhere, eq-eqb, false, filter, filter_passes, find}
-use Rattle.ksm_book.proofs.Names.{find_all, find_none, FitsBase, frame_at, Frames, frames_of, GenerationFits, get_or, get_or-set_other, get_or-set_same, GuestPage, holding, in_hand, inl, InPageOrder}
-use Rattle.ksm_book.proofs.Names.{inr, is_frame, IsInLife, IsServed, item_count, Ledger, length, length-set, lies_on, List, lt-ltb, map, Merged, merged_into, named_anew, named_at, nat_lt, None, not}
-use Rattle.ksm_book.proofs.Names.{Note, Option, ordered_change, PAGE_WORDS, place_frame, Placed, Private, refl, Row, row_at, RowFits, same_page, same_page_refl, set, Shape, shared_state, shown, Some}
-use Rattle.ksm_book.proofs.Names.{Stable, stored, suc, sym, uses, with_dup, with_frame, with_row, without_page, Zero, ℕ, ◌+◌, ◌/◌, ◌<◌, ◌∙◌, ◌∷◌, ◌≡◌, ◌≢◌, ◌≤◌, ◌⊎◌}
-use Rattle.ksm_book.proofs.ByPage.{all_changed_row, at_changed, change_twice, found_page, lies_again, lies_still, row_of_page, uses_changed, uses_come, uses_gone, uses_mapped, uses_some}
+use Rattle.ksm_book.proofs.Names.{find_all, find_changed, find_none, FitsBase, frame_at, Frames, frames_of, GenerationFits, get_or, get_or-set_other, get_or-set_same, GuestPage, holding, in_hand, inl}
+use Rattle.ksm_book.proofs.Names.{InPageOrder, inr, is_frame, IsInLife, IsServed, item_count, Ledger, length, length-set, lies_on, List, lt-ltb, map, map_mapped, Merged, merged_into, named_anew}
+use Rattle.ksm_book.proofs.Names.{named_at, nat_lt, None, not, Note, Option, ordered_change, PAGE_WORDS, place_frame, Placed, Private, refl, Row, row_at, RowFits, same_page, same_page_refl, set}
+use Rattle.ksm_book.proofs.Names.{Shape, shared_state, shown, Some, Stable, stored, suc, sym, uses, with_dup, with_frame, with_row, without_page, Zero, ℕ, ◌+◌, ◌/◌, ◌<◌, ◌∙◌, ◌∷◌, ◌≡◌, ◌≢◌, ◌≤◌, ◌⊎◌}
+use Rattle.ksm_book.proofs.ByPage.{found_page, lies_again, lies_still, row_of_page, uses_changed, uses_come, uses_gone, uses_mapped, uses_some}
 
 -- kind, content and generation are the same
 abbrev Stays : Note → Note → Type 0
@@ -110,8 +110,8 @@ module _ {sh : Shape} {across : ℕ} {k : Ledger} {rows : List Row} {frame : Fra
   swapped o {page} c row rise found keeps p new =
       let at = ap (λ q. same_page q page) (keeps row ∙ found_page _ rows row found) ∙ same_page_refl page in
       rehoused p
-      (all_changed_row (At sh k dups frame) (At sh k dups (lies_on page o frame)) _ c _ row rise found p.each_row
-      (grind arith) (grind arith))
+      (all_changed (At sh k dups (lies_on page o frame)) (λ r. same_page r.page page) c rows
+      (grind (arith, row_of_page page rows row rise found)) (grind (arith, p.each_row)))
       (λ f. p.bases f ∙ sym (grind (arith, uses_changed)))
 
   -- rows and dups lie lawfully where each row changes, keeps its page, and is served by its frame still
@@ -220,10 +220,10 @@ module _ {sh : Shape} {across : ℕ} {k : Ledger} {rows : List Row} {frame : Fra
     back {k'} {dups'} c keeps q served =
         let d : Row → Row = λ r. record (c row) { page = r.page } in
         let again : change_row page d bare ≡ change_row page c rows =
-        change_twice _ _ d c _ (λ r. refl) (grind (arith, row_of_page)) in
+        map_mapped _ _ _ rows (grind (arith, row_of_page page rows row rise found)) in
         let there : lies_on page (Some g) off ≡ frame = lies_again page None (Some g) frame ∙ lies_still _ _ _ lies in
         let s = swapped (Some g) {page = page} d _ (ordered_change _ _ _ (λ r. refl) rise)
-        (at_changed page bared rows row (λ r. refl) found) (λ r. refl) q (grind arith) in
+        (find_changed (λ (r : Row). r.page) page bared (λ r. refl) rows row found) (λ r. refl) q (grind arith) in
         grind (arith, same_page_refl)
 
     -- rows and dups lie lawfully where a row that is not shared gets new bytes, and its frame holds them

@@ -18,32 +18,31 @@ pub use Rattle.ksm_base.proofs.Visits.{rowwise_visits}
 pub use Rattle.ksm_base.specs.declared.knobs.Knobs.{Knobs}
 pub use Rattle.ksm_base.specs.declared.reply.Reply.{Reply}
 pub use Rattle.ksm_book.specs.Carried.{CarriedOut, IsCarried, scanning, StoresTo, TakesSteps, UnmergesTo}
-pub use Rattle.ksm_book.specs.Commands.{Allocates, AllocatesOn, along, Deed, dup_frame, dying_from, dying_kind, dying_on, Finds, FindsHeld, FindsNone, frame_number, free_kind, given_by, Gives, idle}
-pub use Rattle.ksm_book.specs.Commands.{instead, is_frame, IsIdle, IsLowestFree, leaving, loads, Log, MakesSteps, Mapped, mounting, Moves, needed_after, NoneOf, Performs, Provides, pruning, puts}
-pub use Rattle.ksm_book.specs.Commands.{replayed, Resettles, ResettlesEach, rewriting, row_visiting, stepped, steps_of, then_doing, withdrawing}
+pub use Rattle.ksm_book.specs.Steps.{Allocates, AllocatesOn, along, dying_from, dying_kind, dying_on, Finds, FindsNone, free_kind, given_by, Gives, IsLowestFree, loads, Log, MakesSteps, needed_after}
+pub use Rattle.ksm_book.specs.Steps.{NoneOf, Provides, puts, replayed, stepped, steps_of}
+pub use Rattle.ksm_book.specs.Commands.{Deed, dup_frame, FindsHeld, frame_number, idle, instead, is_frame, IsIdle, leaving, Mapped, mounting, Moves, Performs, pruning, Resettles, ResettlesEach}
+pub use Rattle.ksm_book.specs.Commands.{rewriting, row_visiting, then_doing, withdrawing}
 pub use Rattle.ksm_book.specs.Due.{AreDue, comes_later, due_visited, DueView, FindsFirst, freed, hidden_from, names, pages_of, part_before, part_visited, StaysBefore, takes_over, TakesOver, TellsDue}
 pub use Rattle.ksm_book.specs.Due.{waits_on, with_rows}
-pub use Rattle.ksm_book.specs.Folded.{begun, IsStill, next_visited, page_visited, pages_ahead, pages_visited, restless_at, restless_row, row_done, Stage, visited, visits_beside}
+pub use Rattle.ksm_book.specs.Folded.{begun, IsStill, next_visited, page_visited, pages_ahead, pages_visited, restless_at, Stage, visited, visits_beside}
 pub use Rattle.ksm_book.specs.Laid.{HasLeft, HasRemounted, is_shared_of, IsLaid, left_by, LiesWith, lying, MayMove, MayNotLeave, state_of, TurnedAway, Unshares}
-pub use Rattle.ksm_book.specs.Placement.{Agrees, AreSets, DupFits, FitsBase, HasLost, HasMoved, HasNewFrame, holding, in_hand, IsInLife, IsLawful, IsServed, Keeps, MayLeave, MayMount, node_of}
-pub use Rattle.ksm_book.specs.Placement.{NoneLeft, once_mounted, place_frame, Placed, RowFits, spent, spent_on, uses, with_more}
+pub use Rattle.ksm_book.specs.Placement.{Agrees, AreSets, DupFits, FitsBase, HasLost, HasMoved, HasNewFrame, holding, in_hand, IsInLife, IsLawful, IsServed, IsSetOf, Keeps, MayLeave, MayMount}
+pub use Rattle.ksm_book.specs.Placement.{node_of, NoneLeft, once_mounted, place_frame, Placed, RowFits, spent, spent_on, uses, with_more}
 pub use Rattle.ksm_book.specs.Promised.{dup_frames, FindsPlace, is_in_use, IsOutlived, LieOn, own_frames, StandsOn}
 pub use Rattle.ksm_book.specs.Scanned.{ahead_before, ahead_up_to, Comes, FindsStill, FindsUpTo, HasVisited, is_nowhere, is_quiet, last_visited, passes_ended, Reached, StaysStill, Stops, up_to}
 pub use Rattle.ksm_book.specs.Scanned.{VisitsPage}
 pub use Rattle.ksm_book.specs.Terms.{Add, added, after_cursor, Ahead, Answer, are_paired, AreAscending, At, at_home_on, best_dup, blank, BookState, change_row, change_rows, comes_before, Command}
-pub use Rattle.ksm_book.specs.Terms.{count_in, default_knobs, Did, did, Done, Drop, dup_of_row, DupRow, Dying, effect, elsewhere, empty_from, End, EndsAt, every_row, Fault, filled, Find, FindsAt}
-pub use Rattle.ksm_book.specs.Terms.{FindsNext, first_ledger, frame_at, Frames, frames_of, Free, Freeze, fresh_row, frozen, GenerationFits, GuestPage, handled, has, has_item, has_items, HasRoom}
-pub use Rattle.ksm_book.specs.Terms.{HasRow, InPageOrder, InPlaceOrder, InUse, is_before, is_best, is_for_zero, is_next, is_no_rival, is_no_worse, is_of, is_restless, is_stale, IsAlone}
-pub use Rattle.ksm_book.specs.Terms.{IsAnswerOrMemory, IsDupOf, IsHeld, IsLoose, IsReadable, IsScanned, IsShape, IsSound, IsVacant, IsWritable, item_count, items_on, ItemsLieOn, KeeperStep}
-pub use Rattle.ksm_book.specs.Terms.{KeeperView, Kind, Ledger, ledger_after, let_go, lies_on, live_dup_at, made_dup, Marks, May, may_join, MayPair, Memory, Mergeable, mergeable_count, mergeable_pages}
-pub use Rattle.ksm_book.specs.Terms.{Merged, merged_into, merged_state, MOST_FRAMES, MOST_LIVES, MOST_REFERENCES, moved, MoveDup, MovePage, named_anew, named_at, new_place, next_row, NoFrame, Note}
-pub use Rattle.ksm_book.specs.Terms.{nowhere, of_guest, on_its_own, Open, opened, page_beside, PAGE_WORDS, PageState, PagesView, paired, partner, pass_begun, pass_ended, pass_ended_at_last}
-pub use Rattle.ksm_book.specs.Terms.{place_count, Private, Prune, Pruned, Publish, Raise, raised, Reap, reaped, Register, relaid, Row, row_at, row_visited, same_page, Scan, scan_stopped, Scanned}
-pub use Rattle.ksm_book.specs.Terms.{seen, SetAcross, SetLimit, SetPagesToScan, SetRun, settled, Shape, shared_state, shown, Stable, Store, stored, Sub, tree_of, UnknownPage, Unmerge, Unmerged}
-pub use Rattle.ksm_book.specs.Terms.{unshare_stopped, unshared, visit, visit_begun, visit_of, visits, Waiting, waiting_state, waits_for, with_dup, with_frame, with_none_waiting, with_row, Withdraw}
-pub use Rattle.ksm_book.specs.Terms.{without_page, Zero, zero_state}
+pub use Rattle.ksm_book.specs.Terms.{count_in, default_knobs, Did, did, Done, Drop, dup_of_row, DupRow, Dying, effect, elsewhere, empty_from, EndsAt, every_row, Fault, filled, Find, FindsRow, FindsAt}
+pub use Rattle.ksm_book.specs.Terms.{FindsNext, first_ledger, frame_at, Frames, frames_of, Free, Freeze, fresh_row, frozen, GenerationFits, GuestPage, handled, has_item, has_items, HasRoom, HasRow}
+pub use Rattle.ksm_book.specs.Terms.{InPageOrder, InPlaceOrder, InUse, is_before, is_best, is_for_zero, is_next, is_no_rival, is_no_worse, is_of, is_restless, is_stale, IsAlone, IsAnswerOrMemory}
+pub use Rattle.ksm_book.specs.Terms.{IsDupOf, IsHeld, IsLoose, IsReadable, IsScanned, IsShape, IsSound, IsVacant, IsWritable, item_count, items_on, ItemsLieOn, KeeperStep, KeeperView, Kind, Ledger}
+pub use Rattle.ksm_book.specs.Terms.{ledger_after, let_go, lies_on, live_dup_at, made_dup, Marks, May, may_join, MayPair, Memory, Mergeable, mergeable_count, mergeable_pages, Merged, merged_into}
+pub use Rattle.ksm_book.specs.Terms.{merged_state, MOST_FRAMES, MOST_LIVES, MOST_REFERENCES, MoveDup, MovePage, named_anew, named_at, new_place, next_row, NoFrame, Note, nowhere, of_guest, on_its_own}
+pub use Rattle.ksm_book.specs.Terms.{Open, opened, OwnPage, page_beside, PAGE_WORDS, PageState, PagesView, paired, partner, pass_begun, pass_ended, pass_ended_at_last, place_count, Private, Prune}
+pub use Rattle.ksm_book.specs.Terms.{Pruned, Publish, Raise, raised, Reap, reaped, Register, relaid, Row, row_at, row_changed, row_visited, same_page, Scan, scan_stopped, Scanned, seen, SetAcross}
+pub use Rattle.ksm_book.specs.Terms.{SetLimit, SetPagesToScan, SetRun, settled, Shape, shared_state, shown, Stable, Store, stored, Sub, tree_of, UnknownPage, Unmerge, Unmerged, unshare_stopped}
+pub use Rattle.ksm_book.specs.Terms.{unshared, visit, visit_begun, visit_of, visits, Waiting, waiting_state, waits_for, with_dup, with_frame, with_row, Withdraw, without_page, Zero}
 pub use Rattle.ksm_book.specs.Whole.{BookValue, BookView, HasShown, listed, mapped, nodes_got, view_of}
-pub use Rattle.ksm_book.specs.Worked.{apart, page}
 pub use Rattle.ksm_order.proofs.Ordered.{absent_parts, any_found, none_found, with_rises, without_between, without_rises}
 pub use Rattle.ksm_pages.proofs.Found.{find_changed, find_changed_other, find_put, first_found as found_first}
 pub use Rattle.ksm_pages.proofs.Joined.{own_not_merged}
@@ -61,11 +60,11 @@ pub use Rattle.std.proofs.Common.{ap, append-nil, append_assoc, arith, Bool, con
 pub use Rattle.std.proofs.Common.{Ok, Option, refl, replicate, rules, set, Some, subst, suc, suc-mul, sym, take, true, true≢false, zero, [], ℕ, ◌*◌, ◌++◌, ◌+◌, ◌-◌, ◌/◌, ◌<◌, ◌^◌, ◌∙◌, ◌∷◌, ◌≡◌, ◌≢◌}
 pub use Rattle.std.proofs.Common.{◌≤◌, ◌⊎◌}
 pub use Rattle.std.proofs.Math.Dec.{eqb}
-pub use Rattle.std.proofs.Math.Seq.{take-append_seam, take-suc}
+pub use Rattle.std.proofs.Math.Seq.{get_or-append_seam, take-append_seam, take-suc}
 pub use Rattle.std.proofs.lemmas.Bool.{and_parts, and_right, cases_Bool, cases_eq, cases_lt, cond_both, eqb-true, lt-ltb, ne_eqb, not-true}
 pub use Rattle.std.proofs.lemmas.Bool.Decides.{nat_tests}
 pub use Rattle.std.proofs.lemmas.List.{drop_all, drop_more, get_or-map, get_or-replicate, get_or_default, get_or_past, length-append, length-map, length-replicate, length-take-le, map-append, map-id}
-pub use Rattle.std.proofs.lemmas.List.{replicate-append-replicate, set-get_or, set-set, set_past, take-append-drop, take_all, take_more}
+pub use Rattle.std.proofs.lemmas.List.{replicate-append-replicate, set-get_or, set-set, set_past, take_all, take_more}
 pub use Rattle.std.proofs.lemmas.List.Elements.{All-append, All-cons, All-contains, All-contains_itself, All-filter, All-head, All-map, All-tail, All-weaker, Contains-append_left}
 pub use Rattle.std.proofs.lemmas.List.Elements.{Contains-append_right, Contains-get_or, Contains-push, filter_passes}
 pub use Rattle.std.proofs.lemmas.List.Folds.{list_any-append, list_any_at, list_any_none, map_fixed}

@@ -1,17 +1,21 @@
 -- The visit of a row, by what is found: what becomes of the book, and what is done to the frames.
-use Rattle.ksm_book.proofs.Names.{Add, All, All-contains_itself, arith, Best, best_dup, best_dup_has_room, BookValue, BookView, change_row, Contains, Did, Dup, DupRow, each_at_page, false, Find}
-use Rattle.ksm_book.proofs.Names.{find_all, find_passes, FindsAt, FindsStill, Frames, GuestPage, HasRoom, HasVisited, idle, IfSome, is_best, is_restless, IsJoined, IsLaid, IsSound}
-use Rattle.ksm_book.proofs.Names.{item_count, KeeperStep, KeeperView, leaving, lies_on, LiesWith, lying, MakesSteps, map, map_mapped, MatchOption, May, MayLeave, Merged, merged_into, merged_state}
-use Rattle.ksm_book.proofs.Names.{MOST_REFERENCES, None, Option, page_visited, PagesView, Performs, refl, Row, row_at, row_visited, row_visiting, settled, shared_state, Some, sound_row_visited}
-use Rattle.ksm_book.proofs.Names.{state_of, Sub, subst, sym, true, view_of, VisitsPage, Waiting, Zero, ℕ, [], ◌-◌, ◌∷◌, ◌≡◌, ◌≤◌}
+use Rattle.ksm_book.proofs.Names.{Add, All, All-contains_itself, are_paired, arith, Best, best_dup, best_dup_has_room, BookState, BookValue, BookView, Bool, change_row, Contains}
+use Rattle.ksm_book.proofs.Names.{Contains-append_right, count_none, Did, did, Dup, dup_of_row, DupRow, each_at_page, eq-eqb, false, Find, find_all, find_changed, find_changed_other, find_passes}
+use Rattle.ksm_book.proofs.Names.{FindsAt, FindsRow, FindsStill, Frames, frames_of, GuestPage, HasRoom, HasRow, HasVisited, idle, IfSome, if◌then◌else◌, InPageOrder, is_best, is_restless, IsFree}
+use Rattle.ksm_book.proofs.Names.{IsJoined, IsLaid, IsSound, IsVacant, item_count, ItemsLieOn, joined_count, KeeperStep, KeeperView, leaving, lies_on, LiesWith, list_any, lying, MakesSteps, map}
+use Rattle.ksm_book.proofs.Names.{map_mapped, MatchOption, May, MayLeave, MayPair, Merged, merged_into, merged_state, MOST_REFERENCES, new_place, new_place_free, next_is_new, None, Option}
+use Rattle.ksm_book.proofs.Names.{ordered_change, OwnPage, page_visited, PagesView, Partner, partner, Performs, place_count, Publish, refl, relaid, Row, row_at, row_changed, row_visited, row_visiting}
+use Rattle.ksm_book.proofs.Names.{settled, shared_state, Some, sound_row_visited, state_of, Sub, subst, sym, true, view_of, VisitsPage, Waiting, waits_for, waits_tells, WaitsFor, with_dup, Withdraw}
+use Rattle.ksm_book.proofs.Names.{withdrawing, Zero, [], ℕ, ◌+◌, ◌-◌, ◌<◌, ◌==◌, ◌∙◌, ◌∷◌, ◌≡◌, ◌≤◌}
 use Rattle.ksm_book.proofs.ByPage.{found_page, row_of_page}
 use Rattle.ksm_book.proofs.Made.{made_one, made_then}
-use Rattle.ksm_book.proofs.Sharing.{laid_joined, may_join as join_may, may_part, Lives, lives}
+use Rattle.ksm_book.proofs.Sharing.{laid_found, laid_joined, Lives, lives, may_found, may_join as join_may, may_part, spent_most, vacant_loose}
+use Rattle.ksm_book.proofs.Moves.{found_in}
+use Rattle.ksm_book.proofs.Promised.{finds_place}
+use Rattle.ksm_pages.proofs.Paired.{both_changed}
 use Rattle.ksm_book.proofs.Singles.{book}
 use Rattle.ksm_pages.specs.declared.pages.Find.TheVariants as finds
-use Rattle.ksm_base.specs.declared.row.PageState.TheVariants.{Private}
 use Rattle.ksm_book.proofs.Folded.{then_idle}
-use Rattle.ksm_pages.specs.Paged.{changed as row_changed, Finds, ItemsLieOn, relaid}
 use Rattle.ksm_book.proofs.Laying.{laid_changed, laid_left, lies_changed, LodgesAs, may_leave}
 
 -- where something is told of what an option holds, it holds something, of which that is so
@@ -54,7 +58,7 @@ module _ {p : PagesView} {k : KeeperView} {cursor : Option GuestPage} {passes : 
 
   -- a row of which a visit found something is met with it
   pub finds_it : (f : Find) → (f ≡ finds.Gone → ⊥) → IsSound (state_of p cursor passes) × IsLaid p k → book p k cursor passes ≡ v
-      → (q : PagesView) {found : Find} → found ≡ f → Finds p q page found → Meets f p q k cursor passes v page
+      → (q : PagesView) {found : Find} → found ≡ f → FindsRow p q page found → Meets f p q k cursor passes v page
   finds_it f some lawful same q is told = grind arith
 
   module _ {f : Find} {q : PagesView} (at : Meets f p q k cursor passes v page) where
@@ -207,19 +211,19 @@ module _ {p : PagesView} {k : KeeperView} {cursor : Option GuestPage} {passes : 
       laid_changed at.laid _ _ c at.sound.rows_rise (there_is at) keeps lodges,
     )
 
-    pub found_lawful : (found : Find) → Finds p q page found → IsSound (state_of q cursor passes) × IsLaid q k
+    pub found_lawful : (found : Find) → FindsRow p q page found → IsSound (state_of q cursor passes) × IsLaid q k
     found_lawful finds.Waits told =
         let at = finds_it finds.Waits (λ e. cc) lawful refl q refl told in
         row_lawful at at.so.0 _ (λ r. refl) (grind arith) (waits_is p q cursor passes at.row p.frame at.so).0 at.so.5
     found_lawful finds.Changed told =
         let at = finds_it finds.Changed (λ e. cc) lawful refl q refl told in
-        row_lawful at at.so.0 (λ r. record r { unchanged = true; state = Private }) (λ r. refl) (grind arith) (grind arith) at.so.3
+        row_lawful at at.so.0 (λ r. record r { unchanged = true; state = OwnPage }) (λ r. refl) (grind arith) (grind arith) at.so.3
     found_lawful _ told = let same : q ≡ p = grind arith in rw same lawful
 
   -- the visit of a page that is to wait changes nothing but which rows wait
   pub waits_visited : (now new : BookValue) {q : PagesView} {page : GuestPage} → Meets finds.Waits p q k cursor passes (view_of now) page
       → view_of new ≡ book q k cursor passes → HasVisited now new (λ s. page_visited s page) true
-  waits_visited now new {q} at then =
+  waits_visited now new {q} at shows =
       let settles : map settled (change_row at.row.page (λ r. record r { state = Waiting }) p.rows) ≡ map settled p.rows =
       map_mapped settled _ settled p.rows
       (λ i d lt. grind (arith, row_of_page _ _ _ at.sound.rows_rise (there_is at) i d lt, restless_own at.row at.so.0)) in
@@ -228,3 +232,126 @@ module _ {p : PagesView} {k : KeeperView} {cursor : Option GuestPage} {passes : 
         still = λ _ from s before.
             grind (arith, before.0, settles, then_idle, waits_is p q cursor passes at.row s.1.frame at.so);
       }
+
+-- a visited page meets another one as its partner, and is to make a dup with it at the place for a new dup
+module _ {other : GuestPage} {p : PagesView} {k : KeeperView} {cursor : Option GuestPage} {passes : ℕ} {v : BookView} {page one : GuestPage} {place : ℕ}
+    (at : Meets (Partner other) p p k cursor passes v page) (is : one ≡ other)
+    (chosen : place ≡ new_place (place_count p.shape) p.rows p.dups) where
+  -- the partner of the visited page
+  pub met : (w : Row) × (partner p.knobs p.rows at.row ≡ Some w) × (other ≡ w.page)
+  met = filled_by _ at.so.4
+
+  abbrev w : Row
+  w = met.0
+
+  abbrev b : BookState
+  b = state_of p cursor passes
+
+  abbrev new_dup : DupRow
+  new_dup = dup_of_row p.knobs p.next place at.row
+
+  -- it waits for the visited page
+  waits : waits_for p.knobs at.row w ≡ true
+  waits = find_passes (waits_for p.knobs at.row) p.rows w met.1
+
+  tells : WaitsFor p.knobs at.row w
+  tells = grind (arith, waits_tells, waits)
+
+  -- the waiting row is found at its page
+  waits_at : row_at w.page p.rows ≡ Some w
+  waits_at = find_all _ (λ r. row_at r.page p.rows ≡ Some r) _ w met.1 (each_at_page _ at.sound.rows_rise)
+
+  alone : shared_state w.state ≡ false
+  alone = grind (arith, tells.state)
+
+  -- the place for a new dup is one of the places
+  pub room : new_place (place_count p.shape) p.rows p.dups < place_count p.shape
+  room = finds_place b _ at.sound _ at.laid.placed at.row (found_in _ _ at.found) (restless_own at.row at.so.0)
+
+  inside : place < frames_of p.shape
+  inside = rw chosen room
+
+  vacant : IsVacant place p.rows p.dups
+  vacant n d lt same = grind (arith, subst (IsFree b) (sym chosen) (new_place_free b at.sound))
+
+  fresh : All (λ r. merged_into p.next r.state ≡ false) p.rows
+  fresh = next_is_new b at.sound
+
+  -- what the place of the new dup names may be withdrawn
+  pub may_withdraw : May k (Withdraw place)
+  may_withdraw = (rw at.laid.same inside, vacant_loose _ at.laid.placed vacant)
+
+  -- so it is at the page that was told
+  pub waits_one : row_at one p.rows ≡ Some w
+  waits_one = grind (arith, waits_at)
+
+  -- the two pages may become the items of a new dup at the place
+  pub pair_may : HasRow one p.rows (λ r. HasRow page p.rows (MayPair p place r))
+  pair_may = grind (arith, waits_one, at.found, waits_at, there_is at, alone, waits, inside, vacant, spent_most at.laid, fresh, restless_own)
+
+  module _ {f : ℕ} (stands : p.frame one ≡ Some f) {k1 : KeeperView} {taken : Bool}
+      (taken_is : taken ≡ list_any (λ d. d.place == place) p.dups)
+      (cleared : MakesSteps k k1 (if taken then Withdraw place ∷ [] else [])) where
+    lies : p.frame w.page ≡ Some f
+    lies = grind (arith, met)
+
+    clears : MakesSteps k k1 (withdrawing p.dups place)
+    clears = rw (← taken_is) cleared
+
+    -- once its place is cleared, the new dup may be published there on the frame of the page that waits
+    pub may_publish : May k1 (Publish place f)
+    may_publish = may_found at.laid at.sound.rows_rise _ w f waits_at lies alone new_dup refl inside vacant k1 clears
+
+    abbrev become : Row → Row
+    become r = record r { state = Merged p.next }
+
+    abbrev first : PagesView
+    first = record p { rows = change_row w.page become p.rows; dups = with_dup new_dup p.dups; next = p.next + 1 }
+
+    module _ {k2 : KeeperView} (shown : k2 ≡ did k1 (Publish place f) 0) where
+      first_laid : IsLaid first k2
+      first_laid =
+          laid_found at.laid at.sound.rows_rise _ w f waits_at lies alone new_dup refl inside vacant become k1 k2 (λ r. refl) refl refl
+          clears shown (sym tells.bytes) (λ none. grind (arith, none, tells.tree)) at.sound.numbers fresh
+
+      first_rise : InPageOrder first.rows
+      first_rise = grind (arith, ordered_change)
+
+      row_still : row_at page first.rows ≡ Some at.row
+      row_still =
+          find_changed_other (λ (r : Row). r.page) w.page become (λ r. refl) page p.rows (grind (arith, page_is at, tells.other)) ∙ at.found
+
+      item_at : row_at w.page first.rows ≡ Some (become w)
+      item_at = find_changed (λ (r : Row). r.page) w.page become (λ r. refl) p.rows w waits_at
+
+      -- once the place names the frame of the page that waits, a reference may come to that frame
+      pub may_add_to : May k2 (Add f)
+      may_add_to =
+          let joined = joined_count _ w new_dup at.sound.rows_rise waits_at (grind (arith, tells.state)) in
+          join_may first_laid first_rise _ at.row _ row_still item_at f lies refl new_dup (grind (arith, Contains-append_right))
+          (eq-eqb p.next p.next refl) (grind (arith, count_none (λ r. merged_into p.next r.state) p.rows fresh))
+
+      -- once a reference came to the frame of the page that waits, the visited page's own frame, if it has one, may be left
+      pub may_sub_from : (k3 : KeeperView) → MakesSteps k2 k3 (Add f ∷ []) → IfSome (p.frame page) (MayLeave k3)
+      may_sub_from = may_part first_laid first_rise page at.row (become w) row_still item_at f lies refl become (λ r. refl) refl (sym tells.bytes)
+
+      module _ {lone : ℕ} (left : p.frame page ≡ Some lone) {k3 l : KeeperView} (comes : MakesSteps k2 k3 (Add f ∷ []))
+          (leaves : MakesSteps k3 l (Sub lone ∷ [])) (q : PagesView)
+          (told : HasRow one p.rows (λ r. HasRow page p.rows (λ x. q ≡ are_paired place r x p))) where
+        goes : q ≡ are_paired place w at.row p
+        goes = grind (arith, at.found, waits_one)
+
+        comes_and_leaves : MakesSteps k2 l (Add f ∷ leaving (p.frame page))
+        comes_and_leaves = rw left (made_then comes leaves)
+
+        both_lie : q ≡ record first { rows = change_row page become first.rows; frame = lies_on page (Some f) p.frame }
+        both_lie = grind (arith, goes, page_is at, both_changed w.page at.row.page become (λ r. refl) tells.other p.rows)
+
+        -- once the two pages are the items of a new dup, on one frame, the book is what the visit leads to
+        pub pair_leads : Leads v q l cursor passes page
+        pair_leads =
+            let made = made_then clears (made_then (made_one k1 k2 (Publish place f) 0 shown) comes_and_leaves) in
+            leads at q l at.so.0
+            (rw both_lie
+            (laid_joined first_laid first_rise _ at.row _ row_still item_at f lies refl become (λ r. refl) refl (sym tells.bytes)
+            l comes_and_leaves)) (rw goes (grind (arith, met.1))) (grind (arith, page_is at, at.found, at.so, met.1, alone, both_lie))

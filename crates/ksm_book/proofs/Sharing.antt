@@ -65,7 +65,6 @@ vacant_loose {k = k} {dups = dups} place p vacant = by _ refl
         dups d found (λ n x lt same life. stale_is_loose p _ (Contains-get_or dups n x lt) life (vacant n x lt same)) in
         grind (arith, stale, find_passes (λ e. e.place == place) dups d found)
 
--- what a vacant place names is withdrawn, and then it names nothing
 module _ {p : PagesView} {k : KeeperView} (w : KeeperView) (h : IsLaid p k) (place : ℕ) (inside : place < frames_of p.shape)
     (vacant : IsVacant place p.rows p.dups) where
   -- once what a vacant place names is withdrawn, the place names nothing, and the keeper knows the rest as it was

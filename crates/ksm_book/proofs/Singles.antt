@@ -3,19 +3,17 @@
 use Rattle.ksm_book.specs.declared.state.State.TheInside.{Inside}
 use Rattle.ksm_book.proofs.Names.{absent_parts, All, All-map, Answer, any_found, ap, append-nil, arith, at_home_on, BookState, BookValue, BookView, Bool, change_row, change_rows, comes_before}
 use Rattle.ksm_book.proofs.Names.{Command, count_by-le-length, count_more, Done, Drop, DupRow, Err, false, Fault, filter, filter_passes, find, find_all, find_passes, find_put, FindsNone, frame_at}
-use Rattle.ksm_book.proofs.Names.{frames_of, fresh_row, GuestPage, HasLeft, HasNewFrame, HasRemounted, Held, holding, IfSome, inl, InPageOrder, is_next, is_of, is_shared_of, is_some, IsCarried}
-use Rattle.ksm_book.proofs.Names.{IsHeld, IsLaid, IsReadable, IsSound, IsWritable, KeeperView, Knobs, leaving, left_by, length, length-append, let_go, lies_on, LiesWith, List, list_any, live_dup_at}
-use Rattle.ksm_book.proofs.Names.{lying, MakesSteps, map, map_alike, map_fixed, map_mapped, Mapped, MatchOption, MayLeave, MayMove, MayNotLeave, Mergeable, mergeable_count, MoveDup, MovePage, NoFrame}
-use Rattle.ksm_book.proofs.Names.{None, not, of_guest, Ok, Option, option_map, PAGE_WORDS, pages_ordered, PagesView, Provides, puts, refl, Register, relaid, Resettles, ResettlesEach, Row, row_at}
-use Rattle.ksm_book.proofs.Names.{same_page, same_page_refl, same_Some, seen, SetRun, shared_state, slice_get_past, Some, sound_after, sound_settings, state_of, stepped, Store, stored}
-use Rattle.ksm_book.proofs.Names.{take-append_seam, true, UnknownPage, Unmerge, Unmerged, unshare_stopped, unshared, Unshares, view_of, with_frame, with_row, without_between, without_page, [], ℕ}
-use Rattle.ksm_book.proofs.Names.{◌++◌, ◌+◌, ◌<◌, ◌==◌, ◌∙◌, ◌∷◌, ◌≡◌, ◌≤◌}
+use Rattle.ksm_book.proofs.Names.{frames_of, fresh_row, get_or-append_seam, GuestPage, HasLeft, HasNewFrame, HasRemounted, Held, holding, IfSome, inl, InPageOrder, is_next, is_of, is_shared_of}
+use Rattle.ksm_book.proofs.Names.{is_some, IsCarried, IsHeld, IsLaid, IsReadable, IsSound, IsWritable, KeeperView, Knobs, leaving, left_by, length, length-append, let_go, lies_on, LiesWith, List}
+use Rattle.ksm_book.proofs.Names.{list_any, live_dup_at, lying, MakesSteps, map, map_alike, map_fixed, map_mapped, Mapped, MatchOption, MayLeave, MayMove, MayNotLeave, Mergeable, mergeable_count}
+use Rattle.ksm_book.proofs.Names.{MoveDup, MovePage, NoFrame, None, not, of_guest, Ok, Option, option_map, PAGE_WORDS, pages_ordered, PagesView, Provides, puts, refl, Register, relaid, Resettles}
+use Rattle.ksm_book.proofs.Names.{ResettlesEach, Row, row_at, same_page, same_page_refl, same_Some, seen, SetRun, shared_state, slice_get-get_or, slice_get_past, Some, sound_after, sound_settings}
+use Rattle.ksm_book.proofs.Names.{state_of, stepped, Store, stored, take-append_seam, true, UnknownPage, Unmerge, Unmerged, unshare_stopped, unshared, Unshares, view_of, with_frame, with_row}
+use Rattle.ksm_book.proofs.Names.{without_between, without_page, [], ℕ, ◌++◌, ◌+◌, ◌<◌, ◌==◌, ◌∙◌, ◌∷◌, ◌≡◌, ◌≤◌}
 use Rattle.ksm_book.proofs.ByPage.{found_page, lies_again, lies_still, row_of_page}
 use Rattle.ksm_book.proofs.Laying.{come_there, laid_changed, laid_left, laid_mapped, laid_rows, may_leave, resettled, retuned, serves_at, turned}
 use Rattle.ksm_book.proofs.Made.{spent_kept}
 use Rattle.ksm_book.proofs.Moves.{removed, written_in}
-use Rattle.std.proofs.Math.Seq.{get_or-append_seam}
-use Rattle.std.proofs.lemmas.Option.{slice_get-get_or}
 use Rattle.ksm_book.proofs.Along.{along_end, along_next, along_stop, FitsPage, further, IsAlong, next_is, parted, passed, passed_all, position, there}
 
 -- the pages, their keeper, the cursor and the passes as a book
@@ -172,12 +170,8 @@ pub stay_in_scan : (test : Row → Bool) (rows : List Row) → mergeable_count r
     → rows ≡ change_rows test (λ r. record r { mergeable = true }) rows
 stay_in_scan test [] all = refl
 stay_in_scan test (r ∷ rows) all =
-    grind (
-      arith,
-      stay_in_scan test rows,
-      count_more (λ s. s.mergeable) r rows,
-      count_by-le-length (λ (s : Row). s.mergeable) rows,
-    )
+    let few = count_by-le-length (λ (s : Row). s.mergeable) rows in
+    grind (arith, stay_in_scan test rows, count_more (λ s. s.mergeable) r rows, few)
 
 -- a row that is left keeps its page
 pub page_left : (guest : Option ℕ) (r : Row) → (left_by guest r).page ≡ r.page
@@ -277,17 +271,9 @@ module _ {p q : PagesView} {k l : KeeperView} {guest : Option ℕ} {count : ℕ}
     -- once the next page was left too, so many pages more got frames of their own, up to that page
     pub unsharing_next : {v : PagesView} {w : KeeperView} {given : ℕ} → HasLeft q v l w guest page given → FitsPage (Some page)
         → IsUnsharing p v k w guest (count + given) (Some page)
-    unsharing_next {v} h fits = grind (
-      arith,
-      at,
-      asks,
-      next.2,
-      cut.1,
-      along_next (page_left guest) u.along rise told,
-      length-append,
-      each_then,
-      further,
-    )
+    unsharing_next {v} h fits =
+        let goes_along = along_next (page_left guest) u.along rise told in
+        grind (arith, at, asks, next.2, cut.1, goes_along, length-append, each_then, further)
 
     -- where no frame was left for the next page, the unsharing stops there, and the shared rows before it are done
     pub unsharing_stop : {v : PagesView} {w : KeeperView} {fault : Fault} → MayNotLeave q v l w page fault
@@ -306,13 +292,9 @@ module _ {p q : PagesView} {k l : KeeperView} {guest : Option ℕ} {count : ℕ}
 
   -- where no page is left to look at, the shared rows of the guest, or of all, are unshared with no stop
   pub unsharing_end : find (is_next guest last) q.rows ≡ None → Unshares p q k l guest count None
-  unsharing_end ended = grind (
-    arith,
-    along_end (page_left guest) u.along ended,
-    passed_all (page_left guest) u.along ended (is_shared_of guest) (grind arith),
-    append-nil,
-    take-append_seam met [],
-  )
+  unsharing_end ended =
+      let all = passed_all (page_left guest) u.along ended (is_shared_of guest) (grind arith) in
+      grind (arith, along_end (page_left guest) u.along ended, all, append-nil, take-append_seam met [])
 
 -- the row is visited by the scan
 abbrev pub in_scan : Row → Row

@@ -3,9 +3,8 @@ use Rattle.ksm_book.proofs.Names.{after_cursor, ahead_before, ahead_up_to, All, 
 use Rattle.ksm_book.proofs.Names.{Deed, false, filter, filter_none, filter_passes, find_all, fold, fold-append, get_or, get_or_from_slice_get, GuestPage, has_item, HasVisited, inl, inr, is_restless}
 use Rattle.ksm_book.proofs.Names.{IsSound, IsStill, List, mergeable_pages, not, one_before, Option, page_visited, pages_ahead, pairs_head, pairs_tail, Reached, refl, restless_at, same_page_eq}
 use Rattle.ksm_book.proofs.Names.{slice_get_within, Some, Stage, StaysStill, subst, suc, sym, take, take-suc, true, up_to, [], ℕ, ◌&&◌, ◌-◌, ◌<◌, ◌∙◌, ◌∷◌, ◌≡◌}
-use Rattle.ksm_book.proofs.Along.{Before, FitsPage, after_later, has_filter, place_of, place_splits, position}
-use Rattle.ksm_book.proofs.Reached.{Agree, agrees, comes_to}
-use Rattle.ksm_book.proofs.Folded.{ascending_ahead, by_row, Goes, page_goes, restless_mergeable}
+use Rattle.ksm_book.proofs.Along.{after_later, Before, FitsPage, has_filter, place_of, place_splits, position}
+use Rattle.ksm_book.proofs.Folded.{Agree, agrees, ascending_ahead, by_row, comes_to, Goes, page_goes, restless_mergeable}
 
 -- the visit of a page, with what it does beside
 abbrev pub Visit : Type 0

@@ -3,7 +3,8 @@
 use Rattle.std.specs.Prelude.{◌≡◌, ℕ, ◌==◌, Bool, List, take, Option, Some, None, Ok, Err, MatchBool, MatchOption}
 use Rattle.ksm_book.specs.Terms.{after, Answer, BookState, Command, Done, Drop, Entry, every_row, Fault, frame_of, Frames, InUse, is_of, IsAnswerOrMemory, KeeperView, live_dup_at, Lodging, MoveDup}
 use Rattle.ksm_book.specs.Terms.{MovePage, NoFrame, Prune, Pruned, Register, Row, row_at, Scan, Scanned, SetAcross, SetLimit, SetRun, shared_rows, shared_state, Store, Unmerge, Unmerged}
-use Rattle.ksm_book.specs.Commands.{Admits, AllocatesOn, Deed, emptying, FindsHeld, idle, IsIdle, Mapped, Moves, Performs, pruning, Resettles, ResettlesEach, rewriting, TurnsAway}
+use Rattle.ksm_book.specs.Steps.{AllocatesOn}
+use Rattle.ksm_book.specs.Commands.{Admits, Deed, emptying, FindsHeld, idle, IsIdle, Mapped, Moves, Performs, pruning, Resettles, ResettlesEach, rewriting, TurnsAway}
 use Rattle.ksm_book.specs.Folded.{visits_beside}
 use Rattle.ksm_book.specs.Whole.{BookValue, BookView, mapped, nodes_got, HasShown, view_of}
 

@@ -4,7 +4,8 @@ use Rattle.std.specs.Prelude.{◌≡◌, ℕ, ◌<◌, ◌≤◌, ◌&&◌, ◌=
 use Rattle.ksm_book.specs.Terms.{Answer, BookState, change_row, change_rows, Done, DupRow, Fault, GuestPage, has_items, InUse, is_before, IsShape, IsSound, KeeperView, let_go, NoFrame, of_guest}
 use Rattle.ksm_book.specs.Terms.{PagesView, Row, row_at, shared_state, unshared}
 use Rattle.ksm_book.specs.Placement.{Placed, spent}
-use Rattle.ksm_book.specs.Commands.{Allocates, FindsHeld, loads, Mapped, Moves, ResettlesEach, TurnsAway}
+use Rattle.ksm_book.specs.Steps.{Allocates, loads}
+use Rattle.ksm_book.specs.Commands.{FindsHeld, Mapped, Moves, ResettlesEach, TurnsAway}
 use Rattle.ksm_book.specs.Carried.{UnmergesTo}
 
 -- where each page lies, with the keeper of the frames

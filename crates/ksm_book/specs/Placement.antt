@@ -4,7 +4,8 @@ use Rattle.std.specs.Prelude.{All, Bool, cond, Contains, count_by, false, is_som
 use Rattle.std.specs.List.{sum_by}
 use Rattle.ksm_book.specs.Terms.{count_in, DupRow, Dying, Filling, frame_at, Frames, frames_of, Free, Freeze, GenerationFits, has, IsLoose, KeeperView, Kind, Ledger, Life, May, Merged, merged_into}
 use Rattle.ksm_book.specs.Terms.{MOST_REFERENCES, named_at, Note, OwnPage, PAGE_WORDS, PageState, Private, Publish, Raise, Reap, Row, Shape, shared_state, Stable, Sub, Waiting, Zero, zero_state}
-use Rattle.ksm_book.specs.Commands.{Allocates, dying_kind, free_kind, HasNoFree, is_frame, Log}
+use Rattle.ksm_book.specs.Steps.{Allocates, dying_kind, free_kind, HasNoFree, Log}
+use Rattle.ksm_book.specs.Commands.{is_frame}
 
 -- the node on which a frame lies
 abbrev pub node_of : Shape → ℕ → ℕ

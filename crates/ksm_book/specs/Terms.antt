@@ -13,7 +13,7 @@ pub use Rattle.frame_core.specs.declared.seat.Life.{Life}
 pub use Rattle.frame_table.specs.Kept.{Did, did, May}
 pub use Rattle.frame_table.specs.Named.{KeeperView}
 pub use Rattle.ksm_base.specs.Answers.{Answer, every_row, frame_needed, IsAnswerOrMemory, IsScanned, shared_rows}
-pub use Rattle.ksm_base.specs.Apply.{after, effect, fresh_row, is_before, let_go, moved, scan_stopped, stored, unshare_stopped, unshared}
+pub use Rattle.ksm_base.specs.Apply.{after, effect, fresh_row, is_before, let_go, scan_stopped, stored, unshare_stopped, unshared}
 pub use Rattle.ksm_base.specs.Counting.{counters_of, mergeable_count}
 pub use Rattle.ksm_base.specs.Journal.{Entry, IsLegal, journal_after, last_stored, ReadsLastStored}
 pub use Rattle.ksm_base.specs.Reading.{bytes_of, mappers_of, ticket_of}
@@ -21,7 +21,7 @@ pub use Rattle.ksm_base.specs.Refusals.{changes_while_shared, is_known, is_of, l
 pub use Rattle.ksm_base.specs.Rows.{all_zero, change_row, change_rows, comes_before, has_items, InPageOrder, InPlaceOrder, is_stale, item_count, merged_into, merged_state, row_at, same_page, settled}
 pub use Rattle.ksm_base.specs.Rows.{shared_state, waiting_state, with_dup, with_row, without_page, zero_state}
 pub use Rattle.ksm_base.specs.Sound.{IsDupOf, IsSound}
-pub use Rattle.ksm_base.specs.State.{BookState, default_knobs, opening, pass_ended, place_count, tree_of, with_none_waiting}
+pub use Rattle.ksm_base.specs.State.{BookState, default_knobs, opening, pass_ended, place_count, tree_of}
 pub use Rattle.ksm_base.specs.Values.{frames_of, IsShape}
 pub use Rattle.ksm_base.specs.Visit.{after_cursor, best_dup, empty_from, handled, is_best, is_for_zero, is_no_rival, is_no_worse, made_dup, may_join, new_place, next_row, paired, partner, pass_begun}
 pub use Rattle.ksm_base.specs.Visit.{pass_ended_at_last, row_visited, visit, visit_begun, visit_ended, visit_of, visits, waits_for}
@@ -39,8 +39,8 @@ pub use Rattle.ksm_base.specs.declared.row.PageState.TheVariants.{Merged, Privat
 pub use Rattle.ksm_base.specs.declared.row.Row.{Row}
 pub use Rattle.ksm_base.specs.declared.shape.Shape.{Shape}
 pub use Rattle.ksm_pages.specs.Ahead.{EndsAt, FindsNext, mergeable_pages, pages_behind, pages_between}
-pub use Rattle.ksm_pages.specs.Paged.{at_home_on, dup_of_row, elsewhere, FindsAt, frame_of, Frames, HasRoom, HasRow, is_next, is_restless, IsAlone, IsHeld, IsKnown, IsVacant, items_on, ItemsLieOn}
-pub use Rattle.ksm_pages.specs.Paged.{lies_on, Lodging, MayPair, nowhere, of_guest, on_its_own, page_beside, PagesView, paired as are_paired, relaid, seen}
+pub use Rattle.ksm_pages.specs.Paged.{at_home_on, changed as row_changed, dup_of_row, elsewhere, Finds as FindsRow, FindsAt, frame_of, Frames, HasRoom, HasRow, is_next, is_restless, IsAlone, IsHeld}
+pub use Rattle.ksm_pages.specs.Paged.{IsKnown, IsVacant, items_on, ItemsLieOn, lies_on, Lodging, MayPair, nowhere, of_guest, on_its_own, page_beside, PagesView, paired as are_paired, relaid, seen}
 pub use Rattle.ksm_pages.specs.declared.ahead.Ahead.{Ahead}
 pub use Rattle.ksm_pages.specs.declared.ahead.Ahead.TheVariants.{At, End}
 pub use Rattle.ksm_pages.specs.declared.pages.Find.{Find}

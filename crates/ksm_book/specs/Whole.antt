@@ -2,7 +2,8 @@
 use Rattle.std.specs.Prelude.{ℕ, List, [], ◌∷◌, map, take, Option, Some, None, Ok, Err}
 use Rattle.ksm_book.specs.Terms.{Answer, BookState, Command, Done, every_row, frame_needed, frame_of, Frames, InUse, is_of, KeeperView, Lodging, MoveDup, NoFrame, SetRun, shared_rows, Unmerge}
 use Rattle.ksm_book.specs.Terms.{Unmerged}
-use Rattle.ksm_book.specs.Commands.{AllocatesOn, Mapped}
+use Rattle.ksm_book.specs.Steps.{AllocatesOn}
+use Rattle.ksm_book.specs.Commands.{Mapped}
 use Rattle.ksm_book.specs.Placement.{HasLost, HasMoved, NoneLeft}
 
 -- what is seen of the book: its state, the frame of each page, and the keeper

@@ -2,8 +2,7 @@
 //! carried out on the `State`, and then entered in the journal, whose memory was taken before the first step.
 
 ghost use Rattle.std.specs.Prelude.{◌≡◌, ◌≤◌, [], Some, IfOk, IfErr, IfSome, IsSome, option_map};
-ghost use Rattle.ksm_book.specs.Terms.{after, bytes_of, counters_of, first_ledger, is_known, IsAnswerOrMemory, IsLegal};
-ghost use Rattle.ksm_book.specs.Terms.{IsShape, IsSound, journal_after, last_stored, mappers_of, nowhere, opening};
+ghost use Rattle.ksm_book.specs.Terms.{after, bytes_of, counters_of, first_ledger, is_known, IsAnswerOrMemory, IsLegal, IsShape, IsSound, journal_after, last_stored, mappers_of, nowhere, opening};
 ghost use Rattle.ksm_book.specs.Terms.{ReadsLastStored, ticket_of};
 ghost use Rattle.ksm_book.specs.Carried.{CarriedOut, CarriesOut, unjournaled};
 ghost use Rattle.ksm_book.specs.Due.{TellsDue};

@@ -7,8 +7,7 @@
 
 ghost use Rattle.std.specs.Prelude.{◌≡◌, true, None, IfErr, IfOk, OnErr, OnOk};
 ghost use Rattle.ksm_book.specs.Terms.{change_row, has_item, IsAlone, settled};
-ghost use Rattle.ksm_book.specs.Due.{AreDue, due_visited, hidden_from, part_before, part_visited, StaysBefore, TakesOver};
-ghost use Rattle.ksm_book.specs.Due.{TellsDue, with_rows};
+ghost use Rattle.ksm_book.specs.Due.{AreDue, due_visited, hidden_from, part_before, part_visited, StaysBefore, TakesOver, TellsDue, with_rows};
 ghost use Rattle.ksm_book.specs.Folded.{restless_at};
 ghost use Rattle.ksm_book.specs.Scanned.{Comes, HasVisited, Stops};
 ghost use Rattle.ksm_book.specs.Whole.{view_of};
@@ -22,7 +21,7 @@ use ksm_pages::{Find, Spot};
 impl State {
     /// Makes a whole pass, which begins now, over the pages that are due. Says whether none was, so that the pass
     /// changed nothing but which rows wait. Where memory is refused, tells the page that was not visited.
-    #[tactic(auto, using(crate::proofs::Reached::comes_own))]
+    #[tactic(auto, using(crate::proofs::Folded::comes_own, crate::proofs::Walked::less_room))]
     pub fn pass_over_due(&mut self, table: &FrameTable, due: &mut Due) -> Result<bool, GuestPage>
         requires own { self.old.keeper.table ≡ table.now }
         requires ready { due.old.ready ≡ true }
@@ -119,7 +118,7 @@ impl State {
     }
 
     // No row from a page on waits any more.
-    #[tactic(auto, using(crate::proofs::Along::further, crate::proofs::Along::not_far))]
+    #[tactic(auto, using(crate::proofs::Along::along_none, crate::proofs::Along::further, crate::proofs::Along::not_far))]
     fn hide_from(&mut self, page: GuestPage)
         ensures { view_of self.new ≡ record (view_of self.old) { state = hidden_from page self.old.state } }
     {

@@ -1,11 +1,9 @@
 //! The keeper with the sets of its free and of its dying frames, so that neither is looked for frame by frame.
 
-ghost use Rattle.std.specs.Prelude.{◌≡◌, ◌<◌, ◌≤◌, ℕ, ◌↔◌, IfErr, IfOk, IsTrue, MatchOption};
-ghost use Rattle.std.specs.Prelude.{slice_index};
-ghost use Rattle.ksm_book.specs.Terms.{Add, count_in, Did, did, first_ledger, frame_at, frame_word, frames_of, Freeze};
-ghost use Rattle.ksm_book.specs.Terms.{IsShape, May, Memory, Open, Publish, Put, Raise, Reap, Sub, Withdraw, Word};
+ghost use Rattle.std.specs.Prelude.{◌≡◌, ◌<◌, ◌≤◌, ℕ, ◌↔◌, IfErr, IfOk, IsTrue, MatchOption, slice_index};
+ghost use Rattle.ksm_book.specs.Terms.{Add, count_in, Did, did, first_ledger, frame_at, frame_word, frames_of, Freeze, IsShape, May, Memory, Open, Publish, Put, Raise, Reap, Sub, Withdraw, Word};
 ghost use Rattle.ksm_book.specs.Placement.{MayLeave};
-ghost use Rattle.ksm_book.specs.Commands.{NoneOf, IsFirstOf, free_kind, dying_kind};
+ghost use Rattle.ksm_book.specs.Steps.{NoneOf, IsFirstOf, free_kind, dying_kind};
 
 use frame_core::Kind;
 use frame_table::{FrameTable, Keeper};
@@ -113,7 +111,7 @@ impl FrameKeeper {
     }
 
     /// One reference less on a frame. With the last it is dying.
-    #[tactic(auto, using(crate::proofs::Made::put_there))]
+    #[tactic(auto, using(crate::proofs::Made::put_there, crate::proofs::Made::other_if))]
     pub fn sub(&mut self, table: &FrameTable, frame: u32)
         requires own { self.old.table ≡ table.now }
         requires may { MayLeave self.old frame }
@@ -194,6 +192,7 @@ impl FrameKeeper {
 
     /// Tries to take all references from a shown frame, which is dying then. Says whether no reader held it; where one
     /// did, nothing changes.
+    #[tactic(auto, using(crate::proofs::Made::put_there, crate::proofs::Made::other_if))]
     pub fn freeze(&mut self, table: &FrameTable, frame: u32) -> bool
         requires own { self.old.table ≡ table.now }
         requires may { May self.old (Freeze frame) }

@@ -1,11 +1,9 @@
 //! What the book has the keeper do with frames: find one and fill it, write it and read it, and give it back.
 
-ghost use Rattle.std.specs.Prelude.{◌≡◌, ◌<◌, ◌≤◌, ◌-◌, true, None, Some, is_some, IfSome, IsTrue, MatchOption, [], ◌∷◌};
-ghost use Rattle.std.specs.Prelude.{length, map, if◌then◌else◌};
-ghost use Rattle.ksm_book.specs.Terms.{frame_at, frames_of, IsReadable, IsShape, IsWritable, May, Reap, with_frame};
-ghost use Rattle.ksm_book.specs.Terms.{Withdraw, WORDS};
+ghost use Rattle.std.specs.Prelude.{◌≡◌, ◌<◌, ◌≤◌, ◌-◌, None, IfSome, IsTrue, MatchOption, [], ◌∷◌, length, map, if◌then◌else◌};
+ghost use Rattle.ksm_book.specs.Terms.{frame_at, frames_of, IsReadable, IsShape, IsWritable, May, Reap, with_frame, Withdraw, WORDS};
 ghost use Rattle.ksm_book.specs.Placement.{MayLeave, holding, IsLawful, HasNewFrame};
-ghost use Rattle.ksm_book.specs.Commands.{dying_from, loads, puts, stepped, MakesSteps, Finds, FindsNone, Provides};
+ghost use Rattle.ksm_book.specs.Steps.{dying_from, loads, puts, stepped, MakesSteps, Finds, FindsNone, Provides};
 ghost use Rattle.ksm_book.specs.Commands.{leaving};
 
 use crate::frame_keeper::FrameKeeper;
@@ -121,17 +119,6 @@ pub fn take_frame(
     write(keeper, table, frame, bytes);
     keeper.open(table, frame);
     Some(frame)
-}
-
-/// The number of a frame that is known to be there.
-pub fn known_frame(frame: Option<u32>) -> u32
-    requires { is_some frame ≡ true }
-    ensures { frame ≡ Some result }
-{
-    match frame {
-        Some(frame) => frame,
-        None => unreachable!(),
-    }
 }
 
 /// Gives the frame in hand back, if there is one.

@@ -2,7 +2,8 @@
 
 ghost use Rattle.std.specs.Prelude.{◌≡◌, ◌<◌, ◌≤◌, ◌+◌, replicate};
 ghost use Rattle.ksm_book.specs.Terms.{Add, did, frame_at, frames_of, KeeperView, MOST_REFERENCES, Publish, with_frame};
-ghost use Rattle.ksm_book.specs.Commands.{mounting, MakesSteps};
+ghost use Rattle.ksm_book.specs.Steps.{MakesSteps};
+ghost use Rattle.ksm_book.specs.Commands.{mounting};
 ghost use Rattle.ksm_book.specs.Placement.{with_more, MayMount, once_mounted};
 
 use crate::frame_keeper::FrameKeeper;

@@ -15,6 +15,7 @@ use ksm_pages::Pages;
 
 /// The frame of a dup with items is replaced by another of a node. Refused where none is free, and where a reader holds
 /// the old one; rows and dups stay.
+#[tactic(auto, using(crate::proofs::Moves::found_in, std::proofs::lemmas::List::Folds::list_any_at))]
 fn remount(
     pages: &mut Pages,
     keeper: &mut FrameKeeper,

@@ -9,9 +9,7 @@ ghost use Rattle.ksm_book.specs.Terms.{EndsAt, mergeable_pages, pass_begun, pass
 ghost use Rattle.ksm_book.specs.Carried.{CarriesOut};
 ghost use Rattle.ksm_book.specs.Due.{AreDue, TellsDue, part_before, part_visited};
 ghost use Rattle.ksm_book.specs.Folded.{pages_ahead, pages_visited};
-ghost use Rattle.ksm_book.specs.Scanned.{Comes, FindsUpTo, GoesOn, HasVisited, Stops, StopsShort};
-ghost use Rattle.ksm_book.specs.Scanned.{ahead_before, ahead_up_to, is_nowhere, is_quiet, last_visited};
-ghost use Rattle.ksm_book.specs.Scanned.{passes_ended};
+ghost use Rattle.ksm_book.specs.Scanned.{Comes, FindsUpTo, GoesOn, HasVisited, Stops, StopsShort, ahead_before, ahead_up_to, is_nowhere, is_quiet, last_visited, passes_ended};
 
 use crate::due::Due;
 use crate::state::State;
@@ -115,7 +113,7 @@ impl State {
 
     // Visits the pages ahead up to the last one, or all of them, and says whether that changed nothing but which rows
     // wait. Where memory is refused, tells the page that was not visited.
-    #[tactic(auto, using(crate::proofs::Reached::comes_own))]
+    #[tactic(auto, using(crate::proofs::Folded::comes_own, crate::proofs::Walked::less_room))]
     fn visit_up_to(
         &mut self,
         table: &FrameTable,
@@ -181,7 +179,7 @@ impl State {
     // Visits the pages ahead up to the last one, or all of them, where a pass begins or goes on. A whole pass visits
     // only what is due, where that is known; and where one changed nothing but which rows wait, nothing is due. Says
     // whether that was so. Where memory is refused, tells the page that was not visited.
-    #[tactic(auto, using(crate::proofs::Reached::comes_own))]
+    #[tactic(auto, using(crate::proofs::Folded::comes_own))]
     fn visit_part(
         &mut self,
         table: &FrameTable,
@@ -210,7 +208,7 @@ impl State {
     // Makes at least one visit, and `most` at most, all of one pass. Where that is a whole pass that changed nothing
     // but which rows wait, those that would repeat it are counted too. Where memory is refused, tells how many visits
     // were made.
-    #[tactic(auto, using(crate::proofs::Reached::comes_to, crate::proofs::Reached::comes_own))]
+    #[tactic(auto, using(crate::proofs::Folded::comes_to, crate::proofs::Folded::comes_own))]
     fn go_on(&mut self, table: &FrameTable, due: &mut Due, most: u64) -> Result<u64, u64>
         requires own { self.old.keeper.table ≡ table.now }
         requires most { 1 ≤ most }
@@ -245,7 +243,7 @@ impl State {
 
     /// Makes visits. Where memory is refused, no more is done than what the reply tells.
     #[inline(never)]
-    #[tactic(auto, using(crate::proofs::Reached::comes_own))]
+    #[tactic(auto, using(crate::proofs::Folded::comes_own))]
     pub fn scan(&mut self, table: &FrameTable, due: &mut Due, count: u64) -> Result<Reply, Fault>
         requires own { self.old.keeper.table ≡ table.now }
         requires due { TellsDue due.old self.old.state }

@@ -2,8 +2,7 @@
 //! the order of the definitions, and then changes the pages and their frames.
 
 ghost use Rattle.std.specs.Prelude.{◌≡◌, ◌≤◌, ◌||◌, ℕ, List, true, None, Some, IfOk, IfErr};
-ghost use Rattle.ksm_book.specs.Terms.{bytes_of, change_row, counters_of, first_ledger, has_item, IsAlone, IsKnown};
-ghost use Rattle.ksm_book.specs.Terms.{IsShape, IsSound, Memory, nowhere, opening, page_beside, row_at, stored};
+ghost use Rattle.ksm_book.specs.Terms.{bytes_of, change_row, counters_of, first_ledger, has_item, IsAlone, IsKnown, IsShape, IsSound, Memory, nowhere, opening, page_beside, row_at, stored};
 ghost use Rattle.ksm_book.specs.Carried.{CarriesOut};
 ghost use Rattle.ksm_book.specs.Whole.{view_of};
 ghost use Rattle.ksm_book.specs.Placement.{spent};
@@ -13,7 +12,7 @@ ghost use Rattle.ksm_book.specs.Promised.{FindsPlace, LieOn, NumbersAreSmall};
 
 use crate::due::Due;
 use crate::frame_keeper::FrameKeeper;
-use crate::frames::{is_used_up, known_frame, load, release_if, take_frame, write};
+use crate::frames::{is_used_up, load, release_if, take_frame, write};
 use crate::stale::drop_stale;
 use frame_table::{FrameTable, Keeper};
 use ksm_base::{Command, Counters, Fault, GuestPage, PageBytes, Reply, Shape};
@@ -174,7 +173,9 @@ impl State {
             return Ok(Reply::Done);
         }
         self.note_store(due, held.spot);
-        let frame = known_frame(held.frame);
+        let Some(frame) = held.frame else {
+            unreachable!()
+        };
         write(&mut self.keeper, table, frame, bytes);
         self.pages.store(held.spot, bytes);
         Ok(Reply::Done)

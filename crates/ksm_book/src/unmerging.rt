@@ -53,7 +53,7 @@ fn leave(
 }
 
 // The pages of a guest, or all, leave in order. Stops where a page finds no frame on its home. Says how many got one.
-#[tactic(auto, using(crate::proofs::Along::further, crate::proofs::Along::not_far))]
+#[tactic(auto, using(crate::proofs::Along::along_none, crate::proofs::Along::further, crate::proofs::Along::not_far, ksm_base::proofs::Orders::filter_none))]
 fn unshare_each(
     pages: &mut Pages,
     keeper: &mut FrameKeeper,

@@ -2,8 +2,7 @@
 
 ghost use Rattle.std.specs.Prelude.{◌≡◌, true, OnOk, OnErr, IfOk};
 ghost use Rattle.ksm_book.specs.Folded.{page_visited, restless_at};
-ghost use Rattle.ksm_book.specs.Scanned.{Comes, FindsStill, HasVisited, VisitsPage};
-ghost use Rattle.ksm_book.specs.Scanned.{is_quiet};
+ghost use Rattle.ksm_book.specs.Scanned.{Comes, FindsStill, HasVisited, VisitsPage, is_quiet};
 ghost use Rattle.ksm_book.specs.Whole.{view_of};
 
 use crate::frames::{clear, release_if};

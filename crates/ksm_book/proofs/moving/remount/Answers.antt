@@ -1,5 +1,4 @@
-use Rattle.ksm_book.proofs.Names.{arith, list_any_at}
-use Rattle.ksm_book.proofs.Moves.{found_in}
+use Rattle.ksm_book.proofs.Names.{arith}
 use Rattle.ksm_book.proofs.Sharing.{has_remounted, may_freeze, may_mount, stays}
 use Rattle.ksm_book.proofs.Laying.{turned}
 use Rattle.ksm_book.proofs.moving.remount.Goals as goal
@@ -24,9 +23,6 @@ pub mount-requires-clause-may : goal.mount-requires-clause-may
 mount-requires-clause-may c =
     may_mount c.requires.may c.dup_frame-left.ensures c.lie_in_order.ensures.absent c.in-Some.ensures _
     c.freeze.ensures.1 (c.freeze.ensures.2.0 c.if-not-freeze.false) c.base-items.ensures
-
-pub set_dup_frame-requires : goal.set_dup_frame-requires
-set_dup_frame-requires c = grind (arith, found_in, list_any_at, c.requires.may.live)
 
 pub returns : goal.returns
 returns c =

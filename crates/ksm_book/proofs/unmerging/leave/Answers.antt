@@ -13,8 +13,7 @@ returns-else-is_some-clause-left c = left_still _ c.requires.held c.requires.lai
     (sym c.is_some.ensures ∙ c.if-is_some.false)
 
 pub returns-in_default-clause-turned : goal.returns-in_default-clause-turned
-returns-in_default-clause-turned c =
-    search (rules, turned c.requires.laid c.in_default.ensures.provides)
+returns-in_default-clause-turned c = search (rules, turned c.requires.laid c.in_default.ensures.provides)
 
 left : (c : Joined-is_some-2) → c.if-is_some-2.left ≡ (seen c.args.pages.now).frame c.args.held.spot.page
 left c = elim c.if-is_some-2.branch [ then-is_some-2 w ↦ w.left-is ∙ w.let_go_on-left.ensures.left | else-is_some-2 w ↦ w.left-is ∙ w.unshare_on-left.ensures.left ]

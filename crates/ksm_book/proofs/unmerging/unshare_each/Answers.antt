@@ -1,11 +1,7 @@
-use Rattle.ksm_book.proofs.Names.{arith, filter_none, rules, ◌∙◌}
-use Rattle.ksm_book.proofs.Along.{along_none}
+use Rattle.ksm_book.proofs.Names.{rules, ◌∙◌}
 use Rattle.ksm_book.proofs.Singles.{unsharing_end, unsharing_home, unsharing_next, unsharing_stop}
 use Rattle.ksm_book.proofs.Carried.{each_does}
 use Rattle.ksm_book.proofs.unmerging.unshare_each.Goals as goal
-
-pub pages-init : goal.pages-init
-pages-init c = grind (arith, filter_none, along_none)
 
 pub leave-requires-clause-own : goal.leave-requires-clause-own
 leave-requires-clause-own c = (each_does _ _ _ c.pages.invariant.each).1.table ∙ c.requires.own

@@ -1,7 +1,6 @@
 use Rattle.ksm_book.proofs.Names.{ahead_before, ap, arith, BookValue, Comes, has_item, last_of, last_visited, length, None, pages_ahead, part_before, pass_ended_at_last, Stage, sym, true, visit_begun}
 use Rattle.ksm_book.proofs.Names.{visits_beside, ◌*◌, ◌<◌, ◌∙◌, ◌≡◌, ◌≤◌}
-use Rattle.ksm_book.proofs.Folded.{begun_ahead, page_made, passes_made, settled_twice, some_ahead, stopped_fewer, stopped_made}
-use Rattle.ksm_book.proofs.Reached.{comes_by, comes_to, first}
+use Rattle.ksm_book.proofs.Folded.{begun_ahead, comes_by, comes_to, first, page_made, passes_made, settled_twice, some_ahead, stopped_fewer, stopped_made}
 use Rattle.std.proofs.Math.Nat.{div-mul-le_self, le-div_iff_mul-le, one-le-mul}
 use Rattle.ksm_book.proofs.state.State.go_on.Goals as goal
 use Rattle.ksm_book.proofs.state.State.go_on.Goals.{else-whole, In-End, then-whole+then-quiet}

@@ -1,6 +1,5 @@
 use Rattle.ksm_book.proofs.Names.{ap, none-some, refl, seen, sym, view_of, ◌∙◌}
-use Rattle.ksm_book.proofs.Pairing.{may_add_to, may_publish, may_sub_from, may_withdraw, pair_leads, pair_may, room, waits_one}
-use Rattle.ksm_book.proofs.RowVisits.{Leads, made_by, meets}
+use Rattle.ksm_book.proofs.RowVisits.{Leads, made_by, may_add_to, may_publish, may_sub_from, may_withdraw, meets, pair_leads, pair_may, room, waits_one}
 use Rattle.ksm_book.proofs.state.State.pair.Goals as goal
 
 pub unreachable-requires : goal.unreachable-requires

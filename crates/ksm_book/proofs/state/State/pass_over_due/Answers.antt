@@ -1,7 +1,7 @@
-use Rattle.ksm_book.proofs.Names.{AreDue, arith, comes_before, false, None, refl, rules, subst, sym, up_to}
+use Rattle.ksm_book.proofs.Names.{AreDue, arith, comes_before, false, None, refl, subst, sym, up_to}
 use Rattle.ksm_book.proofs.DuePasses.{part_stops, rests_due, visits_due, whole_part, whole_still}
-use Rattle.ksm_book.proofs.Reached.{comes_as, comes_by}
-use Rattle.ksm_book.proofs.Walked.{begins_walk, less_room, walk_ends, walks_on}
+use Rattle.ksm_book.proofs.Folded.{comes_as, comes_by}
+use Rattle.ksm_book.proofs.Walked.{begins_walk, walk_ends, walks_on}
 use Rattle.ksm_book.proofs.state.State.pass_over_due.Goals as goal
 
 pub loop-spot-init : goal.loop-spot-init
@@ -10,9 +10,6 @@ loop-spot-init c = (
   c.requires.due,
   c.requires.ready,
 )
-
-pub loop-spot-smaller : goal.loop-spot-smaller
-loop-spot-smaller c = less_room _ _ (search rules, search rules) c.in-Some.ensures.1
 
 pub loop-spot-preserved : goal.loop-spot-preserved
 loop-spot-preserved c =

@@ -1,9 +1,9 @@
-use Rattle.ksm_book.proofs.Names.{arith, BookValue, Comes, false, Fault, filter, IsCarried, IsScanned, length, length-filter, length-map, List, list_any, list_any_none, Memory, mergeable_count}
-use Rattle.ksm_book.proofs.Names.{mergeable_pages, None, none_counted, Ok, Option, refl, Row, Scan, scan_stopped, Scanned, Some, subst, sym, TellsDue, true, view_of, visits_beside, ℕ, [], ◌+◌, ◌∙◌}
-use Rattle.ksm_book.proofs.Names.{◌∷◌, ◌≡◌, ◌≤◌}
+use Rattle.ksm_book.proofs.Names.{any_found, ap, arith, BookValue, Comes, false, Fault, filter, is_some, IsCarried, IsScanned, length, length-filter, length-map, List, list_any, list_any_none, Memory}
+use Rattle.ksm_book.proofs.Names.{mergeable_count, mergeable_pages, None, none_counted, Ok, Option, refl, Row, Scan, scan_stopped, Scanned, Some, subst, sym, TellsDue, true, view_of, visits_beside, ℕ}
+use Rattle.ksm_book.proofs.Names.{◌+◌, ◌∙◌, ◌≡◌, ◌≤◌}
 use Rattle.ksm_book.specs.contracts.state.State.{the_view}
-use Rattle.ksm_book.proofs.Folded.{beside_on, beside_state, visits_mergeable}
-use Rattle.ksm_book.proofs.Reached.{begins, comes_to, first}
+use Rattle.ksm_book.proofs.Folded.{begins, beside_on, beside_state, comes_to, first, visits_mergeable}
+use Rattle.ksm_book.proofs.Sharing.{first_found}
 use Rattle.ksm_book.proofs.state.State.scan.Goals as goal
 use Rattle.ksm_book.proofs.state.State.scan.Goals.{After-list_restless, After-mergeable}
 
@@ -11,18 +11,12 @@ use Rattle.ksm_book.proofs.state.State.scan.Goals.{After-list_restless, After-me
 some_pages : (rows : List Row) → length (mergeable_pages rows) ≡ mergeable_count rows
 some_pages rows = length-map (filter (λ (r : Row). r.mergeable) rows) (λ (r : Row). r.page) ∙ length-filter (λ (r : Row). r.mergeable) rows
 
--- where there are pages to visit, some row is mergeable
-any_some : (rows : List Row) → 1 ≤ length (mergeable_pages rows) → list_any (λ r. r.mergeable) rows ≡ true
-any_some [] some = absurd (omega arith)
-any_some (r ∷ rows) some = grind (arith, any_some rows)
-
 -- `Scan` is carried out where visits were made and then the scan stopped, or did not, as it answers
 scanned : (v w : BookValue) (count made : ℕ) (stop : Option Fault) → v.state.knobs.run ≡ 1
     → IsScanned v.state count (Ok (Scanned made stop))
     → Comes v w (λ s. (scan_stopped stop (visits_beside made s).0, (visits_beside made s).1))
     → IsCarried (view_of v) (view_of w) (Scan count) (Ok (Scanned made stop))
-scanned v w count made stop running is comes =
-    grind (arith, beside_state, comes v (first v) (begins v))
+scanned v w count made stop running is comes = grind (arith, beside_state, comes v (first v) (begins v))
 
 running : (c : After-mergeable) → c.args.self.now.state.knobs.run ≡ 1
 running c = rw (← c.self.view_is, ← c.knobs.ensures) c.if-knobs-ne1.false
@@ -35,7 +29,10 @@ returns-then-mergeable-eq0-clause-carried c =
     (grind arith) (λ from s before. before)
 
 some : (c : After-list_restless) → list_any (λ r. r.mergeable) c.args.self.now.state.rows ≡ true
-some c = any_some c.args.self.now.state.rows (grind (arith, c.self.view_is, some_pages))
+some c =
+    let rows = c.args.self.now.state.rows in
+    let found = first_found (λ (r : Row). r.mergeable) rows (grind (arith, c.self.view_is)) in
+    any_found (λ (r : Row). r.mergeable) rows ∙ ap is_some found.1
 
 pub loop-done-init : goal.loop-done-init
 loop-done-init c =

@@ -13,8 +13,7 @@ unreachable-requires c =
     ∙ waits_at c.lies_lawfully.ensures.sound c.requires.takes)
 
 pub stop_waiting-requires : goal.stop_waiting-requires
-stop_waiting-requires c =
-    rw c.in-Some.ensures.spot (other_alone c.lies_lawfully.ensures.sound c.requires.takes)
+stop_waiting-requires c = rw c.in-Some.ensures.spot (other_alone c.lies_lawfully.ensures.sound c.requires.takes)
 
 pub returns-in_err-visit-clause-refused : goal.returns-in_err-visit-clause-refused
 returns-in_err-visit-clause-refused c = on_err _

@@ -3,9 +3,9 @@ use Rattle.ksm_book.specs.contracts.state.State.{the_view}
 use Rattle.ksm_book.proofs.DueFound.{changed_keeps, left_due, partner_takes}
 use Rattle.ksm_book.proofs.RowVisits.{finds_it, found_lawful}
 use Rattle.ksm_book.proofs.state.State.visit_due.Goals as goal
+use Rattle.ksm_book.proofs.state.State.visit_due.Goals.{After-remove, in-Dup+in_ok-join-in-Dup, in-Gone, in-Partner+in_ok-pair-in-Partner, in-Zero, In_ok-found}
 use Rattle.ksm_book.proofs.DueKept.{IsDueNoMore, more_due}
-use Rattle.ksm_book.proofs.Reached.{changed_comes}
-use Rattle.ksm_book.proofs.state.State.visit_due.Goals.{After-remove, In_ok-found, in-Dup+in_ok-join-in-Dup, in-Gone, in-Partner+in_ok-pair-in-Partner, in-Zero}
+use Rattle.ksm_book.proofs.Folded.{changed_comes}
 
 -- where the search changed nothing, what was reached with the book is reached still
 as_before : (c : In_ok-found) → seen c.visit.new.self ≡ seen c.self.inside.pages
@@ -17,13 +17,10 @@ invariant_of-self-2 c = found_lawful _ c.self.invariant _ c.in_ok-found.ensures.
 
 pub take_over-requires-clause-takes : goal.take_over-requires-clause-takes
 take_over-requires-clause-takes c =
-    grind (
-      arith,
-      c.in-Partner.is,
-      c.in_ok-found.ensures.found,
-      partner_takes c.in-Partner.other
-          (finds_it _ (λ e. cc) c.self.invariant (ap view_of c.self.view_is) _ c.in-Partner.is c.in_ok-found.ensures.found) (sym c.comes_before.ensures ∙ c.if-comes_before.false),
-    )
+    let found = c.in_ok-found.ensures.found in
+    let met = finds_it _ (λ e. cc) c.self.invariant (ap view_of c.self.view_is) _ c.in-Partner.is found in
+    let takes = partner_takes c.in-Partner.other met (sym c.comes_before.ensures ∙ c.if-comes_before.false) in
+    grind (arith, c.in-Partner.is, found, takes)
 
 pub returns-in_err-take_over-in-Partner-2-clause-refused : goal.returns-in_err-take_over-in-Partner-2-clause-refused
 returns-in_err-take_over-in-Partner-2-clause-refused c =

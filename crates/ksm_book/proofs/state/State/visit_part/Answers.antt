@@ -1,7 +1,6 @@
 use Rattle.ksm_book.proofs.Names.{arith, HasVisited, part_before, part_visited, Stops, sym, ◌∙◌}
 use Rattle.ksm_book.proofs.DueKept.{more_due}
-use Rattle.ksm_book.proofs.Reached.{comes_to}
-use Rattle.ksm_book.proofs.Folded.{begun_ahead, settled_twice}
+use Rattle.ksm_book.proofs.Folded.{begun_ahead, comes_to, settled_twice}
 use Rattle.ksm_book.proofs.state.State.visit_part.Goals as goal
 use Rattle.ksm_book.proofs.state.State.visit_part.Goals.{In_ok-quiet}
 

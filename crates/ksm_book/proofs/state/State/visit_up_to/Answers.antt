@@ -1,8 +1,8 @@
-use Rattle.ksm_book.proofs.Names.{and_parts, arith, comes_before, FindsUpTo, GuestPage, is_quiet, IsStill, None, Option, rules, subst, sym, up_to, ◌∙◌}
+use Rattle.ksm_book.proofs.Names.{and_parts, arith, comes_before, FindsUpTo, GuestPage, is_quiet, IsStill, None, Option, subst, sym, up_to, ◌∙◌}
 use Rattle.ksm_book.proofs.Along.{has_filter}
-use Rattle.ksm_book.proofs.Reached.{comes_as, comes_to}
+use Rattle.ksm_book.proofs.Folded.{comes_as, comes_to}
 use Rattle.ksm_book.proofs.DuePasses.{due_begins, due_walks}
-use Rattle.ksm_book.proofs.Walked.{before_it, begins_walk, is_ahead, less_room, rests_where, visits_page, walk_ends, walks_on}
+use Rattle.ksm_book.proofs.Walked.{before_it, begins_walk, is_ahead, rests_where, visits_page, walk_ends, walks_on}
 use Rattle.ksm_book.proofs.state.State.visit_up_to.Goals as goal
 
 pub loop-spot-init : goal.loop-spot-init
@@ -11,9 +11,6 @@ loop-spot-init c =
     let at = c.cursor-reached.ensures in
     let sound = c.lies_lawfully.ensures.sound in
     (begins_walk _ v _ at _ _ sound, λ _ none. rw (at ∙ none) (due_begins v.state sound.rows_rise))
-
-pub loop-spot-smaller : goal.loop-spot-smaller
-loop-spot-smaller c = less_room _ _ (search rules, search rules) c.in-Some.ensures.next.1.0
 
 pub loop-spot-preserved : goal.loop-spot-preserved
 loop-spot-preserved c =
