@@ -2,10 +2,10 @@
 use Rattle.ksm_book.proofs.Names.{Add, Allocates, AllocatesOn, Answer, append-nil, arith, BookState, BookView, Bool, CarriedOut, cases_eq, cases_lt, Command, Contains, Contains-append_right}
 use Rattle.ksm_book.proofs.Names.{Contains-push, contains_filter, count_in, Done, Drop, dup_frame, DupRow, Dying, dying_on, Err, false, Fault, find_passes, FindsHeld, FindsNone, frame_at, Frames}
 use Rattle.ksm_book.proofs.Names.{free_kind, Freeze, get_or-range_with_len, get_or-set_other, get_or-set_same, get_or_past, given_by, Gives, GuestPage, HasLost, HasMoved, HasShown, if◌then◌else◌}
-use Rattle.ksm_book.proofs.Names.{InUse, IsAnswerOrMemory, IsCarried, IsIdle, IsLowestFree, KeeperStep, KeeperView, leaving, Ledger, ledger_after, length-range_with_len, length-set, List, listed}
-use Rattle.ksm_book.proofs.Names.{live_dup_at, loads, Log, MakesSteps, map, Mapped, mapped, MatchBool, MatchOption, MoveDup, MovePage, Moves, nodes_got, NoFrame, None, NoneLeft, Ok, Option}
-use Rattle.ksm_book.proofs.Names.{option_and_then, Performs, Provides, Prune, Pruned, pruning, Publish, puts, Raise, Reap, refl, Register, replayed, replicate, Resettles, ResettlesEach, rewriting}
-use Rattle.ksm_book.proofs.Names.{Row, Scan, Scanned, scanning, set_past, SetAcross, SetLimit, SetRun, Shape, shared_state, Some, stepped, steps_of, Store, StoresTo, subst, suc, sym, TakesSteps, true}
+use Rattle.ksm_book.proofs.Names.{InUse, IsAnswerOrMemory, IsCarried, IsIdle, IsLowestFree, KeeperStep, KeeperView, leaving, Ledger, ledger_after, length-range_with_len, length-set, List, live_dup_at}
+use Rattle.ksm_book.proofs.Names.{loads, Log, MakesSteps, map, Mapped, mapped, MatchBool, MatchOption, MoveDup, MovePage, Moves, nodes_got, NoFrame, None, NoneLeft, Ok, Option, option_and_then}
+use Rattle.ksm_book.proofs.Names.{option_to_list, Performs, Provides, Prune, Pruned, pruning, Publish, puts, Raise, Reap, refl, Register, replayed, replicate, Resettles, ResettlesEach, rewriting, Row}
+use Rattle.ksm_book.proofs.Names.{Scan, Scanned, scanning, set_past, SetAcross, SetLimit, SetRun, Shape, shared_state, Some, stepped, steps_of, Store, StoresTo, subst, suc, sym, TakesSteps, true}
 use Rattle.ksm_book.proofs.Names.{Unmerge, Unmerged, UnmergesTo, Withdraw, zero, [], ℕ, ◌*◌, ◌++◌, ◌+◌, ◌-◌, ◌<◌, ◌∷◌, ◌≡◌, ◌≤◌}
 use Rattle.ksm_book.proofs.Made.{chained, first_made, made_none, set_holds, step_made}
 use Rattle.ksm_base.proofs.Reasons.{has_reason}
@@ -195,16 +195,16 @@ idle_does h = quiet_does (made_none h.keeper) tt
 
 stored_does : (v w : Mapped) (bytes : List ℕ) (row : Row) (shared : Bool)
     → MatchBool shared (Resettles v w row.page row.home bytes) (Performs v w (rewriting v.frame row.page bytes))
-    → AllocatesOn v.keeper w.keeper (listed (if shared then Some row.home else None))
+    → AllocatesOn v.keeper w.keeper (option_to_list (if shared then Some row.home else None))
 stored_does v w bytes row true h = resettles_does h
 stored_does v w bytes row false h = quiet_does h.made (quiet_puts _ 0 _)
 
 store_does : (v w : Mapped) (bytes : List ℕ) (found : Option Row) → MatchOption found ⊥ (StoresTo v w bytes)
-    → AllocatesOn v.keeper w.keeper (listed (option_and_then (λ r. if shared_state r.state then Some r.home else None) found))
+    → AllocatesOn v.keeper w.keeper (option_to_list (option_and_then (λ r. if shared_state r.state then Some r.home else None) found))
 store_does v w bytes found h = grind (arith, stored_does)
 
 moved_does : (v w : Mapped) (node : ℕ) (row : Row) (home : Bool) → MatchBool home (IsIdle v w) (Resettles v w row.page node row.bytes)
-    → AllocatesOn v.keeper w.keeper (listed (if home then None else Some node))
+    → AllocatesOn v.keeper w.keeper (option_to_list (if home then None else Some node))
 moved_does v w node row true h = idle_does h
 moved_does v w node row false h = resettles_does h
 
@@ -228,8 +228,6 @@ frames_given v w (SetAcross across) (Ok Done) h = prune_does v w _ h
 frames_given v w (SetLimit limit) (Ok Done) h = prune_does v w _ h
 frames_given v w _ (Err (NoFrame node)) h = let left = none_left h.searched in (left.part, left.did)
 frames_given v w _ (Ok Done) h = idle_does h
-frames_given v w _ (Ok (Scanned made stop)) h = idle_does h
-frames_given v w _ (Ok (Pruned count)) h = idle_does h
 frames_given v w _ _ h = idle_does h
 
 shown_so : (v w : BookView) (command : Command) (answer : Answer) → IsAnswerOrMemory v.state command answer → TakesSteps v w command answer

@@ -77,15 +77,13 @@ module _ (b : BookState) (deed : Deed) (sound : IsSound b) (start : b.cursor ≡
       let at = place_of page all there in
       grind (arith, begun_ahead b, alike (λ q. comes_before q page) at.0, slice_get_within all at.0 page at.1, place_splits all at.0 page rise at.1)
 
--- a pass begins at a book
-module _ (old : BookValue) (sound : IsSound old.state) (start : old.state.cursor ≡ None) where
-  -- where nothing is due, the whole pass changes nothing but which rows wait
-  pub whole_still : AreDue old.state [] → StaysStill old (part_visited None)
-  whole_still are from s before =
-      let same = agrees old {f = λ z. z} {g = part_visited None} (λ _ deed _.
-      sym (resting due_visited (ahead_up_to None old.state) (old.state, deed)
-      (λ k d lt. undue_rests old.state [] sound are _ refl)) ∙ whole_part old.state deed sound start) in
-      grind (arith, same.same from s before)
+-- where nothing is due as a pass begins, the whole pass changes nothing but which rows wait
+pub whole_still : (old : BookValue) → IsSound old.state → old.state.cursor ≡ None → AreDue old.state [] → StaysStill old (part_visited None)
+whole_still old sound start are from s before =
+    let same = agrees old {f = λ z. z} {g = part_visited None} (λ _ deed _.
+    sym (resting due_visited (ahead_up_to None old.state) (old.state, deed)
+    (λ k d lt. undue_rests old.state [] sound are _ refl)) ∙ whole_part old.state deed sound start) in
+    grind (arith, same.same from s before)
 
 -- a walk has reached a book in which some pages are due
 module _ {old mid : BookValue} {last : Option GuestPage} (due : List GuestPage)

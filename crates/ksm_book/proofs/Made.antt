@@ -3,9 +3,9 @@
 use Rattle.ksm_book.proofs.Names.{Add, added, All, Allocates, along, ap, append-nil, append_assoc, AreSets, arith, blank, Bool, cases_eq, cases_lt, cond, count_in, did, drop, DupRow, Dying}
 use Rattle.ksm_book.proofs.Names.{dying_from, dying_kind, dying_on, false, filter_passes, Finds, FindsNone, frame_at, Frames, frames_of, Free, free_kind, get_or, get_or-set_other, get_or-set_same}
 use Rattle.ksm_book.proofs.Names.{get_or_past, given_by, Gives, HasNewFrame, holding, IsLawful, IsSetOf, KeeperStep, KeeperView, Keeps, Kind, Ledger, ledger_after, length, length-set, length-take-le}
-use Rattle.ksm_book.proofs.Names.{List, loads, Log, MakesSteps, map, map-append, Marks, mounting, named_anew, needed_after, None, NoneOf, Note, once_mounted, Open, opened, Option, PAGE_WORDS, Placed}
-use Rattle.ksm_book.proofs.Names.{puts, Raise, raised, Reap, reaped, refl, replayed, replicate, Row, set, set-get_or, set-set, set_past, Shape, Some, spent, spent_on, stepped, steps_of, suc}
-use Rattle.ksm_book.proofs.Names.{sum_by-set, take, take_more, true, with_frame, with_more, zero, [], ℕ, ◌*◌, ◌++◌, ◌+◌, ◌-◌, ◌<◌, ◌∙◌, ◌∷◌, ◌≡◌, ◌≢◌, ◌≤◌}
+use Rattle.ksm_book.proofs.Names.{List, loads, Log, MakesSteps, map, map-append, Marks, mounting, needed_after, None, NoneOf, Note, Open, opened, Option, PAGE_WORDS, Placed, puts, Raise, raised, Reap}
+use Rattle.ksm_book.proofs.Names.{reaped, refl, replayed, replicate, Row, set, set-get_or, set-set, set_past, Shape, Some, spent, spent_on, stepped, steps_of, suc, sum_by-set, take, take_more, true}
+use Rattle.ksm_book.proofs.Names.{with_frame, with_more, zero, [], ℕ, ◌*◌, ◌++◌, ◌+◌, ◌-◌, ◌<◌, ◌∙◌, ◌∷◌, ◌≡◌, ◌≢◌, ◌≤◌}
 use Rattle.ksm_book.proofs.Moves.{noted}
 
 -- a log is replayed part by part
@@ -93,11 +93,10 @@ spent_kept k g fr le = grind (arith, cases_lt, spent_set, set_past)
 pub held_within : (k : Ledger) (f : ℕ) → 1 ≤ (frame_at k f).base → f < length k.frames
 held_within k f some = grind (arith, get_or_past)
 
-module _ {sh : Shape} {across : ℕ} {rows : List Row} {frame : Frames} {dups : List DupRow} where
-  -- a frame in hand is one of the table, and has a reference
-  pub held_inside : {k : Ledger} {g : ℕ} → Placed sh across k rows frame dups (Some g)
-      → (g < frames_of sh) × (1 ≤ (frame_at k g).base)
-  held_inside {k} {g} p = grind (arith, held_within k g, p.bases g)
+-- a frame in hand is one of the table, and has a reference
+pub held_inside : {sh : Shape} {across : ℕ} {k : Ledger} {rows : List Row} {frame : Frames} {dups : List DupRow} {g : ℕ}
+    → Placed sh across k rows frame dups (Some g) → (g < frames_of sh) × (1 ≤ (frame_at k g).base)
+held_inside {k = k} {g = g} p = grind (arith, held_within k g, p.bases g)
 
 -- a frame that the keeper knows, on which nothing is
 abbrev IsLeft : Ledger → ℕ → Type 0
@@ -194,11 +193,6 @@ adds_ledger (suc n) {v} f lt m =
     let note = frame_at v.ledger f in
     follow v.ledger f lt (added note) (λ x. with_more x n) (adds_ledger n f (grind (arith, length-set)) first.1) refl
     ∙ ap (λ b. with_frame v.ledger f (record note { base = b })) (omega arith)
-
--- a frame that was raised, filled and opened, has got its references and is named anew is mounted
-pub once : (k : Ledger) (left g place count : ℕ) (words : List ℕ) → g < length k.frames → 1 ≤ count → words ≡ (frame_at k left).content
-    → named_anew (with_frame k g (with_more (opened (holding (raised (frame_at k g)) words)) (count - 1))) place g ≡ once_mounted k left g place count
-once k left g place count words lt some are = grind (arith, set-set, get_or-set_same)
 
 -- the words of a dying frame stay where a free one is raised
 pub words_kept : (v w : KeeperView) (f g found : ℕ) → (frame_at v.ledger g).kind ≡ Free → (frame_at v.ledger f).kind ≡ Dying → w ≡ did v (Raise g) found

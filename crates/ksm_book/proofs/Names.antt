@@ -31,18 +31,19 @@ pub use Rattle.ksm_book.specs.Placement.{node_of, NoneLeft, once_mounted, place_
 pub use Rattle.ksm_book.specs.Promised.{dup_frames, FindsPlace, is_in_use, IsOutlived, LieOn, own_frames, StandsOn}
 pub use Rattle.ksm_book.specs.Scanned.{ahead_before, ahead_up_to, Comes, FindsStill, FindsUpTo, HasVisited, is_nowhere, is_quiet, last_visited, passes_ended, Reached, StaysStill, Stops, up_to}
 pub use Rattle.ksm_book.specs.Scanned.{VisitsPage}
-pub use Rattle.ksm_book.specs.Terms.{Add, added, after_cursor, Ahead, Answer, are_paired, AreAscending, At, at_home_on, best_dup, blank, BookState, change_row, change_rows, comes_before, Command}
-pub use Rattle.ksm_book.specs.Terms.{count_in, default_knobs, Did, did, Done, Drop, dup_of_row, DupRow, Dying, effect, elsewhere, empty_from, EndsAt, every_row, Fault, filled, Find, FindsRow, FindsAt}
-pub use Rattle.ksm_book.specs.Terms.{FindsNext, first_ledger, frame_at, Frames, frames_of, Free, Freeze, fresh_row, frozen, GenerationFits, GuestPage, handled, has_item, has_items, HasRoom, HasRow}
-pub use Rattle.ksm_book.specs.Terms.{InPageOrder, InPlaceOrder, InUse, is_before, is_best, is_for_zero, is_next, is_no_rival, is_no_worse, is_of, is_restless, is_stale, IsAlone, IsAnswerOrMemory}
-pub use Rattle.ksm_book.specs.Terms.{IsDupOf, IsHeld, IsLoose, IsReadable, IsScanned, IsShape, IsSound, IsVacant, IsWritable, item_count, items_on, ItemsLieOn, KeeperStep, KeeperView, Kind, Ledger}
-pub use Rattle.ksm_book.specs.Terms.{ledger_after, let_go, lies_on, live_dup_at, made_dup, Marks, May, may_join, MayPair, Memory, Mergeable, mergeable_count, mergeable_pages, Merged, merged_into}
-pub use Rattle.ksm_book.specs.Terms.{merged_state, MOST_FRAMES, MOST_LIVES, MOST_REFERENCES, MoveDup, MovePage, named_anew, named_at, new_place, next_row, NoFrame, Note, nowhere, of_guest, on_its_own}
-pub use Rattle.ksm_book.specs.Terms.{Open, opened, OwnPage, page_beside, PAGE_WORDS, PageState, PagesView, paired, partner, pass_begun, pass_ended, pass_ended_at_last, place_count, Private, Prune}
-pub use Rattle.ksm_book.specs.Terms.{Pruned, Publish, Raise, raised, Reap, reaped, Register, relaid, Row, row_at, row_changed, row_visited, same_page, Scan, scan_stopped, Scanned, seen, SetAcross}
-pub use Rattle.ksm_book.specs.Terms.{SetLimit, SetPagesToScan, SetRun, settled, Shape, shared_state, shown, Stable, Store, stored, Sub, tree_of, UnknownPage, Unmerge, Unmerged, unshare_stopped}
-pub use Rattle.ksm_book.specs.Terms.{unshared, visit, visit_begun, visit_of, visits, Waiting, waiting_state, waits_for, with_dup, with_frame, with_row, Withdraw, without_page, Zero}
-pub use Rattle.ksm_book.specs.Whole.{BookValue, BookView, HasShown, listed, mapped, nodes_got, view_of}
+pub use Rattle.ksm_book.specs.Terms.{Add, added, after_cursor, Ahead, Answer, are_paired, AreAscending, AreKnobs, At, at_home_on, best_dup, blank, BookState, change_row, change_rows, comes_before}
+pub use Rattle.ksm_book.specs.Terms.{Command, count_in, default_knobs, Did, did, Done, Drop, dup_of_row, DupRow, Dying, effect, elsewhere, empty_from, EndsAt, every_row, Fault, filled, Find, FindsAt}
+pub use Rattle.ksm_book.specs.Terms.{FindsNext, FindsRow, first_ledger, frame_at, Frames, frames_of, Free, Freeze, fresh_row, frozen, GenerationFits, GuestPage, handled, has_item, has_items, HasRoom}
+pub use Rattle.ksm_book.specs.Terms.{HasRow, InPageOrder, InPlaceOrder, InUse, is_before, is_best, is_for_zero, is_next, is_no_rival, is_no_worse, is_of, is_restless, is_stale, IsAlone}
+pub use Rattle.ksm_book.specs.Terms.{IsAnswerOrMemory, IsDupOf, IsHeld, IsLoose, IsReadable, IsScanned, IsShape, IsSound, IsVacant, IsWritable, item_count, items_on, ItemsLieOn, KeeperStep}
+pub use Rattle.ksm_book.specs.Terms.{KeeperView, Kind, Ledger, ledger_after, let_go, lies_on, live_dup_at, made_dup, Marks, May, may_join, MayPair, Memory, Mergeable, mergeable_count, mergeable_pages}
+pub use Rattle.ksm_book.specs.Terms.{Merged, merged_into, merged_state, MOST_FRAMES, MOST_LIVES, MOST_REFERENCES, MoveDup, MovePage, named_anew, named_at, new_place, next_row, NoFrame, Note, nowhere}
+pub use Rattle.ksm_book.specs.Terms.{of_guest, on_its_own, Open, opened, OwnPage, page_beside, PAGE_WORDS, PageState, PagesView, paired, partner, pass_begun, pass_ended, pass_ended_at_last}
+pub use Rattle.ksm_book.specs.Terms.{place_count, Private, Prune, Pruned, Publish, Raise, raised, Reap, reaped, Register, relaid, Row, row_at, row_changed, row_visited, same_page, Scan, scan_stopped}
+pub use Rattle.ksm_book.specs.Terms.{Scanned, seen, SetAcross, SetLimit, SetPagesToScan, SetRun, settled, Shape, shared_state, shown, Stable, Store, stored, Sub, tree_of, UnknownPage, Unmerge}
+pub use Rattle.ksm_book.specs.Terms.{Unmerged, unshare_stopped, unshared, visit, visit_begun, visit_of, visits, Waiting, waiting_state, waits_for, with_dup, with_frame, with_row, Withdraw}
+pub use Rattle.ksm_book.specs.Terms.{without_page, Zero}
+pub use Rattle.ksm_book.specs.Whole.{BookValue, BookView, HasShown, mapped, nodes_got, view_of}
 pub use Rattle.ksm_order.proofs.Ordered.{absent_parts, any_found, none_found, with_rises, without_between, without_rises}
 pub use Rattle.ksm_pages.proofs.Found.{find_changed, find_changed_other, find_put, first_found as found_first}
 pub use Rattle.ksm_pages.proofs.Joined.{own_not_merged}
@@ -78,4 +79,4 @@ pub use Rattle.std.proofs.lemmas.Option.{get_or_from_slice_get, none-some, same_
 pub use Rattle.std.proofs.lemmas.Slice.Eq.{bytes_eq-Decides}
 pub use Rattle.std.specs.List.{list_any}
 pub use Rattle.std.specs.Prelude.{All, AllPairs, bytes_eq, Contains, count_by, filter, find, fold, IfSome, if◌then◌else◌, is_none, is_some, MatchBool, MatchOption, min, nat_le, nat_lt, not}
-pub use Rattle.std.specs.Prelude.{option_and_then, option_map, slice_get, ⊤, ◌&&◌, ◌==◌, ◌||◌}
+pub use Rattle.std.specs.Prelude.{option_and_then, option_map, option_to_list, slice_get, ⊤, ◌&&◌, ◌==◌, ◌||◌}

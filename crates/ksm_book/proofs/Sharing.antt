@@ -238,21 +238,17 @@ module _ {p q : PagesView} {k l : KeeperView} {count : ℕ} (h : Drops p q k l c
     laid = let placed = withdrawn place inside h.laid.placed in rw goes (grind (arith, is));
   }
 
--- where none is stale any more, all are gone
-module _ {p q : PagesView} {k l : KeeperView} {count : ℕ} (h : Drops p q k l count)
-    (told : None ≡ option_map (λ d. d.place) (find (is_stale q.rows) q.dups)) where
-  none : find (is_stale p.rows) q.dups ≡ None
-  none = grind arith
-
-  -- where no stale dup is left, the dups are those with items, as many went as were stale, and just the steps of a pruning were made
-  pub dropped : (q ≡ record p { dups = filter (has_items p.rows) p.dups }) × (count ≡ count_by (is_stale p.rows) p.dups)
-      × Performs (lying p k) (lying q l) (pruning p.rows p.dups p.frame)
-  dropped =
-      let each = find_none (is_stale p.rows) q.dups none in
-      let gone = filter_none (is_stale p.rows) q.dups each in
-      let made = h.made l (grind (arith, gone, made_none)) in
-      let counted = count_none (is_stale p.rows) q.dups each in
-      grind (arith, h.counted, none_stale p.rows q.dups none)
+-- where no stale dup is left, the dups are those with items, as many went as were stale, and just the steps of a pruning were made
+pub dropped : {p q : PagesView} {k l : KeeperView} {count : ℕ} → Drops p q k l count → None ≡ option_map (λ d. d.place) (find (is_stale q.rows) q.dups)
+    → (q ≡ record p { dups = filter (has_items p.rows) p.dups }) × (count ≡ count_by (is_stale p.rows) p.dups)
+    × Performs (lying p k) (lying q l) (pruning p.rows p.dups p.frame)
+dropped {p} {q} {l = l} h told =
+    let none : find (is_stale p.rows) q.dups ≡ None = grind arith in
+    let each = find_none (is_stale p.rows) q.dups none in
+    let gone = filter_none (is_stale p.rows) q.dups each in
+    let made = h.made l (grind (arith, gone, made_none)) in
+    let counted = count_none (is_stale p.rows) q.dups each in
+    grind (arith, h.counted, none_stale p.rows q.dups none)
 
 -- those that lay on f lie on g, and none lies on f any more
 module _ (f g : ℕ) (frame : Frames) (rows : List Row) where
@@ -396,11 +392,9 @@ module _ {v : PagesView} {k : KeeperView} {dup : DupRow} {node g : ℕ} (may : M
 
     -- the exchange of the old frame's count
     module _ {u : KeeperView} (found : ℕ) (freezes : u ≡ did w (Freeze g) found) where
-      -- it fails where a reader holds the frame
-      module _ (other : count_in found ≢ (frame_at w.ledger g).base) where
-        -- where the exchange found another count than the keeper's references, the dup stays
-        pub stays : HasRemounted v v k u dup node (Err InUse)
-        stays = grind (arith, reaps_spend _ _ _ to.reaped, p, known, item_lies)
+      -- where the exchange found another count than the keeper's references, the dup stays
+      pub stays : count_in found ≢ (frame_at w.ledger g).base → HasRemounted v v k u dup node (Err InUse)
+      stays other = grind (arith, reaps_spend _ _ _ to.reaped, p, known, item_lies)
 
       -- it is made where the keeper's references are all
       module _ (all : count_in found ≡ (frame_at w.ledger g).base) where

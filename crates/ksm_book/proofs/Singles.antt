@@ -1,15 +1,15 @@
 -- The commands carried out: on single pages, on one dup, and on all pages of a guest, or all, which leave their dups, or the zero
 -- page, one after another.
 use Rattle.ksm_book.specs.declared.state.State.TheInside.{Inside}
-use Rattle.ksm_book.proofs.Names.{absent_parts, All, All-map, Answer, any_found, ap, append-nil, arith, at_home_on, BookState, BookValue, BookView, Bool, change_row, change_rows, comes_before}
-use Rattle.ksm_book.proofs.Names.{Command, count_by-le-length, count_more, Done, Drop, DupRow, Err, false, Fault, filter, filter_passes, find, find_all, find_passes, find_put, FindsNone, frame_at}
-use Rattle.ksm_book.proofs.Names.{frames_of, fresh_row, get_or-append_seam, GuestPage, HasLeft, HasNewFrame, HasRemounted, Held, holding, IfSome, inl, InPageOrder, is_next, is_of, is_shared_of}
-use Rattle.ksm_book.proofs.Names.{is_some, IsCarried, IsHeld, IsLaid, IsReadable, IsSound, IsWritable, KeeperView, Knobs, leaving, left_by, length, length-append, let_go, lies_on, LiesWith, List}
-use Rattle.ksm_book.proofs.Names.{list_any, live_dup_at, lying, MakesSteps, map, map_alike, map_fixed, map_mapped, Mapped, MatchOption, MayLeave, MayMove, MayNotLeave, Mergeable, mergeable_count}
-use Rattle.ksm_book.proofs.Names.{MoveDup, MovePage, NoFrame, None, not, of_guest, Ok, Option, option_map, PAGE_WORDS, pages_ordered, PagesView, Provides, puts, refl, Register, relaid, Resettles}
-use Rattle.ksm_book.proofs.Names.{ResettlesEach, Row, row_at, same_page, same_page_refl, same_Some, seen, SetRun, shared_state, slice_get-get_or, slice_get_past, Some, sound_after, sound_settings}
-use Rattle.ksm_book.proofs.Names.{state_of, stepped, Store, stored, take-append_seam, true, UnknownPage, Unmerge, Unmerged, unshare_stopped, unshared, Unshares, view_of, with_frame, with_row}
-use Rattle.ksm_book.proofs.Names.{without_between, without_page, [], ℕ, ◌++◌, ◌+◌, ◌<◌, ◌==◌, ◌∙◌, ◌∷◌, ◌≡◌, ◌≤◌}
+use Rattle.ksm_book.proofs.Names.{absent_parts, All, All-map, Answer, any_found, ap, append-nil, AreKnobs, arith, at_home_on, BookState, BookValue, BookView, Bool, change_row, change_rows}
+use Rattle.ksm_book.proofs.Names.{comes_before, Command, count_by-le-length, count_more, Done, Drop, DupRow, Err, false, Fault, filter, filter_passes, find, find_all, find_passes, find_put, FindsNone}
+use Rattle.ksm_book.proofs.Names.{frame_at, frames_of, fresh_row, get_or-append_seam, GuestPage, HasLeft, HasNewFrame, HasRemounted, Held, holding, IfSome, inl, InPageOrder, is_next, is_of}
+use Rattle.ksm_book.proofs.Names.{is_shared_of, is_some, IsCarried, IsHeld, IsLaid, IsReadable, IsSound, IsWritable, KeeperView, Knobs, leaving, left_by, length, length-append, let_go, lies_on}
+use Rattle.ksm_book.proofs.Names.{LiesWith, List, list_any, live_dup_at, lying, MakesSteps, map, map_alike, map_fixed, map_mapped, Mapped, MatchOption, MayLeave, MayMove, MayNotLeave, Mergeable}
+use Rattle.ksm_book.proofs.Names.{mergeable_count, MoveDup, MovePage, NoFrame, None, not, of_guest, Ok, Option, option_map, PAGE_WORDS, pages_ordered, PagesView, Provides, puts, refl, Register}
+use Rattle.ksm_book.proofs.Names.{relaid, Resettles, ResettlesEach, Row, row_at, same_page, same_page_refl, same_Some, seen, SetRun, shared_state, slice_get-get_or, slice_get_past, Some, sound_after}
+use Rattle.ksm_book.proofs.Names.{sound_settings, state_of, stepped, Store, stored, take-append_seam, true, UnknownPage, Unmerge, Unmerged, unshare_stopped, unshared, Unshares, view_of, with_frame}
+use Rattle.ksm_book.proofs.Names.{with_row, without_between, without_page, [], ℕ, ◌++◌, ◌+◌, ◌<◌, ◌==◌, ◌∙◌, ◌∷◌, ◌≡◌, ◌≤◌}
 use Rattle.ksm_book.proofs.ByPage.{found_page, lies_again, lies_still, row_of_page}
 use Rattle.ksm_book.proofs.Laying.{come_there, laid_changed, laid_left, laid_mapped, laid_rows, may_leave, resettled, retuned, serves_at, turned}
 use Rattle.ksm_book.proofs.Made.{spent_kept}
@@ -35,11 +35,12 @@ lawful s h = (grind (arith, sound_after), h.1)
 
 -- where a knob on which no dup hangs gets a value in its range, the state is sound, and all lies lawfully
 pub tuned : {p q : PagesView} {k : KeeperView} {cursor : Option GuestPage} {passes run pages zero_pages : ℕ} → IsSound (state_of p cursor passes) × IsLaid p k
-    → q ≡ record p { knobs = record p.knobs { run = run; pages_to_scan = pages; use_zero_pages = zero_pages } } → run ≤ 2 → (1 ≤ pages) × (pages ≤ 1000000) → zero_pages ≤ 1
-    → IsSound (state_of q cursor passes) × IsLaid q k
-tuned {p} {cursor = cursor} {passes} {run} {pages} {zero_pages} h goes few in_range either =
+    → q ≡ record p { knobs = record p.knobs { run = run; pages_to_scan = pages; use_zero_pages = zero_pages } }
+    → (AreKnobs p.knobs → (run ≤ 2) × ((1 ≤ pages) × (pages ≤ 1000000)) × (zero_pages ≤ 1)) → IsSound (state_of q cursor passes) × IsLaid q k
+tuned {p} {cursor = cursor} {passes} {run} {pages} {zero_pages} h goes fits =
+    let fit = fits h.0.knobs in
     rw goes (
-      sound_settings (state_of p cursor passes) run pages zero_pages passes cursor few in_range either h.0.passes h.0,
+      sound_settings (state_of p cursor passes) run pages zero_pages passes cursor fit.0 fit.1 fit.2 h.0.passes h.0,
       retuned (inl refl) h.1,
     )
 

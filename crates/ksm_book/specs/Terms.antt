@@ -20,7 +20,7 @@ pub use Rattle.ksm_base.specs.Reading.{bytes_of, mappers_of, ticket_of}
 pub use Rattle.ksm_base.specs.Refusals.{changes_while_shared, is_known, is_of, live_dup_at}
 pub use Rattle.ksm_base.specs.Rows.{all_zero, change_row, change_rows, comes_before, has_items, InPageOrder, InPlaceOrder, is_stale, item_count, merged_into, merged_state, row_at, same_page, settled}
 pub use Rattle.ksm_base.specs.Rows.{shared_state, waiting_state, with_dup, with_row, without_page, zero_state}
-pub use Rattle.ksm_base.specs.Sound.{IsDupOf, IsSound}
+pub use Rattle.ksm_base.specs.Sound.{AreKnobs, IsDupOf, IsSound}
 pub use Rattle.ksm_base.specs.State.{BookState, default_knobs, opening, pass_ended, place_count, tree_of}
 pub use Rattle.ksm_base.specs.Values.{frames_of, IsShape}
 pub use Rattle.ksm_base.specs.Visit.{after_cursor, best_dup, empty_from, handled, is_best, is_for_zero, is_no_rival, is_no_worse, made_dup, may_join, new_place, next_row, paired, partner, pass_begun}

@@ -1,5 +1,5 @@
 -- The book with the keeper of its frames, and what a command does with the keeper (own).
-use Rattle.std.specs.Prelude.{ℕ, List, [], ◌∷◌, map, take, Option, Some, None, Ok, Err}
+use Rattle.std.specs.Prelude.{ℕ, List, [], map, take, option_to_list, Some, Ok, Err}
 use Rattle.ksm_book.specs.Terms.{Answer, BookState, Command, Done, every_row, frame_needed, frame_of, Frames, InUse, is_of, KeeperView, Lodging, MoveDup, NoFrame, SetRun, shared_rows, Unmerge}
 use Rattle.ksm_book.specs.Terms.{Unmerged}
 use Rattle.ksm_book.specs.Steps.{AllocatesOn}
@@ -25,13 +25,9 @@ view_of b = record { state = b.state; frame = frame_of b.lodgings; keeper = b.ke
 abbrev pub mapped : BookView → Mapped
 mapped v = record { frame = v.frame; keeper = v.keeper }
 
-abbrev pub listed : Option ℕ → List ℕ
-listed None = []
-listed (Some node) = node ∷ []
-
 -- the nodes of the frames that a command needed and got, in order
 abbrev pub nodes_got : BookState → Answer → Command → List ℕ
-nodes_got b (Ok Done) command = listed (frame_needed b command)
+nodes_got b (Ok Done) command = option_to_list (frame_needed b command)
 nodes_got b (Ok (Unmerged k stop)) (Unmerge guest) = map (λ r. r.home) (take k (shared_rows (is_of guest) b))
 nodes_got b (Ok (Unmerged k stop)) (SetRun v) = map (λ r. r.home) (take k (shared_rows every_row b))
 nodes_got b _ _ = []

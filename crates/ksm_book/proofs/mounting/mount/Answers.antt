@@ -1,5 +1,5 @@
-use Rattle.ksm_book.proofs.Names.{ap, holding, KeeperView, opened, with_more, ◌-◌, ◌∙◌}
-use Rattle.ksm_book.proofs.Made.{follow, once, words_kept}
+use Rattle.ksm_book.proofs.Names.{ap, arith, get_or-set_same, holding, KeeperView, opened, set-set, with_more, ◌-◌, ◌∙◌}
+use Rattle.ksm_book.proofs.Made.{follow, words_kept}
 use Rattle.ksm_book.proofs.mounting.mount.Goals as goal
 
 pub returns-clause-ledger : goal.returns-clause-ledger
@@ -12,4 +12,4 @@ returns-clause-ledger c =
     let opens = follow k g may.known _ opened (rw c.open.ensures) writes in
     let adds = follow k g may.known _ (λ x. with_more x (c.args.count - 1)) c.add_times.ensures.ledger opens in
     let words = c.load-bytes.ensures.bytes ∙ words_kept _ _ _ g _ may.free may.dying c.raise.ensures.1 in
-    rw (c.publish.ensures, adds) (once k c.args.left g c.args.place c.args.count _ may.known may.some words)
+    rw (c.publish.ensures, adds) (grind (arith, set-set, get_or-set_same))

@@ -3,6 +3,4 @@ use Rattle.ksm_book.proofs.Singles.{tuned}
 use Rattle.ksm_book.proofs.state.State.set_zero_pages.Goals as goal
 
 pub invariant_of-self : goal.invariant_of-self
-invariant_of-self c =
-    let s = c.self.invariant.0.knobs in
-    tuned c.self.invariant (rw c.knobs-knobs.ensures at c.set_knobs.ensures) s.run s.pages_to_scan (omega arith)
+invariant_of-self c = tuned c.self.invariant (rw c.knobs-knobs.ensures at c.set_knobs.ensures) (λ are. grind arith)
