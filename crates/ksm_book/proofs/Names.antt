@@ -25,9 +25,9 @@ pub use Rattle.ksm_book.specs.Commands.{rewriting, row_visiting, then_doing, wit
 pub use Rattle.ksm_book.specs.Due.{AreDue, comes_later, due_visited, DueView, FindsFirst, freed, hidden_from, names, pages_of, part_before, part_visited, StaysBefore, takes_over, TakesOver, TellsDue}
 pub use Rattle.ksm_book.specs.Due.{waits_on, with_rows}
 pub use Rattle.ksm_book.specs.Folded.{begun, IsStill, next_visited, page_visited, pages_ahead, pages_visited, restless_at, Stage, visited, visits_beside}
+pub use Rattle.ksm_book.specs.Keeping.{AreSets, HasLost, HasMoved, HasNewFrame, holding, IsSetOf, Keeps, MayLeave, MayMount, NoneLeft, once_mounted, spent, spent_on, with_more}
 pub use Rattle.ksm_book.specs.Laid.{HasLeft, HasRemounted, is_shared_of, IsLaid, left_by, LiesWith, lying, MayMove, MayNotLeave, state_of, TurnedAway, Unshares}
-pub use Rattle.ksm_book.specs.Placement.{Agrees, AreSets, DupFits, FitsBase, HasLost, HasMoved, HasNewFrame, holding, in_hand, IsInLife, IsLawful, IsServed, IsSetOf, Keeps, MayLeave, MayMount}
-pub use Rattle.ksm_book.specs.Placement.{node_of, NoneLeft, once_mounted, place_frame, Placed, RowFits, spent, spent_on, uses, with_more}
+pub use Rattle.ksm_book.specs.Placement.{Agrees, DupFits, FitsBase, in_hand, IsInLife, IsLawful, IsServed, node_of, place_frame, Placed, RowFits, uses}
 pub use Rattle.ksm_book.specs.Promised.{dup_frames, FindsPlace, is_in_use, IsOutlived, LieOn, own_frames, StandsOn}
 pub use Rattle.ksm_book.specs.Scanned.{ahead_before, ahead_up_to, Comes, FindsStill, FindsUpTo, HasVisited, is_nowhere, is_quiet, last_visited, passes_ended, Reached, StaysStill, Stops, up_to}
 pub use Rattle.ksm_book.specs.Scanned.{VisitsPage}

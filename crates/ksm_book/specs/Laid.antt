@@ -3,7 +3,8 @@
 use Rattle.std.specs.Prelude.{◌≡◌, ℕ, ◌<◌, ◌≤◌, ◌&&◌, ◌==◌, find, Ok, Err, Option, None, Some, List, [], Bool, true, ◌∷◌, length, filter, take, slice_get, option_map, if◌then◌else◌}
 use Rattle.ksm_book.specs.Terms.{Answer, BookState, change_row, change_rows, Done, DupRow, Fault, GuestPage, has_items, InUse, is_before, IsShape, IsSound, KeeperView, let_go, NoFrame, of_guest}
 use Rattle.ksm_book.specs.Terms.{PagesView, Row, row_at, shared_state, unshared}
-use Rattle.ksm_book.specs.Placement.{Placed, spent}
+use Rattle.ksm_book.specs.Placement.{Placed}
+use Rattle.ksm_book.specs.Keeping.{spent}
 use Rattle.ksm_book.specs.Steps.{Allocates, loads}
 use Rattle.ksm_book.specs.Commands.{FindsHeld, Mapped, Moves, ResettlesEach, TurnsAway}
 use Rattle.ksm_book.specs.Carried.{UnmergesTo}

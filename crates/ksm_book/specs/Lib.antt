@@ -1,5 +1,6 @@
 pub mod Terms
 pub mod Placement
+pub mod Keeping
 pub mod Steps
 pub mod Commands
 pub mod Laid

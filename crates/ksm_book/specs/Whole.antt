@@ -4,7 +4,7 @@ use Rattle.ksm_book.specs.Terms.{Answer, BookState, Command, Done, every_row, fr
 use Rattle.ksm_book.specs.Terms.{Unmerged}
 use Rattle.ksm_book.specs.Steps.{AllocatesOn}
 use Rattle.ksm_book.specs.Commands.{Mapped}
-use Rattle.ksm_book.specs.Placement.{HasLost, HasMoved, NoneLeft}
+use Rattle.ksm_book.specs.Keeping.{HasLost, HasMoved, NoneLeft}
 
 -- what is seen of the book: its state, the frame of each page, and the keeper
 pub record BookView : Type 0 where

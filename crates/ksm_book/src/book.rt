@@ -7,7 +7,7 @@ ghost use Rattle.ksm_book.specs.Terms.{ReadsLastStored, ticket_of};
 ghost use Rattle.ksm_book.specs.Carried.{CarriedOut, CarriesOut, unjournaled};
 ghost use Rattle.ksm_book.specs.Due.{TellsDue};
 ghost use Rattle.ksm_book.specs.Laid.{LoadsIf};
-ghost use Rattle.ksm_book.specs.Placement.{spent};
+ghost use Rattle.ksm_book.specs.Keeping.{spent};
 ghost use Rattle.ksm_book.specs.Promised.{FindsPlace, LieOn, NumbersAreSmall};
 
 use crate::due::Due;

@@ -2,7 +2,7 @@
 
 ghost use Rattle.std.specs.Prelude.{◌≡◌, ◌<◌, ◌≤◌, ℕ, ◌↔◌, IfErr, IfOk, IsTrue, MatchOption, slice_index};
 ghost use Rattle.ksm_book.specs.Terms.{Add, count_in, Did, did, first_ledger, frame_at, frame_word, frames_of, Freeze, IsShape, May, Memory, Open, Publish, Put, Raise, Reap, Sub, Withdraw, Word};
-ghost use Rattle.ksm_book.specs.Placement.{MayLeave};
+ghost use Rattle.ksm_book.specs.Keeping.{MayLeave};
 ghost use Rattle.ksm_book.specs.Steps.{NoneOf, IsFirstOf, free_kind, dying_kind};
 
 use frame_core::Kind;
@@ -24,7 +24,7 @@ pub struct FrameKeeper {
 
 impl Model for FrameKeeper {
     ghost use Rattle.ksm_book.specs.Terms.{KeeperView};
-    ghost use Rattle.ksm_book.specs.Placement.{AreSets};
+    ghost use Rattle.ksm_book.specs.Keeping.{AreSets};
 
     ghost Value = { KeeperView };
 

@@ -2,7 +2,8 @@
 
 ghost use Rattle.std.specs.Prelude.{◌≡◌, ◌<◌, ◌≤◌, ◌-◌, None, IfSome, IsTrue, MatchOption, [], ◌∷◌, length, map, if◌then◌else◌};
 ghost use Rattle.ksm_book.specs.Terms.{frame_at, frames_of, IsReadable, IsShape, IsWritable, May, Reap, with_frame, Withdraw, WORDS};
-ghost use Rattle.ksm_book.specs.Placement.{MayLeave, holding, IsLawful, HasNewFrame};
+ghost use Rattle.ksm_book.specs.Placement.{IsLawful};
+ghost use Rattle.ksm_book.specs.Keeping.{MayLeave, holding, HasNewFrame};
 ghost use Rattle.ksm_book.specs.Steps.{dying_from, loads, puts, stepped, MakesSteps, Finds, FindsNone, Provides};
 ghost use Rattle.ksm_book.specs.Commands.{leaving};
 

@@ -4,7 +4,7 @@ ghost use Rattle.std.specs.Prelude.{◌≡◌, ◌<◌, ◌≤◌, ◌+◌, repl
 ghost use Rattle.ksm_book.specs.Terms.{Add, did, frame_at, frames_of, KeeperView, MOST_REFERENCES, Publish, with_frame};
 ghost use Rattle.ksm_book.specs.Steps.{MakesSteps};
 ghost use Rattle.ksm_book.specs.Commands.{mounting};
-ghost use Rattle.ksm_book.specs.Placement.{with_more, MayMount, once_mounted};
+ghost use Rattle.ksm_book.specs.Keeping.{with_more, MayMount, once_mounted};
 
 use crate::frame_keeper::FrameKeeper;
 use crate::frames::{load, write};

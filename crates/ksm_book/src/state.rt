@@ -5,7 +5,7 @@ ghost use Rattle.std.specs.Prelude.{◌≡◌, ◌≤◌, ◌||◌, ℕ, List, t
 ghost use Rattle.ksm_book.specs.Terms.{bytes_of, change_row, counters_of, first_ledger, has_item, IsAlone, IsKnown, IsShape, IsSound, Memory, nowhere, opening, page_beside, row_at, stored};
 ghost use Rattle.ksm_book.specs.Carried.{CarriesOut};
 ghost use Rattle.ksm_book.specs.Whole.{view_of};
-ghost use Rattle.ksm_book.specs.Placement.{spent};
+ghost use Rattle.ksm_book.specs.Keeping.{spent};
 ghost use Rattle.ksm_book.specs.Laid.{LoadsIf};
 ghost use Rattle.ksm_book.specs.Due.{names, TellsDue};
 ghost use Rattle.ksm_book.specs.Promised.{FindsPlace, LieOn, NumbersAreSmall};
