@@ -1,15 +1,14 @@
 //! Audits of a shared book: their rows while a frame is named, dying and given again, a held worker, and a gate that
 //! refuses.
 ghost use Rattle.std.specs.Prelude.{◌≡◌, ◌<◌, All, vec_len};
-ghost use Rattle.ksm_base.specs.Values.{frames_of};
 
+use crate::books::{Trial, in_book};
+use crate::commands::all_done;
 use frame_table::{Pass, Why};
 use ksm_audit::{AuditFault, Gate, OpenGate, PlacePermit, Report, Row, audit};
-use ksm_base::{Command, Fault, GuestPage, PAGE_WORDS, PageBytes, Shape};
+use ksm_base::{Command, GuestPage, PAGE_WORDS, PageBytes, Shape};
 use ksm_shared::{Ksm, Naming, Parts, Share};
 use std::alloc::Global;
-use std::marker::Brand;
-use std::process::Abort;
 use std::sync::Wait;
 use std::sync::atomic::{AtomicU64, Ordering};
 use std::test::Fail;
@@ -51,20 +50,6 @@ fn store(number: u32, word: u64) -> Command {
         page: at(number),
         bytes: [word; PAGE_WORDS],
     }
-}
-
-// Makes the commands, and says whether each was done, or counted something.
-fn all_done<N: Naming>(
-    rt: &impl Wait,
-    ksm: &Ksm<N>,
-    share: &mut Share<N>,
-    commands: &[Command],
-) -> bool {
-    let mut done = true;
-    for command in commands {
-        done &= ksm.command(rt, share, command).result().is_ok();
-    }
-    done
 }
 
 // Two pages are merged at the place 0, on the frame 0.
@@ -134,52 +119,26 @@ pub fn audit_once<N: Naming, R: Threads + Sync, G: Gate + Sync>(
     }
 }
 
-// An audit through the open gate, which refuses no place. None: memory was refused.
-fn audit_open<N: Naming, R: Threads + Sync>(
+// An audit through the open gate, which refuses no place, made again where memory was refused. Whether it shows these
+// rows.
+fn audit_shows<N: Naming, R: Threads + Sync>(
     rt: &R,
     alloc: Global,
     ksm: &Ksm<N>,
     passes: Vec<Pass>,
-) -> (Option<Report>, Vec<Pass>)
+    rows: &[Row],
+) -> (bool, Vec<Pass>)
     requires some { 0 < vec_len passes }
     requires own { All (λ p. p.table ≡ N.parts.frames) passes.items }
     ensures count { vec_len result.1 ≡ vec_len passes }
     ensures own { All (λ p. p.table ≡ N.parts.frames) result.1.items }
 {
-    match audit(rt, alloc, ksm, passes, &OpenGate) {
-        Ok((report, passes)) => (Some(report), passes),
-        Err(fault) => {
-            let AuditFault::Memory(passes) = fault else {
-                unreachable!()
-            };
-            (None, passes)
+    match audit_once(rt, alloc, ksm, passes, &OpenGate) {
+        (Ending::Memory, passes) => {
+            let (ending, passes) = audit_once(rt, alloc, ksm, passes, &OpenGate);
+            (ending.has(rows), passes)
         }
-    }
-}
-
-// The same, made again where memory was refused.
-fn audit_again<N: Naming, R: Threads + Sync>(
-    rt: &R,
-    alloc: Global,
-    ksm: &Ksm<N>,
-    passes: Vec<Pass>,
-) -> (Option<Report>, Vec<Pass>)
-    requires some { 0 < vec_len passes }
-    requires own { All (λ p. p.table ≡ N.parts.frames) passes.items }
-    ensures count { vec_len result.1 ≡ vec_len passes }
-    ensures own { All (λ p. p.table ≡ N.parts.frames) result.1.items }
-{
-    let (report, passes) = audit_open(rt, alloc, ksm, passes);
-    match report {
-        Some(report) => (Some(report), passes),
-        None => audit_open(rt, alloc, ksm, passes),
-    }
-}
-
-fn shows(report: &Option<Report>, rows: &[Row]) -> bool {
-    match report {
-        Some(report) => report.rows() == rows,
-        None => false,
+        (ending, passes) => (ending.has(rows), passes),
     }
 }
 
@@ -189,14 +148,14 @@ fn rows(first: Row) -> [Row; 4] {
     [first, vacant, vacant, vacant]
 }
 
-// What audits show while a dup is there, once its frame is dead, and in the frame's next life.
-fn three_audits<N: Naming, R: Threads + Wait + Abort + Sync>(
+/// Whether audits show the dup while it is there, its dead frame, and nothing in the frame's next life.
+pub fn three_audits<N: Naming, R: Threads + Wait + Sync>(
     rt: &R,
     alloc: Global,
     ksm: &Ksm<N>,
-    share: &mut Share<N>,
     passes: Vec<Pass>,
-) -> ([bool; 3], Vec<Pass>)
+    share: &mut Share<N>,
+) -> (bool, Vec<Pass>)
     requires some { 0 < vec_len passes }
     requires own { All (λ p. p.table ≡ N.parts.frames) passes.items }
     ensures count { vec_len result.1 ≡ vec_len passes }
@@ -207,42 +166,20 @@ fn three_audits<N: Naming, R: Threads + Wait + Abort + Sync>(
         bytes: page(),
     };
     let first = first_book(rt, ksm, share);
-    let (report, passes) = audit_again(rt, alloc, ksm, passes);
-    let held = first && shows(&report, &rows(found));
+    let (held, passes) = audit_shows(rt, alloc, ksm, passes, &rows(found));
     let second = second_book(rt, ksm, share);
-    let (report, passes) = audit_again(rt, alloc, ksm, passes);
-    let dead = second && shows(&report, &rows(Row::Gone(Why::Zero)));
+    let (dead, passes) = audit_shows(rt, alloc, ksm, passes, &rows(Row::Gone(Why::Zero)));
     let third = third_book(rt, ksm, share);
-    let (report, passes) = audit_again(rt, alloc, ksm, passes);
-    let reborn = third && shows(&report, &rows(Row::Gone(Why::Generation)));
-    ([held, dead, reborn], passes)
-}
-
-fn three_books<N: Naming, R: Threads + Wait + Abort + Sync>(
-    rt: &R,
-    alloc: Global,
-    parts: Parts,
-) -> Result<(), Fail>
-    requires name { parts ≡ N.parts }
-    requires passes { parts.frames.shape.passes ≡ 2 }
-    requires frames { 0 < frames_of parts.frames.shape }
-{
-    let (ksm, passes, mut shares, _readers) = Ksm::<N>::open(parts)?;
-    let Some(mut share) = shares.pop() else {
-        let _closed = ksm.close(rt, passes);
-        return Err(Fail::from("share"));
-    };
-    let (shown, passes) = three_audits(rt, alloc, &ksm, &mut share, passes);
-    let closed = ksm.close(rt, passes);
-    assert!(rt; shown == [true; 3]);
-    assert!(rt; closed.count(0) == 1);
-    Ok(())
+    let (reborn, passes) = audit_shows(rt, alloc, ksm, passes, &rows(Row::Gone(Why::Generation)));
+    (first && held && second && dead && third && reborn, passes)
 }
 
 #[test]
 fn rows_of_three_books(rt: HostRuntime) -> Result<(), Fail> {
     let parts = Parts::open(rt.alloc(), SHAPE, 1)?;
-    three_books::<Brand, _>(&rt, rt.alloc(), parts)
+    let outcome = in_book(&rt, rt.alloc(), parts, Trial::ThreeAudits)?;
+    assert!(rt; outcome.right && outcome.count == 1);
+    Ok(())
 }
 
 // Holds each lookup of one worker until the other one has answered, for a number of turns.
@@ -284,8 +221,8 @@ impl Gate for Turns {
     }
 }
 
-// Whether an audit by two workers gives its rows where one of them is held.
-fn passes_where_held<N: Naming, R: Threads + Sync>(
+/// Whether an audit of an opening book by two workers gives its rows where one of them is held.
+pub fn held_audit<N: Naming, R: Threads + Sync>(
     rt: &R,
     alloc: Global,
     ksm: &Ksm<N>,
@@ -305,36 +242,13 @@ fn passes_where_held<N: Naming, R: Threads + Sync>(
     (ending.has(&rows(Row::Gone(Why::Vacant))), passes)
 }
 
-// An audit of an opening book by two workers, one of which is held.
-fn held_audit<N: Naming, R: Threads + Wait + Sync>(
-    rt: &R,
-    alloc: Global,
-    parts: Parts,
-    held: u32,
-) -> Result<bool, Fault>
-    requires name { parts ≡ N.parts }
-    requires passes { parts.frames.shape.passes ≡ 2 }
-{
-    let (ksm, passes, _shares, _readers) = Ksm::<N>::open(parts)?;
-    let (passed, passes) = passes_where_held(rt, alloc, &ksm, passes, held);
-    let _closed = ksm.close(rt, passes);
-    Ok(passed)
-}
-
 // On one thread a worker would wait for another that has not begun.
 #[test]
-fn the_second_worker_answers_while_the_first_is_held(rt: HostRuntime) -> Result<(), Fail> {
-    let parts = Parts::open(rt.alloc(), SHAPE, 1)?;
-    let passed = held_audit::<Brand, _>(&rt, rt.alloc(), parts, 0)?;
-    assert!(rt; passed);
-    Ok(())
-}
-
-#[test]
-fn the_first_worker_answers_while_the_second_is_held(rt: HostRuntime) -> Result<(), Fail> {
-    let parts = Parts::open(rt.alloc(), SHAPE, 1)?;
-    let passed = held_audit::<Brand, _>(&rt, rt.alloc(), parts, 1)?;
-    assert!(rt; passed);
+fn each_worker_answers_while_the_other_is_held(rt: HostRuntime) -> Result<(), Fail> {
+    for held in 0..2 {
+        let parts = Parts::open(rt.alloc(), SHAPE, 1)?;
+        assert!(rt; in_book(&rt, rt.alloc(), parts, Trial::Held(held))?.right);
+    }
     Ok(())
 }
 
@@ -370,25 +284,27 @@ impl Gate for Refuses {
     }
 }
 
-// An audit that the gate refuses the place 2: whether it says so, and how often it asked and told.
-fn refused_audit<N: Naming, R: Threads + Wait + Sync>(
+/// Whether an audit that the gate refuses the place 2 says so, having asked three times and told twice.
+pub fn refused_audit<N: Naming, R: Threads + Sync>(
     rt: &R,
     alloc: Global,
-    parts: Parts,
-) -> Result<(bool, u64, u64), Fault>
-    requires name { parts ≡ N.parts }
-    requires passes { parts.frames.shape.passes ≡ 1 }
+    ksm: &Ksm<N>,
+    passes: Vec<Pass>,
+) -> (bool, Vec<Pass>)
+    requires some { 0 < vec_len passes }
+    requires own { All (λ p. p.table ≡ N.parts.frames) passes.items }
+    ensures count { vec_len result.1 ≡ vec_len passes }
+    ensures own { All (λ p. p.table ≡ N.parts.frames) result.1.items }
 {
-    let (ksm, passes, _shares, _readers) = Ksm::<N>::open(parts)?;
     let gate = Refuses {
         place: 2,
         asked: AtomicU64::new(0),
         told: AtomicU64::new(0),
     };
-    let (ending, passes) = audit_once(rt, alloc, &ksm, passes, &gate);
-    let _closed = ksm.close(rt, passes);
+    let (ending, passes) = audit_once(rt, alloc, ksm, passes, &gate);
     let asked = gate.asked.load(Ordering::SeqCst);
-    Ok((ending.refused(2), asked, gate.told.load(Ordering::SeqCst)))
+    let told = gate.told.load(Ordering::SeqCst);
+    (ending.refused(2) && asked == 3 && told == 2, passes)
 }
 
 // With one pass, places are asked for in order, up to the one refused.
@@ -396,7 +312,6 @@ fn refused_audit<N: Naming, R: Threads + Wait + Sync>(
 fn a_refusal_ends_the_audit(rt: HostRuntime) -> Result<(), Fail> {
     let shape = Shape { passes: 1, ..SHAPE };
     let parts = Parts::open(rt.alloc(), shape, 1)?;
-    let told = refused_audit::<Brand, _>(&rt, rt.alloc(), parts)?;
-    assert!(rt; told == (true, 3, 2));
+    assert!(rt; in_book(&rt, rt.alloc(), parts, Trial::Refused)?.right);
     Ok(())
 }

@@ -1,15 +1,15 @@
 //! A gate is asked before each lookup of an audit and told after it: it moves the dup at the first place both times,
 //! which is done only where nobody holds its frame, and the lookup finds the frame of the first move.
-ghost use Rattle.std.specs.Prelude.{◌≡◌};
+ghost use Rattle.std.specs.Prelude.{◌≡◌, ◌<◌, All, vec_len};
 
 use crate::audits::audit_once;
+use crate::books::{Trial, in_book};
 use crate::commands::{DONE, all_done, filled, merge_two, page, register};
-use frame_table::Why;
+use frame_table::{Pass, Why};
 use ksm_audit::{Gate, PlacePermit, Row};
-use ksm_base::{Command, Fault, Shape};
+use ksm_base::{Command, Shape};
 use ksm_shared::{Ksm, Naming, Parts, Share};
 use std::alloc::Global;
-use std::marker::Brand;
 use std::sync::atomic::{AtomicU64, Ordering};
 use std::sync::{Mutex, MutexGuard, Wait};
 use std::test::Fail;
@@ -74,37 +74,34 @@ fn second_life<N: Naming>(rt: &impl Wait, ksm: &Ksm<N>, share: &mut Share<N>) ->
     all_done(rt, ksm, share, &first_life) && merge_two(rt, ksm, share)
 }
 
-// Whether the audit's row of place 0 is that of the frame between the two moves, and how many moves were done.
-fn moves<N: Naming + Send + Sync, R: Threads + Wait + Sync>(
+/// Whether the audit's row of place 0 is that of the frame between the two moves, and both moves were done.
+pub fn moves<N: Naming + Send + Sync, R: Threads + Wait + Sync>(
     rt: &R,
     alloc: Global,
-    parts: Parts,
-) -> Result<(bool, u64), Fault>
-    requires name { parts ≡ N.parts }
-    requires passes { parts.frames.shape.passes ≡ 1 }
+    ksm: &Ksm<N>,
+    passes: Vec<Pass>,
+    mut share: Share<N>,
+) -> (bool, Vec<Pass>)
+    requires some { 0 < vec_len passes }
+    requires own { All (λ p. p.table ≡ N.parts.frames) passes.items }
+    ensures count { vec_len result.1 ≡ vec_len passes }
+    ensures own { All (λ p. p.table ≡ N.parts.frames) result.1.items }
 {
-    let (ksm, passes, mut shares, _readers) = Ksm::<N>::open(parts)?;
-    let Some(mut share) = shares.pop() else {
-        drop(ksm.close(rt, passes));
-        return Ok((false, 0));
-    };
-    let ready = second_life(rt, &ksm, &mut share);
+    let ready = second_life(rt, ksm, &mut share);
     let gate = Mover {
         rt,
-        ksm: &ksm,
+        ksm,
         share: Mutex::new(share),
         moved: AtomicU64::new(0),
     };
-    let (ending, passes) = audit_once(rt, alloc, &ksm, passes, &gate);
+    let (ending, passes) = audit_once(rt, alloc, ksm, passes, &gate);
     let moved = gate.moved.load(Ordering::SeqCst);
-    drop(gate);
-    drop(ksm.close(rt, passes));
     let mut rows = [Row::Gone(Why::Vacant); 8];
     rows[0] = Row::Found {
         generation: 1,
         bytes: filled(10),
     };
-    Ok((ready && ending.has(&rows), moved))
+    (ready && moved == 2 && ending.has(&rows), passes)
 }
 
 // Asked after the lookup, the row would be of generation 2; told before it, of generation 3; told in the hold, the
@@ -112,7 +109,6 @@ fn moves<N: Naming + Send + Sync, R: Threads + Wait + Sync>(
 #[test]
 fn a_gate_is_asked_before_and_told_after(rt: HostRuntime) -> Result<(), Fail> {
     let parts = Parts::open(rt.alloc(), SHAPE, 1)?;
-    let told = moves::<Brand, _>(&rt, rt.alloc(), parts)?;
-    assert!(rt; told == (true, 2));
+    assert!(rt; in_book(&rt, rt.alloc(), parts, Trial::Moves)?.right);
     Ok(())
 }

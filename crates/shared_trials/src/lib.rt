@@ -5,6 +5,8 @@
 #[cfg(test)]
 mod audits;
 #[cfg(test)]
+mod books;
+#[cfg(test)]
 mod callers;
 #[cfg(test)]
 mod commands;

@@ -1,13 +1,12 @@
 //! Lookups of a shared book: they return though the thread that makes them has the merge lock.
-ghost use Rattle.std.specs.Prelude.{◌≡◌};
+ghost use Rattle.std.specs.Prelude.{◌≡◌, ◌<◌, All, vec_len};
 ghost use Rattle.ksm_base.specs.Values.{frames_of};
 
+use crate::books::{Trial, in_book};
 use crate::commands::{SHAPE, filled, merge_two};
 use frame_table::{Found, FoundEqual, Pass};
 use ksm_base::PageBytes;
 use ksm_shared::{Ksm, Naming, Parts, Share};
-use std::marker::Brand;
-use std::process::Abort;
 use std::sync::{MutexGuard, Wait};
 use std::test::Fail;
 
@@ -15,7 +14,7 @@ use std::test::Fail;
 // the pass.
 fn looks_while_locked<N: Naming>(rt: &impl Wait, ksm: &Ksm<N>, pass: Pass) -> (bool, Pass)
     requires pass { pass.table ≡ N.parts.frames }
-    requires places { frames_of N.parts.frames.shape ≡ 8 }
+    requires places { 0 < frames_of N.parts.frames.shape }
     ensures { result.1.table ≡ N.parts.frames }
 {
     let merge = ksm.lock(rt);
@@ -36,7 +35,7 @@ fn compares_while_locked<N: Naming>(
     bytes: &PageBytes,
 ) -> (bool, Pass)
     requires pass { pass.table ≡ N.parts.frames }
-    requires places { frames_of N.parts.frames.shape ≡ 8 }
+    requires places { 0 < frames_of N.parts.frames.shape }
     ensures { result.1.table ≡ N.parts.frames }
 {
     let merge = ksm.lock(rt);
@@ -50,34 +49,32 @@ fn compares_while_locked<N: Naming>(
     }
 }
 
-fn merged<N: Naming>(rt: &impl Wait, ksm: &Ksm<N>, mut shares: Vec<Share<N>>) -> bool {
-    match shares.last_mut() {
-        Some(share) => merge_two(rt, ksm, share),
-        None => false,
-    }
-}
-
-fn looks<N: Naming, R: Wait + Abort>(rt: &R, parts: Parts) -> Result<(), Fail>
-    requires name { parts ≡ N.parts }
-    requires places { frames_of parts.frames.shape ≡ 8 }
-    requires passes { parts.frames.shape.passes ≡ 2 }
+/// Whether lookups hold the frame of two merged pages, one of the three being for other bytes. Hands the passes back.
+pub fn looks<N: Naming>(
+    rt: &impl Wait,
+    ksm: &Ksm<N>,
+    mut passes: Vec<Pass>,
+    share: &mut Share<N>,
+) -> (bool, Vec<Pass>)
+    requires passes { All (λ p. p.table ≡ N.parts.frames) passes.items }
+    requires places { 0 < frames_of N.parts.frames.shape }
+    ensures count { vec_len result.1 ≡ vec_len passes }
+    ensures own { All (λ p. p.table ≡ N.parts.frames) result.1.items }
 {
-    let (ksm, mut passes, shares, _readers) = Ksm::<N>::open(parts)?;
     let Some(pass) = passes.pop() else {
-        unreachable!()
+        return (false, passes);
     };
-    let merged = merged(rt, &ksm, shares);
-    let (held, pass) = looks_while_locked(rt, &ksm, pass);
-    let (equal, pass) = compares_while_locked(rt, &ksm, pass, &filled(10));
-    let (other, pass) = compares_while_locked(rt, &ksm, pass, &filled(11));
+    let merged = merge_two(rt, ksm, share);
+    let (held, pass) = looks_while_locked(rt, ksm, pass);
+    let (equal, pass) = compares_while_locked(rt, ksm, pass, &filled(10));
+    let (other, pass) = compares_while_locked(rt, ksm, pass, &filled(11));
     passes.push_reserved(pass);
-    drop(ksm.close(rt, passes));
-    assert!(rt; [merged, held, equal, other] == [true, true, true, false]);
-    Ok(())
+    (merged && held && equal && !other, passes)
 }
 
 #[test]
 fn lookups_take_no_lock(rt: HostRuntime) -> Result<(), Fail> {
     let parts = Parts::open(rt.alloc(), SHAPE, 1)?;
-    looks::<Brand, _>(&rt, parts)
+    assert!(rt; in_book(&rt, rt.alloc(), parts, Trial::Looks)?.right);
+    Ok(())
 }
