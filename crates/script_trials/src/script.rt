@@ -17,9 +17,10 @@ use std::sync::Wait;
 use std::test::Fail;
 use std::thread::Threads;
 
-/// A script, the sizes of its table, what it writes and how it ends. In what it writes, a page that is full of one byte
-/// stands as that byte in brackets.
-#[derive(Clone, Copy, Debug)]
+/// A script, the sizes of its table, what it writes and how it ends. In a script and in what it writes, a page that is
+/// full of one byte stands as that byte in brackets; with a minus sign, its last byte is left out. A page of the bytes
+/// from 0 on stands as `[in order]`, and its first quarter as `[quarter]`.
+#[derive(Clone, Copy)]
 struct Row<'a> {
     name: &'a str,
     nodes: u32,
@@ -28,7 +29,7 @@ struct Row<'a> {
     last_generation: u64,
     input: &'a str,
     output: &'a str,
-    end: End,
+    end: Result<End, RunFault>,
 }
 
 /// One node of four frames, which live long, and two passes.
@@ -40,7 +41,7 @@ const ROW: Row = Row {
     last_generation: MOST_LIVES,
     input: "",
     output: "",
-    end: End::AllRead,
+    end: Ok(End::AllRead),
 };
 
 /// What a session of the row's sizes is made of.
@@ -96,107 +97,6 @@ fn play_twice<T: Threads + Wait + Sync, R: Read, W: Write>(
     runs::<Brand, T, R, W>(rt, alloc, parts, reader, writer, more)
 }
 
-/// How a run of a new session over a reader and a writer ends.
-fn play_on<T: Threads + Wait + Sync, R: Read, W: Write>(
-    rt: &T,
-    alloc: Global,
-    row: Row,
-    reader: &mut R,
-    writer: &mut W,
-) -> Result<Result<End, RunFault>, Fault> {
-    let mut nothing = "".as_bytes();
-    let ended = play_twice(rt, alloc, row, reader, writer, &mut nothing)?;
-    Ok(ended.0)
-}
-
-impl Row<'_> {
-    /// What a new session writes, and how the run ends.
-    fn play<T: Threads + Wait + Sync>(
-        &self,
-        rt: &T,
-        alloc: Global,
-    ) -> Result<(Vec<u8>, Result<End, RunFault>), Fault> {
-        let mut reader = self.input.as_bytes();
-        let mut written = Vec::new(alloc);
-        let outcome = play_on(rt, alloc, *self, &mut reader, &mut written)?;
-        Ok((written, outcome))
-    }
-}
-
-/// The digits of a page that is full of a byte.
-fn full(alloc: Global, byte: &str) -> Result<String, AllocError> {
-    byte.repeat(alloc, 8 * PAGE_WORDS)
-}
-
-/// A text with all digits of each page that stands in it as a byte in brackets.
-fn with_pages(alloc: Global, text: &str) -> Result<String, AllocError> {
-    let mut written = String::new(alloc);
-    for part in text.split('[') {
-        match part.split_once(']') {
-            Some((byte, rest)) => {
-                written.push_str(full(alloc, byte)?.as_str())?;
-                written.push_str(rest)?;
-            }
-            None => written.push_str(part)?,
-        }
-    }
-    Ok(written)
-}
-
-/// Each script writes what its row says, and ends so.
-fn play_all<T: Abort + Threads + Wait + Sync>(
-    rt: &T,
-    alloc: Global,
-    rows: &[Row],
-) -> Result<(), Fail> {
-    for row in rows.iter() {
-        let (written, outcome) = row.play(rt, alloc)?;
-        assert_eq!(rt; outcome, Ok(row.end), "{}", row.name);
-        let output = with_pages(alloc, row.output)?;
-        assert_eq!(rt; written.as_slice(), output.as_bytes(), "{}", row.name);
-    }
-    Ok(())
-}
-
-/// Register, store, read and count.
-#[test]
-fn first_rows(rt: HostRuntime) -> Result<(), Fail> {
-    let rows = [
-        Row {
-            name: "first_run",
-            input: "reg 0 0 0 aa\nput 0 0 bb\nget 0 0\nstat\n",
-            output: "ok\nok\n[bb]\nstat shared=0 sharing=0 unshared=0 volatile=1 chains=0 dups=0 full_scans=0\n",
-            ..ROW
-        },
-        Row {
-            name: "empty_input",
-            input: "",
-            output: "",
-            ..ROW
-        },
-        Row {
-            name: "counters_at_opening",
-            input: "stat\n",
-            output: "stat shared=0 sharing=0 unshared=0 volatile=0 chains=0 dups=0 full_scans=0\n",
-            ..ROW
-        },
-        Row {
-            name: "greatest_guest_and_page",
-            input: "reg 65535 4294967295 0 aa\nget 65535 4294967295\nreg 65535 4294967295 0 aa\n",
-            output: "ok\n[aa]\nrefused 3\n",
-            ..ROW
-        },
-        Row {
-            name: "bad_line_without_newline",
-            input: "reg 0 0 0 aa\nput 0 0 b",
-            output: "ok\nbad line 2\n",
-            end: End::BadLine(2),
-            ..ROW
-        },
-    ];
-    play_all(&rt, rt.alloc(), &rows)
-}
-
 /// The digits of as many bytes, one after the other in order from 0.
 fn in_order(alloc: Global, bytes: usize) -> Result<String, AllocError> {
     let mut digits = String::new(alloc);
@@ -206,231 +106,293 @@ fn in_order(alloc: Global, bytes: usize) -> Result<String, AllocError> {
     Ok(digits)
 }
 
-/// The digits of a page are its bytes in order.
-#[test]
-fn byte_order_of_sixty_four(rt: HostRuntime) -> Result<(), Fail> {
-    let alloc = rt.alloc();
-    let digits = in_order(alloc, 8 * PAGE_WORDS)?;
-    let input = format!(in alloc; "reg 0 0 0 {digits}\nget 0 0\n")?;
-    let output = format!(in alloc; "ok\n{digits}\n")?;
-    let rows = [Row {
-        name: "byte_order_of_sixty_four",
-        input: input.as_str(),
-        output: output.as_str(),
-        ..ROW
-    }];
-    play_all(&rt, alloc, &rows)
+/// The digits that stand in brackets as this word.
+fn digits_of(alloc: Global, word: &str) -> Result<String, AllocError> {
+    match word {
+        "in order" => in_order(alloc, 8 * PAGE_WORDS),
+        "quarter" => in_order(alloc, 2 * PAGE_WORDS),
+        _ => match word.strip_suffix('-') {
+            Some(byte) => byte.repeat(alloc, 8 * PAGE_WORDS - 1),
+            None => word.repeat(alloc, 8 * PAGE_WORDS),
+        },
+    }
 }
 
-/// A page is compared to its last byte, by the scan and by a lookup.
-#[test]
-fn pages_differ_in_the_last_byte(rt: HostRuntime) -> Result<(), Fail> {
-    let alloc = rt.alloc();
-    let zeroes = "00".repeat(alloc, 8 * PAGE_WORDS - 1)?;
-    let input = format!(in alloc;
-        "reg 0 0 0 00\nreg 0 1 0 {zeroes}01\nset run 1\nscan 4\nstat\nreg 0 2 0 {zeroes}01\nscan 6\nequal 0 0 00\nstat\n"
-    )?;
-    let rows = [Row {
+/// A text with all digits of each page that stands in it in brackets.
+fn with_pages(alloc: Global, text: &str) -> Result<String, AllocError> {
+    let mut written = String::new(alloc);
+    for part in text.split('[') {
+        match part.split_once(']') {
+            Some((word, rest)) => {
+                written.push_str(digits_of(alloc, word)?.as_str())?;
+                written.push_str(rest)?;
+            }
+            None => written.push_str(part)?,
+        }
+    }
+    Ok(written)
+}
+
+/// Whether a new session over this reader ends and writes as the row says, and then, over more lines, as is said too.
+fn goes_so<T: Threads + Wait + Sync, R: Read>(
+    rt: &T,
+    alloc: Global,
+    row: Row,
+    reader: &mut R,
+    more: &mut &[u8],
+    then: (Result<End, RunFault>, &str),
+) -> Result<bool, Fail> {
+    let mut written = Vec::new(alloc);
+    let ended = play_twice(rt, alloc, row, reader, &mut written, more)?;
+    let output = with_pages(alloc, row.output)?;
+    let second = with_pages(alloc, then.1)?;
+    Ok(
+        (ended.0, ended.1) == (row.end, then.0)
+            && written.as_slice() == output.as_bytes()
+            && ended.2.as_slice() == second.as_bytes(),
+    )
+}
+
+/// Whether the script writes what its row says, and ends so.
+fn plays<T: Threads + Wait + Sync>(rt: &T, alloc: Global, row: Row) -> Result<bool, Fail> {
+    let input = with_pages(alloc, row.input)?;
+    let mut reader = input.as_bytes();
+    let mut nothing = "".as_bytes();
+    goes_so(
+        rt,
+        alloc,
+        row,
+        &mut reader,
+        &mut nothing,
+        (Ok(End::AllRead), ""),
+    )
+}
+
+/// Each script writes what its row says, and ends so.
+fn play_all<T: Abort + Threads + Wait + Sync>(
+    rt: &T,
+    alloc: Global,
+    rows: &[Row],
+) -> Result<(), Fail> {
+    for row in rows.iter() {
+        assert!(rt; plays(rt, alloc, *row)?, "{}", row.name);
+    }
+    Ok(())
+}
+
+/// The worked scripts.
+const ROWS: [Row<'static>; 30] = [
+    // Register, store, read and count.
+    Row {
+        name: "first_run",
+        input: "reg 0 0 0 aa\nput 0 0 bb\nget 0 0\nstat\n",
+        output: "ok\nok\n[bb]\nstat shared=0 sharing=0 unshared=0 volatile=1 chains=0 dups=0 full_scans=0\n",
+        ..ROW
+    },
+    Row {
+        name: "empty_input",
+        input: "",
+        output: "",
+        ..ROW
+    },
+    Row {
+        name: "counters_at_opening",
+        input: "stat\n",
+        output: "stat shared=0 sharing=0 unshared=0 volatile=0 chains=0 dups=0 full_scans=0\n",
+        ..ROW
+    },
+    Row {
+        name: "greatest_guest_and_page",
+        input: "reg 65535 4294967295 0 aa\nget 65535 4294967295\nreg 65535 4294967295 0 aa\n",
+        output: "ok\n[aa]\nrefused 3\n",
+        ..ROW
+    },
+    Row {
+        name: "bad_line_without_newline",
+        input: "reg 0 0 0 aa\nput 0 0 b",
+        output: "ok\nbad line 2\n",
+        end: Ok(End::BadLine(2)),
+        ..ROW
+    },
+    // The digits of a page are its bytes in order, and a quarter of them is no page.
+    Row {
+        name: "byte_order_of_sixty_four",
+        input: "reg 0 0 0 [in order]\nget 0 0\n",
+        output: "ok\n[in order]\n",
+        ..ROW
+    },
+    Row {
+        name: "thirty_two_digits_are_bad",
+        input: "reg 0 0 0 [quarter]\n",
+        output: "bad line 1\n",
+        end: Ok(End::BadLine(1)),
+        ..ROW
+    },
+    // A page is compared to its last byte, by the scan and by a lookup.
+    Row {
         name: "pages_differ_in_the_last_byte",
-        input: input.as_str(),
+        input: "reg 0 0 0 00\nreg 0 1 0 [00-]01\nset run 1\nscan 4\nstat\nreg 0 2 0 [00-]01\nscan 6\nequal 0 0 00\nstat\n",
         output: "ok\nok\nok\nscanned 4\nstat shared=0 sharing=0 unshared=2 volatile=0 chains=0 dups=0 full_scans=2\nok\nscanned 6\ndiffers 1 1\nstat shared=1 sharing=1 unshared=1 volatile=0 chains=0 dups=0 full_scans=4\n",
         ..ROW
-    }];
-    play_all(&rt, alloc, &rows)
-}
+    },
+    // Scans merge equal pages.
+    Row {
+        name: "one_pass_merges_nothing",
+        input: "reg 0 0 0 aa\nreg 0 1 0 aa\nset run 1\nscan 2\nstat\n",
+        output: "ok\nok\nok\nscanned 2\nstat shared=0 sharing=0 unshared=0 volatile=2 chains=0 dups=0 full_scans=1\n",
+        ..ROW
+    },
+    Row {
+        name: "two_equal_pages_merge",
+        input: "reg 0 0 0 aa\nreg 0 1 0 aa\nset run 1\nscan 2\nstat\nscan 2\nstat\nget 0 1\n",
+        output: "ok\nok\nok\nscanned 2\nstat shared=0 sharing=0 unshared=0 volatile=2 chains=0 dups=0 full_scans=1\nscanned 2\nstat shared=1 sharing=1 unshared=0 volatile=0 chains=0 dups=0 full_scans=2\n[aa]\n",
+        ..ROW
+    },
+    Row {
+        name: "equal_store_still_copies",
+        input: "reg 0 0 0 aa\nreg 0 1 0 aa\nset run 1\nscan 4\nput 0 0 aa\nput 0 1 aa\nstat\nscan 2\nstat\nticket 0 0\n",
+        output: "ok\nok\nok\nscanned 4\nok\nok\nstat shared=0 sharing=0 unshared=0 volatile=2 chains=0 dups=0 full_scans=2\nscanned 2\nstat shared=1 sharing=1 unshared=0 volatile=0 chains=1 dups=2 full_scans=3\nplace 1\n",
+        ..ROW
+    },
+    Row {
+        name: "frame_retires",
+        frames: 1,
+        last_generation: 2,
+        input: "reg 0 0 0 aa\ndrop 0 0\nreg 0 0 0 aa\ndrop 0 0\nreg 0 0 0 aa\n",
+        output: "ok\nok\nok\nok\nrefused 4\n",
+        ..ROW
+    },
+    Row {
+        name: "stale_dup_makes_room",
+        frames: 3,
+        input: "reg 0 0 0 aa\nreg 0 1 0 aa\nset run 1\nscan 4\nput 0 0 a1\nput 0 1 a1\nscan 4\nput 0 0 a2\nput 0 1 a2\nscan 4\nput 0 0 a3\nput 0 1 a3\nscan 4\nstat\n",
+        output: "ok\nok\nok\nscanned 4\nok\nok\nscanned 4\nok\nok\nscanned 4\nok\nok\nscanned 4\nstat shared=1 sharing=1 unshared=0 volatile=0 chains=0 dups=0 full_scans=8\n",
+        ..ROW
+    },
+    // The limit, chains and the reverse map.
+    Row {
+        name: "limit_boundary",
+        input: "set max_page_sharing 2\nreg 0 0 0 aa\nreg 0 1 0 aa\nreg 0 2 0 aa\nreg 0 3 0 aa\nset run 1\nscan 8\nstat\n",
+        output: "ok\nok\nok\nok\nok\nok\nscanned 8\nstat shared=2 sharing=2 unshared=0 volatile=0 chains=1 dups=2 full_scans=2\n",
+        ..ROW
+    },
+    Row {
+        name: "fifth_page_waits",
+        frames: 8,
+        input: "set max_page_sharing 2\nreg 0 0 0 aa\nreg 0 1 0 aa\nreg 0 2 0 aa\nreg 0 3 0 aa\nreg 0 4 0 aa\nset run 1\nscan 10\nstat\n",
+        output: "ok\nok\nok\nok\nok\nok\nok\nscanned 10\nstat shared=2 sharing=2 unshared=1 volatile=0 chains=1 dups=2 full_scans=2\n",
+        ..ROW
+    },
+    Row {
+        name: "chain_after_two_writes",
+        input: "set max_page_sharing 2\nreg 0 0 0 aa\nreg 0 1 0 aa\nreg 0 2 0 aa\nreg 0 3 0 aa\nset run 1\nscan 8\nstat\nput 0 0 bb\nput 0 1 cc\nstat\nprune\nstat\n",
+        output: "ok\nok\nok\nok\nok\nok\nscanned 8\nstat shared=2 sharing=2 unshared=0 volatile=0 chains=1 dups=2 full_scans=2\nok\nok\nstat shared=1 sharing=1 unshared=0 volatile=2 chains=1 dups=2 full_scans=2\npruned 1\nstat shared=1 sharing=1 unshared=0 volatile=2 chains=0 dups=0 full_scans=2\n",
+        ..ROW
+    },
+    Row {
+        name: "fullest_dup_is_joined",
+        frames: 8,
+        input: "set max_page_sharing 3\nreg 0 0 0 aa\nreg 0 1 0 aa\nreg 0 2 0 aa\nreg 0 3 0 aa\nreg 0 4 0 aa\nreg 0 5 0 aa\nset run 1\nscan 12\ndrop 0 0\ndrop 0 1\ndrop 0 3\nreg 0 9 0 aa\nscan 4\nticket 0 9\nstat\nrmap 0\nrmap 1\nrmap 2\n",
+        output: "ok\nok\nok\nok\nok\nok\nok\nok\nscanned 12\nok\nok\nok\nok\nscanned 4\nplace 1\nstat shared=2 sharing=2 unshared=0 volatile=0 chains=1 dups=2 full_scans=3\nrmap 0:2\nrmap 0:4 0:5 0:9\nrefused 10\n",
+        ..ROW
+    },
+    // Knobs, and trees by node.
+    Row {
+        name: "nodes_kept_apart",
+        nodes: 2,
+        frames: 2,
+        input: "set merge_across_nodes 0\nreg 0 0 0 aa\nreg 1 0 1 aa\nset run 1\nscan 4\nstat\n",
+        output: "ok\nok\nok\nok\nscanned 4\nstat shared=0 sharing=0 unshared=2 volatile=0 chains=0 dups=0 full_scans=2\n",
+        ..ROW
+    },
+    Row {
+        name: "knob_waits_for_unmerging",
+        input: "reg 0 0 0 aa\nreg 0 1 0 aa\nset run 1\nscan 4\nset merge_across_nodes 0\nset run 2\nset merge_across_nodes 0\nshow merge_across_nodes\nstat\n",
+        output: "ok\nok\nok\nscanned 4\nrefused 6\nunmerged 2\nok\n0\nstat shared=0 sharing=0 unshared=0 volatile=2 chains=0 dups=0 full_scans=2\n",
+        ..ROW
+    },
+    Row {
+        name: "refusals_of_commands",
+        input: "set max_page_sharing 1\nscan 1\nput 5 5 aa\nreg 0 0 1 aa\nreg 0 0 0 aa\nreg 0 0 0 bb\n",
+        output: "refused 7\nrefused 5\nrefused 2\nrefused 11\nok\nrefused 3\n",
+        ..ROW
+    },
+    Row {
+        name: "scan_of_pages_to_scan",
+        input: "reg 0 0 0 aa\nreg 0 1 0 aa\nset run 1\nscan 4\nset pages_to_scan 0\nset pages_to_scan 3\nscan\nshow pages_to_scan\nstat\n",
+        output: "ok\nok\nok\nscanned 4\nrefused 7\nok\nscanned 3\n3\nstat shared=1 sharing=1 unshared=0 volatile=0 chains=0 dups=0 full_scans=3\n",
+        ..ROW
+    },
+    // Empty pages are mapped from the zero page, where the knob says so.
+    Row {
+        name: "empty_pages_become_zero",
+        input: "set use_zero_pages 1\nreg 0 0 0 00\nreg 0 1 0 00\nreg 0 2 0 00\nset run 1\nscan 6\nstat\nshow ksm_zero_pages\nput 0 1 00\nshow ksm_zero_pages\nscan 3\nshow ksm_zero_pages\n",
+        output: "ok\nok\nok\nok\nok\nscanned 6\nstat shared=0 sharing=0 unshared=0 volatile=0 chains=0 dups=0 full_scans=2\n3\nok\n2\nscanned 3\n3\n",
+        ..ROW
+    },
+    Row {
+        name: "zero_pages_and_no_frame",
+        nodes: 1,
+        frames: 2,
+        input: "set use_zero_pages 1\nreg 0 0 0 00\nreg 0 1 0 00\nset run 1\nscan 4\nreg 0 2 0 11\nreg 0 3 0 22\nput 0 0 05\nget 0 0\nunmerge 0\nset run 2\nshow run\nset use_zero_pages 2\n",
+        output: "ok\nok\nok\nok\nscanned 4\nok\nok\nrefused 4\n[00]\nunmerged 0 refused 4\nunmerged 0 refused 4\n0\nrefused 7\n",
+        ..ROW
+    },
+    Row {
+        name: "open_dup_before_zero_page",
+        input: "reg 0 0 0 00\nreg 0 1 0 00\nset run 1\nscan 4\nset use_zero_pages 1\nreg 0 2 0 00\nscan 3\nstat\nshow ksm_zero_pages\n",
+        output: "ok\nok\nok\nscanned 4\nok\nok\nscanned 3\nstat shared=1 sharing=2 unshared=0 volatile=0 chains=0 dups=0 full_scans=3\n0\n",
+        ..ROW
+    },
+    Row {
+        name: "zero_pages_are_shown_and_not_set",
+        input: "show use_zero_pages\nshow ksm_zero_pages\nset use_zero_pages 1\nshow use_zero_pages\n",
+        output: "0\n0\nok\n1\n",
+        ..ROW
+    },
+    // Pages are unmerged, and are mergeable again.
+    Row {
+        name: "unmerging_runs_out_of_frames",
+        frames: 3,
+        input: "reg 0 0 0 aa\nreg 0 1 0 aa\nreg 0 2 0 aa\nset run 1\nscan 6\nreg 0 3 0 bb\nunmerge 0\nstat\nset run 2\nshow run\n",
+        output: "ok\nok\nok\nok\nscanned 6\nok\nunmerged 1 refused 4\nstat shared=1 sharing=1 unshared=0 volatile=1 chains=0 dups=0 full_scans=2\nunmerged 0 refused 4\n0\n",
+        ..ROW
+    },
+    Row {
+        name: "mergeable_again",
+        input: "reg 0 0 0 aa\nreg 0 1 0 aa\nset run 1\nscan 4\nunmerge 0\nscan 2\nmergeable 0\nscan 4\nstat\nmergeable 7\nunmerge 7\n",
+        output: "ok\nok\nok\nscanned 4\nunmerged 2\nscanned 0\nok\nscanned 4\nstat shared=1 sharing=1 unshared=0 volatile=0 chains=1 dups=2 full_scans=4\nrefused 2\nrefused 2\n",
+        ..ROW
+    },
+    // Pages and dups move.
+    Row {
+        name: "moved_page_leaves_its_dup",
+        nodes: 2,
+        input: "reg 0 0 0 aa\nreg 0 1 0 aa\nset run 1\nscan 4\nmove 0 0 1\nticket 0 0\nticket 0 1\nstat\nget 0 0\n",
+        output: "ok\nok\nok\nscanned 4\nok\nprivate\nplace 0\nstat shared=1 sharing=0 unshared=0 volatile=1 chains=0 dups=0 full_scans=2\n[aa]\n",
+        ..ROW
+    },
+    Row {
+        name: "dup_moves_within_its_node",
+        nodes: 2,
+        input: "set merge_across_nodes 0\nreg 0 0 0 aa\nreg 0 1 0 aa\nset run 1\nscan 4\nmovedup 0 1\nmovedup 0 0\nget 0 0\nmovedup 3 0\nmovedup 0 9\n",
+        output: "ok\nok\nok\nok\nscanned 4\nrefused 9\nok\n[aa]\nrefused 10\nrefused 11\n",
+        ..ROW
+    },
+    Row {
+        name: "no_frame_everywhere",
+        nodes: 2,
+        frames: 2,
+        input: "reg 0 0 0 aa\nreg 0 1 0 aa\nset run 1\nscan 4\nreg 0 2 0 bb\nput 0 0 cc\nreg 0 3 0 dd\nmovedup 0 0\nunmerge 0\nreg 1 0 1 ee\nreg 1 1 1 ee\nmove 0 2 1\nset run 2\nstat\nscan 1\nget 0 0\n",
+        output: "ok\nok\nok\nscanned 4\nok\nrefused 4\nrefused 4\nrefused 4\nunmerged 0 refused 4\nok\nok\nrefused 4\nunmerged 0 refused 4\nstat shared=1 sharing=1 unshared=0 volatile=3 chains=0 dups=0 full_scans=2\nrefused 5\n[aa]\n",
+        ..ROW
+    },
+];
 
-/// Scans merge equal pages.
+/// Each script writes what its row says, and ends so.
 #[test]
-fn merging_rows(rt: HostRuntime) -> Result<(), Fail> {
-    let rows = [
-        Row {
-            name: "one_pass_merges_nothing",
-            input: "reg 0 0 0 aa\nreg 0 1 0 aa\nset run 1\nscan 2\nstat\n",
-            output: "ok\nok\nok\nscanned 2\nstat shared=0 sharing=0 unshared=0 volatile=2 chains=0 dups=0 full_scans=1\n",
-            ..ROW
-        },
-        Row {
-            name: "two_equal_pages_merge",
-            input: "reg 0 0 0 aa\nreg 0 1 0 aa\nset run 1\nscan 2\nstat\nscan 2\nstat\nget 0 1\n",
-            output: "ok\nok\nok\nscanned 2\nstat shared=0 sharing=0 unshared=0 volatile=2 chains=0 dups=0 full_scans=1\nscanned 2\nstat shared=1 sharing=1 unshared=0 volatile=0 chains=0 dups=0 full_scans=2\n[aa]\n",
-            ..ROW
-        },
-        Row {
-            name: "equal_store_still_copies",
-            input: "reg 0 0 0 aa\nreg 0 1 0 aa\nset run 1\nscan 4\nput 0 0 aa\nput 0 1 aa\nstat\nscan 2\nstat\nticket 0 0\n",
-            output: "ok\nok\nok\nscanned 4\nok\nok\nstat shared=0 sharing=0 unshared=0 volatile=2 chains=0 dups=0 full_scans=2\nscanned 2\nstat shared=1 sharing=1 unshared=0 volatile=0 chains=1 dups=2 full_scans=3\nplace 1\n",
-            ..ROW
-        },
-        Row {
-            name: "frame_retires",
-            frames: 1,
-            last_generation: 2,
-            input: "reg 0 0 0 aa\ndrop 0 0\nreg 0 0 0 aa\ndrop 0 0\nreg 0 0 0 aa\n",
-            output: "ok\nok\nok\nok\nrefused 4\n",
-            ..ROW
-        },
-        Row {
-            name: "stale_dup_makes_room",
-            frames: 3,
-            input: "reg 0 0 0 aa\nreg 0 1 0 aa\nset run 1\nscan 4\nput 0 0 a1\nput 0 1 a1\nscan 4\nput 0 0 a2\nput 0 1 a2\nscan 4\nput 0 0 a3\nput 0 1 a3\nscan 4\nstat\n",
-            output: "ok\nok\nok\nscanned 4\nok\nok\nscanned 4\nok\nok\nscanned 4\nok\nok\nscanned 4\nstat shared=1 sharing=1 unshared=0 volatile=0 chains=0 dups=0 full_scans=8\n",
-            ..ROW
-        },
-    ];
-    play_all(&rt, rt.alloc(), &rows)
-}
-
-/// The limit, chains and the reverse map.
-#[test]
-fn chain_rows(rt: HostRuntime) -> Result<(), Fail> {
-    let rows = [
-        Row {
-            name: "limit_boundary",
-            input: "set max_page_sharing 2\nreg 0 0 0 aa\nreg 0 1 0 aa\nreg 0 2 0 aa\nreg 0 3 0 aa\nset run 1\nscan 8\nstat\n",
-            output: "ok\nok\nok\nok\nok\nok\nscanned 8\nstat shared=2 sharing=2 unshared=0 volatile=0 chains=1 dups=2 full_scans=2\n",
-            ..ROW
-        },
-        Row {
-            name: "fifth_page_waits",
-            frames: 8,
-            input: "set max_page_sharing 2\nreg 0 0 0 aa\nreg 0 1 0 aa\nreg 0 2 0 aa\nreg 0 3 0 aa\nreg 0 4 0 aa\nset run 1\nscan 10\nstat\n",
-            output: "ok\nok\nok\nok\nok\nok\nok\nscanned 10\nstat shared=2 sharing=2 unshared=1 volatile=0 chains=1 dups=2 full_scans=2\n",
-            ..ROW
-        },
-        Row {
-            name: "chain_after_two_writes",
-            input: "set max_page_sharing 2\nreg 0 0 0 aa\nreg 0 1 0 aa\nreg 0 2 0 aa\nreg 0 3 0 aa\nset run 1\nscan 8\nstat\nput 0 0 bb\nput 0 1 cc\nstat\nprune\nstat\n",
-            output: "ok\nok\nok\nok\nok\nok\nscanned 8\nstat shared=2 sharing=2 unshared=0 volatile=0 chains=1 dups=2 full_scans=2\nok\nok\nstat shared=1 sharing=1 unshared=0 volatile=2 chains=1 dups=2 full_scans=2\npruned 1\nstat shared=1 sharing=1 unshared=0 volatile=2 chains=0 dups=0 full_scans=2\n",
-            ..ROW
-        },
-        Row {
-            name: "fullest_dup_is_joined",
-            frames: 8,
-            input: "set max_page_sharing 3\nreg 0 0 0 aa\nreg 0 1 0 aa\nreg 0 2 0 aa\nreg 0 3 0 aa\nreg 0 4 0 aa\nreg 0 5 0 aa\nset run 1\nscan 12\ndrop 0 0\ndrop 0 1\ndrop 0 3\nreg 0 9 0 aa\nscan 4\nticket 0 9\nstat\nrmap 0\nrmap 1\nrmap 2\n",
-            output: "ok\nok\nok\nok\nok\nok\nok\nok\nscanned 12\nok\nok\nok\nok\nscanned 4\nplace 1\nstat shared=2 sharing=2 unshared=0 volatile=0 chains=1 dups=2 full_scans=3\nrmap 0:2\nrmap 0:4 0:5 0:9\nrefused 10\n",
-            ..ROW
-        },
-    ];
-    play_all(&rt, rt.alloc(), &rows)
-}
-
-/// Knobs, and trees by node.
-#[test]
-fn knob_rows(rt: HostRuntime) -> Result<(), Fail> {
-    let rows = [
-        Row {
-            name: "nodes_kept_apart",
-            nodes: 2,
-            frames: 2,
-            input: "set merge_across_nodes 0\nreg 0 0 0 aa\nreg 1 0 1 aa\nset run 1\nscan 4\nstat\n",
-            output: "ok\nok\nok\nok\nscanned 4\nstat shared=0 sharing=0 unshared=2 volatile=0 chains=0 dups=0 full_scans=2\n",
-            ..ROW
-        },
-        Row {
-            name: "knob_waits_for_unmerging",
-            input: "reg 0 0 0 aa\nreg 0 1 0 aa\nset run 1\nscan 4\nset merge_across_nodes 0\nset run 2\nset merge_across_nodes 0\nshow merge_across_nodes\nstat\n",
-            output: "ok\nok\nok\nscanned 4\nrefused 6\nunmerged 2\nok\n0\nstat shared=0 sharing=0 unshared=0 volatile=2 chains=0 dups=0 full_scans=2\n",
-            ..ROW
-        },
-        Row {
-            name: "refusals_of_commands",
-            input: "set max_page_sharing 1\nscan 1\nput 5 5 aa\nreg 0 0 1 aa\nreg 0 0 0 aa\nreg 0 0 0 bb\n",
-            output: "refused 7\nrefused 5\nrefused 2\nrefused 11\nok\nrefused 3\n",
-            ..ROW
-        },
-        Row {
-            name: "scan_of_pages_to_scan",
-            input: "reg 0 0 0 aa\nreg 0 1 0 aa\nset run 1\nscan 4\nset pages_to_scan 0\nset pages_to_scan 3\nscan\nshow pages_to_scan\nstat\n",
-            output: "ok\nok\nok\nscanned 4\nrefused 7\nok\nscanned 3\n3\nstat shared=1 sharing=1 unshared=0 volatile=0 chains=0 dups=0 full_scans=3\n",
-            ..ROW
-        },
-    ];
-    play_all(&rt, rt.alloc(), &rows)
-}
-
-/// Empty pages are mapped from the zero page, where the knob says so.
-#[test]
-fn zero_page_rows(rt: HostRuntime) -> Result<(), Fail> {
-    let rows = [
-        Row {
-            name: "empty_pages_become_zero",
-            input: "set use_zero_pages 1\nreg 0 0 0 00\nreg 0 1 0 00\nreg 0 2 0 00\nset run 1\nscan 6\nstat\nshow ksm_zero_pages\nput 0 1 00\nshow ksm_zero_pages\nscan 3\nshow ksm_zero_pages\n",
-            output: "ok\nok\nok\nok\nok\nscanned 6\nstat shared=0 sharing=0 unshared=0 volatile=0 chains=0 dups=0 full_scans=2\n3\nok\n2\nscanned 3\n3\n",
-            ..ROW
-        },
-        Row {
-            name: "zero_pages_and_no_frame",
-            nodes: 1,
-            frames: 2,
-            input: "set use_zero_pages 1\nreg 0 0 0 00\nreg 0 1 0 00\nset run 1\nscan 4\nreg 0 2 0 11\nreg 0 3 0 22\nput 0 0 05\nget 0 0\nunmerge 0\nset run 2\nshow run\nset use_zero_pages 2\n",
-            output: "ok\nok\nok\nok\nscanned 4\nok\nok\nrefused 4\n[00]\nunmerged 0 refused 4\nunmerged 0 refused 4\n0\nrefused 7\n",
-            ..ROW
-        },
-        Row {
-            name: "open_dup_before_zero_page",
-            input: "reg 0 0 0 00\nreg 0 1 0 00\nset run 1\nscan 4\nset use_zero_pages 1\nreg 0 2 0 00\nscan 3\nstat\nshow ksm_zero_pages\n",
-            output: "ok\nok\nok\nscanned 4\nok\nok\nscanned 3\nstat shared=1 sharing=2 unshared=0 volatile=0 chains=0 dups=0 full_scans=3\n0\n",
-            ..ROW
-        },
-        Row {
-            name: "zero_pages_are_shown_and_not_set",
-            input: "show use_zero_pages\nshow ksm_zero_pages\nset use_zero_pages 1\nshow use_zero_pages\n",
-            output: "0\n0\nok\n1\n",
-            ..ROW
-        },
-    ];
-    play_all(&rt, rt.alloc(), &rows)
-}
-
-/// Pages are unmerged, and are mergeable again.
-#[test]
-fn unmerging_rows(rt: HostRuntime) -> Result<(), Fail> {
-    let rows = [
-        Row {
-            name: "unmerging_runs_out_of_frames",
-            frames: 3,
-            input: "reg 0 0 0 aa\nreg 0 1 0 aa\nreg 0 2 0 aa\nset run 1\nscan 6\nreg 0 3 0 bb\nunmerge 0\nstat\nset run 2\nshow run\n",
-            output: "ok\nok\nok\nok\nscanned 6\nok\nunmerged 1 refused 4\nstat shared=1 sharing=1 unshared=0 volatile=1 chains=0 dups=0 full_scans=2\nunmerged 0 refused 4\n0\n",
-            ..ROW
-        },
-        Row {
-            name: "mergeable_again",
-            input: "reg 0 0 0 aa\nreg 0 1 0 aa\nset run 1\nscan 4\nunmerge 0\nscan 2\nmergeable 0\nscan 4\nstat\nmergeable 7\nunmerge 7\n",
-            output: "ok\nok\nok\nscanned 4\nunmerged 2\nscanned 0\nok\nscanned 4\nstat shared=1 sharing=1 unshared=0 volatile=0 chains=1 dups=2 full_scans=4\nrefused 2\nrefused 2\n",
-            ..ROW
-        },
-    ];
-    play_all(&rt, rt.alloc(), &rows)
-}
-
-/// Pages and dups move.
-#[test]
-fn moving_rows(rt: HostRuntime) -> Result<(), Fail> {
-    let rows = [
-        Row {
-            name: "moved_page_leaves_its_dup",
-            nodes: 2,
-            input: "reg 0 0 0 aa\nreg 0 1 0 aa\nset run 1\nscan 4\nmove 0 0 1\nticket 0 0\nticket 0 1\nstat\nget 0 0\n",
-            output: "ok\nok\nok\nscanned 4\nok\nprivate\nplace 0\nstat shared=1 sharing=0 unshared=0 volatile=1 chains=0 dups=0 full_scans=2\n[aa]\n",
-            ..ROW
-        },
-        Row {
-            name: "dup_moves_within_its_node",
-            nodes: 2,
-            input: "set merge_across_nodes 0\nreg 0 0 0 aa\nreg 0 1 0 aa\nset run 1\nscan 4\nmovedup 0 1\nmovedup 0 0\nget 0 0\nmovedup 3 0\nmovedup 0 9\n",
-            output: "ok\nok\nok\nok\nscanned 4\nrefused 9\nok\n[aa]\nrefused 10\nrefused 11\n",
-            ..ROW
-        },
-        Row {
-            name: "no_frame_everywhere",
-            nodes: 2,
-            frames: 2,
-            input: "reg 0 0 0 aa\nreg 0 1 0 aa\nset run 1\nscan 4\nreg 0 2 0 bb\nput 0 0 cc\nreg 0 3 0 dd\nmovedup 0 0\nunmerge 0\nreg 1 0 1 ee\nreg 1 1 1 ee\nmove 0 2 1\nset run 2\nstat\nscan 1\nget 0 0\n",
-            output: "ok\nok\nok\nscanned 4\nok\nrefused 4\nrefused 4\nrefused 4\nunmerged 0 refused 4\nok\nok\nrefused 4\nunmerged 0 refused 4\nstat shared=1 sharing=1 unshared=0 volatile=3 chains=0 dups=0 full_scans=2\nrefused 5\n[aa]\n",
-            ..ROW
-        },
-    ];
-    play_all(&rt, rt.alloc(), &rows)
+fn each_script(rt: HostRuntime) -> Result<(), Fail> {
+    play_all(&rt, rt.alloc(), &ROWS)
 }
 
 /// None of these is a line of the language.
@@ -501,45 +463,34 @@ fn is_bad(line: &[u8]) -> bool {
 #[test]
 fn every_bad_line(rt: HostRuntime) -> Result<(), Fail> {
     for line in BAD_LINES {
-        let mut reader = line.as_bytes();
-        assert!(rt; is_bad(reader), "{line:?}");
-        let mut written = Vec::new(rt.alloc());
-        let outcome = play_on(&rt, rt.alloc(), ROW, &mut reader, &mut written)?;
-        assert_eq!(rt; outcome, Ok(End::BadLine(1)), "{line:?}");
-        assert_eq!(rt; written.as_slice(), "bad line 1\n".as_bytes(), "{line:?}");
+        let row = Row {
+            input: line,
+            output: "bad line 1\n",
+            end: Ok(End::BadLine(1)),
+            ..ROW
+        };
+        assert!(rt;
+            is_bad(line.as_bytes()) && plays(&rt, rt.alloc(), row)?,
+            "{line:?}"
+        );
     }
     Ok(())
 }
 
-/// A quarter of the digits of a page is no page.
-#[test]
-fn thirty_two_digits_are_bad(rt: HostRuntime) -> Result<(), Fail> {
-    let alloc = rt.alloc();
-    let digits = in_order(alloc, 16)?;
-    let input = format!(in alloc; "reg 0 0 0 {digits}\n")?;
-    let rows = [Row {
-        name: "thirty_two_digits_are_bad",
-        input: input.as_str(),
-        output: "bad line 1\n",
-        end: End::BadLine(1),
-        ..ROW
-    }];
-    play_all(&rt, alloc, &rows)
+/// Whether a store of so many digits is a bad line.
+fn is_bad_store(alloc: Global, digits: usize) -> Result<bool, AllocError> {
+    let mut line = String::from_str(alloc, "put 0 0 ")?;
+    line.push_str("1".repeat(alloc, digits)?.as_str())?;
+    Ok(is_bad(line.as_bytes()))
 }
 
 /// A page is written in two digits or in all, and in no other number of them.
 #[test]
 fn digits_of_another_length_are_bad(rt: HostRuntime) -> Result<(), Fail> {
-    let alloc = rt.alloc();
     let whole = 16 * PAGE_WORDS;
     for count in 0..whole + 4 {
-        let digits = "1".repeat(alloc, count)?;
-        let line = format!(in alloc; "put 0 0 {digits}")?;
-        assert_eq!(rt;
-            is_bad(line.as_bytes()),
-            count != 2 && count != whole,
-            "{count}"
-        );
+        let is_page = count == 2 || count == whole;
+        assert!(rt; is_bad_store(rt.alloc(), count)? != is_page, "{count}");
     }
     Ok(())
 }
@@ -547,17 +498,16 @@ fn digits_of_another_length_are_bad(rt: HostRuntime) -> Result<(), Fail> {
 /// Empty lines count and have no reply, and nothing behind the newline of a bad line is read.
 #[test]
 fn lines_are_counted(rt: HostRuntime) -> Result<(), Fail> {
-    let alloc = rt.alloc();
     let mut reader = "\n\nreg 0 0 0 AA\nget 0 0\n\nSTAT\nget 0 0\n".as_bytes();
-    let mut written = Vec::new(alloc);
     let mut more = "get 0 0\n".as_bytes();
-    let ended = play_twice(&rt, alloc, ROW, &mut reader, &mut written, &mut more)?;
-    assert!(rt; (ended.0, ended.1) == (Ok(End::BadLine(6)), Ok(End::AllRead)));
+    let row = Row {
+        output: "ok\n[aa]\nbad line 6\n",
+        end: Ok(End::BadLine(6)),
+        ..ROW
+    };
+    let then = (Ok(End::AllRead), "[aa]\n");
+    assert!(rt; goes_so(&rt, rt.alloc(), row, &mut reader, &mut more, then)?);
     assert!(rt; reader == "get 0 0\n".as_bytes());
-    let wanted = with_pages(alloc, "ok\n[aa]\nbad line 6\n")?;
-    assert!(rt; written.as_slice() == wanted.as_bytes());
-    let wanted = with_pages(alloc, "[aa]\n")?;
-    assert!(rt; ended.2.as_slice() == wanted.as_bytes());
     Ok(())
 }
 
@@ -567,11 +517,9 @@ fn long_lines_are_bad(rt: HostRuntime) -> Result<(), Fail> {
     let long = [b'a'; 300];
     let mut reader = "\n".as_bytes();
     let mut more: &[u8] = &long;
-    let mut written = Vec::new(rt.alloc());
-    let ended = play_twice(&rt, rt.alloc(), ROW, &mut reader, &mut written, &mut more)?;
-    assert!(rt; (ended.0, ended.1) == (Ok(End::AllRead), Ok(End::BadLine(1))));
+    let then = (Ok(End::BadLine(1)), "bad line 1\n");
+    assert!(rt; goes_so(&rt, rt.alloc(), ROW, &mut reader, &mut more, then)?);
     assert!(rt; more.len() == 43);
-    assert!(rt; ended.2.as_slice() == "bad line 1\n".as_bytes());
     Ok(())
 }
 
@@ -624,50 +572,70 @@ const LINES: &str = "reg 0 0 0 aa\nreg 0 1 0 aa\nset run 1\nscan 4\nfind 0 0\nlo
 
 const REPLIES: &str = "ok\nok\nok\nscanned 4\nheld 0 1\n[aa]\n";
 
-/// At each byte at which a write fails, just the bytes before it stand, the line was carried out, and no hold is left.
+/// Whether a write that fails after so many bytes, or takes none then, has just these, the line was carried out, and no
+/// hold is left.
+fn writes_until<T: Threads + Wait + Sync>(
+    rt: &T,
+    alloc: Global,
+    left: usize,
+    fails: bool,
+) -> Result<bool, Fail> {
+    let replies = with_pages(alloc, REPLIES)?;
+    let mut reader = LINES.as_bytes();
+    let mut writer = Narrow {
+        taken: Vec::new(alloc),
+        left,
+        fails,
+    };
+    let mut again = "leave 0\nreg 0 0 0 aa\n".as_bytes();
+    let ended = play_twice(rt, alloc, ROW, &mut reader, &mut writer, &mut again)?;
+    let taken = writer.taken.as_slice();
+    Ok(
+        (ended.0, ended.1) == (Err(RunFault::Write), Ok(End::AllRead))
+            && taken.len() == left
+            && replies.as_bytes().starts_with(taken)
+            && ended.2.as_slice() == "refused 14\nrefused 3\n".as_bytes(),
+    )
+}
+
+/// At each byte at which a write fails, just the bytes before it stand.
 #[test]
 fn a_writer_that_fails_at_each_byte(rt: HostRuntime) -> Result<(), Fail> {
-    let replies = with_pages(rt.alloc(), REPLIES)?;
-    for fails in [false, true] {
-        for left in 0..replies.len() {
-            let mut reader = LINES.as_bytes();
-            let mut writer = Narrow {
-                taken: Vec::new(rt.alloc()),
-                left,
-                fails,
-            };
-            let mut again = "leave 0\nreg 0 0 0 aa\n".as_bytes();
-            let ended = play_twice(&rt, rt.alloc(), ROW, &mut reader, &mut writer, &mut again)?;
-            assert!(rt; (ended.0, ended.1) == (Err(RunFault::Write), Ok(End::AllRead)));
-            assert!(rt; replies.as_bytes().starts_with(writer.taken.as_slice()));
-            assert!(rt; writer.taken.len() == left);
-            assert!(rt; ended.2.as_slice() == "refused 14\nrefused 3\n".as_bytes());
-        }
+    let whole = with_pages(rt.alloc(), REPLIES)?.len();
+    for left in 0..whole {
+        assert!(rt; writes_until(&rt, rt.alloc(), left, false)?, "{left}");
+        assert!(rt; writes_until(&rt, rt.alloc(), left, true)?, "{left}");
     }
     Ok(())
+}
+
+/// How many newlines there are.
+fn count_lines(bytes: &[u8]) -> usize {
+    bytes.iter().filter(|byte| **byte == b'\n').count()
+}
+
+/// Whether, where a read fails after so many bytes, just the replies to the whole lines before it stand.
+fn reads_until<T: Threads + Wait + Sync>(rt: &T, alloc: Global, left: usize) -> Result<bool, Fail> {
+    let replies = with_pages(alloc, REPLIES)?;
+    let lines = LINES.as_bytes();
+    let mut reader = Broken { bytes: lines, left };
+    let mut written = Vec::new(alloc);
+    let mut nothing = "".as_bytes();
+    let ended = play_twice(rt, alloc, ROW, &mut reader, &mut written, &mut nothing)?;
+    let read = lines.len().min(left);
+    Ok(
+        ended.0 == Err(RunFault::Read)
+            && count_lines(written.as_slice()) == count_lines(&lines[..read])
+            && replies.as_bytes().starts_with(written.as_slice())
+            && (written.is_empty() || written.last() == Some(&b'\n')),
+    )
 }
 
 /// At each byte at which a read fails, the replies to the whole lines before it stand.
 #[test]
 fn a_reader_that_fails_at_each_byte(rt: HostRuntime) -> Result<(), Fail> {
-    let all = with_pages(rt.alloc(), REPLIES)?;
     for left in 0..LINES.len() {
-        let mut reader = Broken {
-            bytes: LINES.as_bytes(),
-            left,
-        };
-        let mut written = Vec::new(rt.alloc());
-        let outcome = play_on(&rt, rt.alloc(), ROW, &mut reader, &mut written)?;
-        assert!(rt; outcome == Err(RunFault::Read));
-        let lines = LINES
-            .bytes()
-            .take(left)
-            .filter(|byte| *byte == b'\n')
-            .count();
-        let replies = written.iter().filter(|byte| **byte == b'\n').count();
-        assert!(rt; replies == lines);
-        assert!(rt; all.as_bytes().starts_with(written.as_slice()));
-        assert!(rt; written.is_empty() || written.last() == Some(&b'\n'));
+        assert!(rt; reads_until(&rt, rt.alloc(), left)?, "{left}");
     }
     Ok(())
 }

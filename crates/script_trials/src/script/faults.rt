@@ -36,27 +36,21 @@ impl Read for Interrupted<'_> {
 #[test]
 fn the_reader_is_not_asked_again(rt: HostRuntime) -> Result<(), Fail> {
     let first = "reg 0 0 0 aa\nget 0 0".as_bytes();
-    for fails in [true, false] {
+    let cases = [
+        (true, Err(RunFault::Read), "ok\n"),
+        (false, Ok(End::AllRead), "ok\n[aa]\n"),
+    ];
+    for (fails, end, output) in cases {
         let mut reader = Interrupted {
             first,
             fails,
             calls: 0,
         };
-        let mut written = Vec::new(rt.alloc());
         let mut rest = "get 0 0\n".as_bytes();
-        let ended = play_twice(&rt, rt.alloc(), ROW, &mut reader, &mut written, &mut rest)?;
-        let wanted = if fails {
-            Err(RunFault::Read)
-        } else {
-            Ok(End::AllRead)
-        };
-        assert!(rt; (ended.0, ended.1) == (wanted, Ok(End::AllRead)));
+        let row = Row { output, end, ..ROW };
+        let then = (Ok(End::AllRead), "[aa]\n");
+        assert!(rt; goes_so(&rt, rt.alloc(), row, &mut reader, &mut rest, then)?);
         assert!(rt; reader.calls == first.len() + 1);
-        let text = if fails { "ok\n" } else { "ok\n[aa]\n" };
-        let text = with_pages(rt.alloc(), text)?;
-        assert!(rt; written.as_slice() == text.as_bytes());
-        let text = with_pages(rt.alloc(), "[aa]\n")?;
-        assert!(rt; ended.2.as_slice() == text.as_bytes());
     }
     Ok(())
 }
@@ -91,31 +85,45 @@ impl Write for FailsOnce {
     }
 }
 
-/// After a failed write nothing more is written and no further line is read, and the line of the broken reply is
-/// carried out.
+/// What is left to read of three lines once a write has failed after so many bytes: the lines after the one whose reply
+/// broke. Their replies have 3, `read` less 3, and 3 bytes.
+fn left_after(room: usize, read: usize) -> usize {
+    if room < 3 {
+        17
+    } else if room < read {
+        9
+    } else {
+        0
+    }
+}
+
+/// Whether, once a write has failed after so many bytes, just these were written, and no line after the one whose reply
+/// broke was read.
+fn stops_after<T: Threads + Wait + Sync>(rt: &T, alloc: Global, room: usize) -> Result<bool, Fail> {
+    let whole = with_pages(alloc, "ok\n[aa]\nok\n")?;
+    let read = with_pages(alloc, "ok\n[aa]\n")?.len();
+    let mut reader = "reg 0 0 0 aa\nget 0 0\ndrop 0 0\n".as_bytes();
+    let mut writer = FailsOnce {
+        taken: Vec::new(alloc),
+        room: Some(room),
+    };
+    let mut nothing = "".as_bytes();
+    let ended = play_twice(rt, alloc, ROW, &mut reader, &mut writer, &mut nothing)?;
+    let taken = writer.taken.as_slice();
+    Ok(
+        ended.0 == Err(RunFault::Write)
+            && taken.len() == room
+            && whole.as_bytes().starts_with(taken)
+            && reader.len() == left_after(room, read),
+    )
+}
+
+/// After a failed write nothing more is written and no further line is read.
 #[test]
 fn nothing_is_written_after_a_fault(rt: HostRuntime) -> Result<(), Fail> {
-    let script = "reg 0 0 0 aa\nget 0 0\ndrop 0 0\n".as_bytes();
-    let whole = with_pages(rt.alloc(), "ok\n[aa]\nok\n")?;
-    let whole = whole.as_bytes();
-    let read = with_pages(rt.alloc(), "ok\n[aa]\n")?.len();
-    for room in 0..whole.len() {
-        let mut reader = script;
-        let mut writer = FailsOnce {
-            taken: Vec::new(rt.alloc()),
-            room: Some(room),
-        };
-        let outcome = play_on(&rt, rt.alloc(), ROW, &mut reader, &mut writer)?;
-        assert_eq!(rt; outcome, Err(RunFault::Write), "{room}");
-        assert_eq!(rt; writer.taken.as_slice(), &whole[..room], "{room}");
-        let left = if room < 3 {
-            17
-        } else if room < read {
-            9
-        } else {
-            0
-        };
-        assert_eq!(rt; reader.len(), left, "{room}");
+    let whole = with_pages(rt.alloc(), "ok\n[aa]\nok\n")?.len();
+    for room in 0..whole {
+        assert!(rt; stops_after(&rt, rt.alloc(), room)?, "{room}");
     }
     Ok(())
 }
