@@ -1,7 +1,10 @@
 //! What is said of bad lines.
-use crate::host::Host;
-use ksm_host::{Status, run_on};
+use crate::host::{Host, ended};
+use ksm_host::Status;
+use std::alloc::{AllocError, Global};
+use std::sync::Wait;
 use std::test::Fail;
+use std::thread::Threads;
 
 /// A bad line of each cause but one, and what is said of it, from its column on.
 const CAUSES: &str = " stat|1: a space before the first word
@@ -44,44 +47,42 @@ set foo 1|5: no knob has this name: foo
 show foo|6: no knob or counter is shown by this name: foo
 set ksm_zero_pages 1|5: a counter, which is shown and never set: ksm_zero_pages";
 
-/// How many bytes a line has at most.
-const LONGEST_LINE: usize = 256;
+const WORDS: &str = "ksmbook --nodes 1 --frames 1";
 
-/// Each cause is said, with its column, behind the reply.
+/// Whether this is said of the line, with its column, behind the reply.
+fn says<T: Threads + Wait + Sync>(
+    threads: &T,
+    alloc: Global,
+    line: &str,
+    why: &str,
+) -> Result<bool, AllocError> {
+    let mut wanted = String::from_str(alloc, "line 1, column ")?;
+    wanted.push_str(why)?;
+    wanted.push_str("\n")?;
+    let ending = ended(threads, Host::new(alloc, WORDS, line, None));
+    Ok(ending.is(Status::NotUnderstood, "bad line 1\n", wanted.as_str()))
+}
+
+/// Each cause is said.
 #[test]
 fn each_cause_is_said(rt: HostRuntime) -> Result<(), Fail> {
     for row in CAUSES.split('\n') {
         let Some((line, why)) = row.split_once('|') else {
             return Err(Fail::from("a row"));
         };
-        let host = Host::new(rt.alloc(), "ksmbook --nodes 1 --frames 1", line, None);
-        let outcome = run_on(&host, &rt, &host);
-        let (printed, said) = host.told();
-        let wanted = format!(in rt.alloc(); "line 1, column {why}\n")?;
-        assert_eq!(rt; outcome.status(), Status::NotUnderstood, "{line:?}");
-        assert_eq!(rt; printed.as_slice(), b"bad line 1\n".as_slice(), "{line:?}");
-        assert_eq!(rt; said.as_str(), wanted.as_str(), "{line:?}");
+        assert!(rt; says(&rt, rt.alloc(), line, why)?, "{line:?}");
     }
     Ok(())
 }
 
+/// How many bytes a line has at most.
+const LONGEST_LINE: usize = 256;
+
 /// The fortieth cause, which comes before what else is wrong with the line: here each of its bytes is a space too many.
 #[test]
 fn a_long_line_is_said(rt: HostRuntime) -> Result<(), Fail> {
-    let mut line = String::new(rt.alloc());
-    for _ in 0..2 * LONGEST_LINE {
-        line.push(' ')?;
-    }
-    let host = Host::new(
-        rt.alloc(),
-        "ksmbook --nodes 1 --frames 1",
-        line.as_str(),
-        None,
-    );
-    let outcome = run_on(&host, &rt, &host);
-    let (printed, said) = host.told();
-    assert!(rt; outcome.status() == Status::NotUnderstood);
-    assert!(rt; printed.as_slice() == b"bad line 1\n".as_slice());
-    assert!(rt; said.as_str() == "line 1, column 257: the line is longer than 256 bytes\n");
+    let line = " ".repeat(rt.alloc(), 2 * LONGEST_LINE)?;
+    let why = "257: the line is longer than 256 bytes";
+    assert!(rt; says(&rt, rt.alloc(), line.as_str(), why)?);
     Ok(())
 }

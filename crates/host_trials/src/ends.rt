@@ -1,8 +1,9 @@
 //! The program over memory: what its words tell, how it ends, and what a fault leaves.
-use crate::host::{Host, taken};
+use crate::host::{Ending, Host, ended, taken};
+use crate::lines::Lines;
 use clap::Error;
 use ksm_base::{MOST_FRAMES_PER_NODE, MOST_LIVES, MOST_NODES, Shape};
-use ksm_host::{Ended, Retrying, Status, played, run_on, told};
+use ksm_host::{Ended, Retrying, Status, played, told};
 use ksm_options::options;
 use ksm_script::Blocks;
 use std::alloc::{AllocError, Global};
@@ -12,19 +13,14 @@ use std::sync::Wait;
 use std::test::Fail;
 use std::thread::Threads;
 
-/// How the program ends at these words, this input and this room for output; what it printed; and what it said on
-/// standard error.
-fn ended<T: Threads + Wait + Sync>(
+/// How the program ends at these words and this input, over an output that takes all.
+fn ended_at<T: Threads + Wait + Sync>(
     threads: &T,
     alloc: Global,
     words: &str,
     input: &str,
-    room: Option<usize>,
-) -> (Status, Vec<u8>, String) {
-    let host = Host::new(alloc, words, input, room);
-    let outcome = run_on(&host, threads, &host);
-    let (printed, said) = host.told();
-    (outcome.status(), printed, said)
+) -> Ending {
+    ended(threads, Host::new(alloc, words, input, None))
 }
 
 /// Each option is read: two nodes, of three frames each, numbered node by node; a third pass; and a frame that is
@@ -32,30 +28,23 @@ fn ended<T: Threads + Wait + Sync>(
 #[test]
 fn words_tell_the_table(rt: HostRuntime) -> Result<(), Fail> {
     const WORDS: &str = "ksmbook --nodes 2 --frames 3 --passes 3 --tries 1 --last-generation 2";
-    let lines = [
-        ("reg 0 0 1 aa\n", "ok\n"),
-        ("reg 0 1 1 aa\n", "ok\n"),
-        ("reg 0 2 1 bb\n", "ok\n"),
-        ("reg 0 3 1 cc\n", "refused 4\n"),
-        ("reg 0 3 2 cc\n", "refused 11\n"),
-        ("set run 1\n", "ok\n"),
-        ("scan 6\n", "scanned 6\n"),
-        ("find 2 0\n", "held 3 1\n"),
-        ("find 3 0\n", "refused 12\n"),
-        ("reg 0 3 1 cc\n", "ok\n"),
-        ("drop 0 3\n", "ok\n"),
-        ("reg 0 3 1 cc\n", "refused 4\n"),
-    ];
-    let mut script = String::new(rt.alloc());
-    let mut replies = String::new(rt.alloc());
-    for (line, reply) in lines {
-        script.push_str(line)?;
-        replies.push_str(reply)?;
-    }
-    let run = ended(&rt, rt.alloc(), WORDS, script.as_str(), None);
-    assert!(rt; run.0 == Status::Done);
-    assert!(rt; run.1.as_slice() == replies.as_bytes());
-    assert!(rt; run.2.as_str() == "");
+    let mut lines = Lines::new(rt.alloc());
+    lines.add_all(&[
+        "reg 0 0 1 aa|ok",
+        "reg 0 1 1 aa|ok",
+        "reg 0 2 1 bb|ok",
+        "reg 0 3 1 cc|refused 4",
+        "reg 0 3 2 cc|refused 11",
+        "set run 1|ok",
+        "scan 6|scanned 6",
+        "find 2 0|held 3 1",
+        "find 3 0|refused 12",
+        "reg 0 3 1 cc|ok",
+        "drop 0 3|ok",
+        "reg 0 3 1 cc|refused 4",
+    ])?;
+    let ending = ended_at(&rt, rt.alloc(), WORDS, lines.script.as_str());
+    assert!(rt; ending.is(Status::Done, lines.replies.as_str(), ""));
     Ok(())
 }
 
@@ -112,7 +101,17 @@ fn numbers_of_statuses(rt: HostRuntime) {
     }
 }
 
-/// Words that are no options end the program before its first line, and it says why, with no control byte but newlines.
+/// Whether these words end the program before its first line, and it says why, with no control byte but newlines.
+fn are_wrong<T: Threads + Wait + Sync>(threads: &T, alloc: Global, words: &str) -> bool {
+    let ending = ended_at(threads, alloc, words, "stat\n");
+    let mut said = ending.said.chars();
+    ending.status == Status::NotUnderstood
+        && ending.printed.is_empty()
+        && !ending.said.is_empty()
+        && said.all(|c| c == '\n' || !c.is_control())
+}
+
+/// Words that are no options have their status. The version is printed where it alone is asked for.
 #[test]
 fn wrong_words_have_their_status(rt: HostRuntime) -> Result<(), Fail> {
     let nodes = format!(in rt.alloc(); "ksmbook --nodes {} --frames 4", MOST_NODES + 1)?;
@@ -130,16 +129,11 @@ fn wrong_words_have_their_status(rt: HostRuntime) -> Result<(), Fail> {
         "ksmbook --nodes 1 --frames \u{1b}[31m",
         "ksmbook --nodes --frames 4",
         "ksmbook --nodes 1 --frames !",
+        "ksmbook --version more",
+        "ksmbook --nodes 1 --frames 4 --version",
     ];
     for words in lines {
-        let run = ended(&rt, rt.alloc(), words, "stat\n", None);
-        assert_eq!(rt; run.0, Status::NotUnderstood, "{words}");
-        assert!(rt; run.1.is_empty(), "{words}");
-        assert!(rt; !run.2.is_empty(), "{words}");
-        assert!(rt;
-            run.2.chars().all(|c| c == '\n' || !c.is_control()),
-            "{words}"
-        );
+        assert!(rt; are_wrong(&rt, rt.alloc(), words), "{words}");
     }
     Ok(())
 }
@@ -147,8 +141,8 @@ fn wrong_words_have_their_status(rt: HostRuntime) -> Result<(), Fail> {
 /// A call for help has a text that names each option, and no error.
 #[test]
 fn help_names_each_option(rt: HostRuntime) {
-    let run = ended(&rt, rt.alloc(), "ksmbook --help", "stat\n", None);
-    assert!(rt; !run.2.contains("error"));
+    let ending = ended_at(&rt, rt.alloc(), "ksmbook --help", "stat\n");
+    assert!(rt; !ending.said.contains("error"));
     for option in [
         "Usage: ksmbook ",
         "--nodes ",
@@ -157,26 +151,17 @@ fn help_names_each_option(rt: HostRuntime) {
         "--tries ",
         "--last-generation ",
     ] {
-        assert!(rt; run.2.contains(option), "{option}");
+        assert!(rt; ending.said.contains(option), "{option}");
     }
 }
 
-/// The version is printed where it alone is asked for.
+/// The version is printed where it is asked for.
 #[test]
 fn the_version_is_printed(rt: HostRuntime) {
-    let run = ended(&rt, rt.alloc(), "ksmbook --version", "stat\n", None);
-    assert!(rt; run.0 == Status::Done);
-    assert!(rt; run.1.as_slice().starts_with("ksmbook ".as_bytes()));
-    assert!(rt; run.1.as_slice().ends_with("\n".as_bytes()));
-    assert!(rt; run.2.as_str() == "");
-    for words in [
-        "ksmbook --version more",
-        "ksmbook --nodes 1 --frames 4 --version",
-    ] {
-        let run = ended(&rt, rt.alloc(), words, "stat\n", None);
-        assert!(rt; run.0 == Status::NotUnderstood);
-        assert!(rt; run.1.is_empty());
-    }
+    let ending = ended_at(&rt, rt.alloc(), "ksmbook --version", "stat\n");
+    let printed = ending.printed.as_slice();
+    assert!(rt; printed.starts_with("ksmbook ".as_bytes()) && printed.ends_with("\n".as_bytes()));
+    assert!(rt; ending.status == Status::Done && ending.said.is_empty());
 }
 
 /// Where memory is refused for the words, they are not at fault.
@@ -185,14 +170,31 @@ fn words_are_not_at_fault_for_memory(rt: HostRuntime) {
     let host = Host::new(rt.alloc(), "ksmbook", "", None);
     let read = told(&host, Err(Error::from(AllocError)));
     let (printed, said) = host.told();
-    assert!(rt; read == Err(Status::NoMemory));
-    assert!(rt; printed.is_empty());
-    assert!(rt; said.as_str() == "");
+    assert!(rt; read == Err(Status::NoMemory) && printed.is_empty() && said.is_empty());
 }
 
 const FOUR: &str = "ksmbook --nodes 1 --frames 4";
 
 const BROKEN: &str = "ksmbook: a read or a write failed\n";
+
+/// A script, what it is answered, its end, and what is said.
+type End<'a> = (&'a str, &'a str, Status, &'a str);
+
+/// Whether a script ends so where the output has this room.
+fn ends_so<T: Threads + Wait + Sync>(threads: &T, alloc: Global, end: End, room: usize) -> bool {
+    let (script, wanted, status, why) = end;
+    let ending = ended(threads, Host::new(alloc, FOUR, script, Some(room)));
+    let (status, said) = if room == wanted.len() {
+        (status, why)
+    } else {
+        (Status::Broken, BROKEN)
+    };
+    let printed = ending.printed.as_slice();
+    printed.len() == room
+        && wanted.as_bytes().starts_with(printed)
+        && ending.status == status
+        && ending.said.as_str() == said
+}
 
 /// Each end of a script. Where the output fails, it has what it took before that, nothing more is sent, and it is said.
 #[test]
@@ -212,21 +214,9 @@ fn each_end_has_its_status(rt: HostRuntime) -> Result<(), Fail> {
             "line 2, column 1: no line begins with this word: foo\n",
         ),
     ];
-    for (script, wanted, end, why) in cases {
-        for room in 0..=wanted.len() {
-            let run = ended(&rt, rt.alloc(), FOUR, script, Some(room));
-            let (status, said) = if room == wanted.len() {
-                (end, why)
-            } else {
-                (Status::Broken, BROKEN)
-            };
-            assert_eq!(rt; run.0, status, "{script:?} {room}");
-            assert_eq!(rt;
-                run.1.as_slice(),
-                &wanted.as_bytes()[..room],
-                "{script:?} {room}"
-            );
-            assert_eq!(rt; run.2.as_str(), said, "{script:?} {room}");
+    for case in cases {
+        for room in 0..=case.1.len() {
+            assert!(rt; ends_so(&rt, rt.alloc(), case, room), "{} {room}", case.1);
         }
     }
     Ok(())
@@ -333,24 +323,32 @@ fn the_input_is_not_asked_again(rt: HostRuntime) -> Result<(), Fail> {
             calls: 0,
         };
         let run = played_by(&rt, rt.alloc(), 64, input, None)?;
-        assert!(rt; run.0 == end);
-        assert!(rt; run.1.as_slice() == wanted.as_bytes());
-        assert!(rt; run.2.calls == 2);
+        assert!(rt; run.0 == end && run.1.as_slice() == wanted.as_bytes() && run.2.calls == 2);
     }
     Ok(())
 }
 
+/// Whether, in blocks of this size, an output that fails once after so many bytes has just these.
+fn stops_in_blocks<T: Threads + Wait + Sync>(
+    threads: &T,
+    alloc: Global,
+    block: usize,
+    room: usize,
+) -> Result<bool, Fail> {
+    let script = "reg 0 0 0 aa\nget 1 0\nleave 0\nget 1 0\n";
+    let run = played_by(threads, alloc, block, script.as_bytes(), Some(room))?;
+    let sent = run.1.as_slice();
+    Ok(run.0 == Status::Broken && sent.len() == room && FOUR_REPLIES.as_bytes().starts_with(sent))
+}
+
+const FOUR_REPLIES: &str = "ok\nrefused 2\nrefused 14\nrefused 2\n";
+
 /// In small blocks, an output that fails once after any number of bytes has just these.
 #[test]
 fn nothing_is_sent_after_a_failed_write(rt: HostRuntime) -> Result<(), Fail> {
-    let wanted = "ok\nrefused 2\nrefused 14\nrefused 2\n";
-    let script = "reg 0 0 0 aa\nget 1 0\nleave 0\nget 1 0\n";
-    for block in [1, 8] {
-        for room in 0..wanted.len() {
-            let run = played_by(&rt, rt.alloc(), block, script.as_bytes(), Some(room))?;
-            assert_eq!(rt; run.0, Status::Broken, "{room}");
-            assert_eq!(rt; run.1.as_slice(), &wanted.as_bytes()[..room], "{room}");
-        }
+    for room in 0..FOUR_REPLIES.len() {
+        assert!(rt; stops_in_blocks(&rt, rt.alloc(), 1, room)?, "{room}");
+        assert!(rt; stops_in_blocks(&rt, rt.alloc(), 8, room)?, "{room}");
     }
     Ok(())
 }
@@ -371,8 +369,7 @@ fn interrupted_reads_are_tried_again(rt: HostRuntime) -> Result<(), Fail> {
         calls: 0,
     };
     let run = played_by(&rt, rt.alloc(), 64, Retrying::new(input), None)?;
-    assert!(rt; run.0 == Status::Done);
-    assert!(rt; run.1.as_slice() == "ok\nrefused 2\n".as_bytes());
+    assert!(rt; run.0 == Status::Done && run.1.as_slice() == "ok\nrefused 2\n".as_bytes());
     Ok(())
 }
 
@@ -386,7 +383,6 @@ fn a_line_in_many_pieces(rt: HostRuntime) -> Result<(), Fail> {
     )?;
     let wanted = format!(in rt.alloc(); "ok\n{digits}\nbad line 3\n")?;
     let run = played_by(&rt, rt.alloc(), 1, script.as_str().as_bytes(), None)?;
-    assert!(rt; run.0 == Status::NotUnderstood);
-    assert!(rt; run.1.as_slice() == wanted.as_bytes());
+    assert!(rt; run.0 == Status::NotUnderstood && run.1.as_slice() == wanted.as_bytes());
     Ok(())
 }

@@ -1,12 +1,15 @@
 //! A host in memory: the program's words, its input, and what is printed and said.
 ghost use Rattle.std.specs.Prelude.{◌≤◌, length, IfOk};
 
+use ksm_host::{Status, run_on};
 use std::alloc::{Alloc, Allocator, Global};
 use std::cell::RefCell;
 use std::env::FillError;
 use std::fmt::Display;
 use std::io::{self, BufRead, ErrorKind, IsTerminal, Lines, Write};
 use std::rt::Env;
+use std::sync::Wait;
+use std::thread::Threads;
 
 /// What the program meets. Its output takes `room` bytes, then fails once, and would take all after that; without a
 /// room it takes all.
@@ -48,6 +51,34 @@ impl<'a> Host<'a> {
     pub fn told(self) -> (Vec<u8>, String) {
         let Host { printed, said, .. } = self;
         (printed.into_inner(), said.into_inner())
+    }
+}
+
+/// How the program ended: its status, what it printed, and what it said on standard error.
+#[derive(Drop)]
+pub struct Ending {
+    pub status: Status,
+    pub printed: Vec<u8>,
+    pub said: String,
+}
+
+impl Ending {
+    /// Whether it ended so.
+    pub fn is(&self, status: Status, printed: &str, said: &str) -> bool {
+        self.status == status
+            && self.printed.as_slice() == printed.as_bytes()
+            && self.said.as_str() == said
+    }
+}
+
+/// How the program ends over this host.
+pub fn ended<T: Threads + Wait + Sync>(threads: &T, host: Host) -> Ending {
+    let outcome = run_on(&host, threads, &host);
+    let (printed, said) = host.told();
+    Ending {
+        status: outcome.status(),
+        printed,
+        said,
     }
 }
 

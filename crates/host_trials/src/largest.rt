@@ -1,49 +1,14 @@
 //! A table of 1,024 frames: each kind of line, an `rmap` and an audit of as many places, and more than 10,000 lines.
-use crate::host::Host;
+use crate::host::{Host, ended};
+use crate::lines::Lines;
 use ksm_base::{MOST_LIVES, MOST_TRIES};
-use ksm_host::{Status, run_on};
-use std::alloc::{AllocError, Global};
+use ksm_host::Status;
 use std::test::Fail;
 
 /// How many frames, places and pages there are.
 const FRAMES: u32 = 1024;
 
-/// Lines, and the replies that the rules give them.
-#[derive(Drop)]
-struct Lines {
-    alloc: Global,
-    script: String,
-    replies: String,
-}
-
 impl Lines {
-    fn new(alloc: Global) -> Lines {
-        Lines {
-            alloc,
-            script: String::new(alloc),
-            replies: String::new(alloc),
-        }
-    }
-
-    /// Adds a line and its reply.
-    fn add(&mut self, line: &str, reply: &str) -> Result<(), AllocError> {
-        self.script.push_str(line)?;
-        self.script.push_str("\n")?;
-        self.replies.push_str(reply)?;
-        self.replies.push_str("\n")
-    }
-
-    /// Adds each row's line and reply, which a bar stands between.
-    fn add_all(&mut self, rows: &[&str]) -> Result<(), Fail> {
-        for row in rows.iter() {
-            let Some((line, reply)) = row.split_once('|') else {
-                return Err(Fail::from("a row"));
-            };
-            self.add(line, reply)?;
-        }
-        Ok(())
-    }
-
     /// One content on all frames, which two passes merge into one dup: it stands on the frame of the first page.
     fn merge_all(&mut self) -> Result<(), Fail> {
         self.add("set max_page_sharing 1024", "ok")?;
@@ -155,10 +120,6 @@ fn a_large_table(rt: HostRuntime) -> Result<(), Fail> {
         MOST_TRIES, MOST_LIVES
     )?;
     let host = Host::new(rt.alloc(), words.as_str(), lines.script.as_str(), None);
-    let outcome = run_on(&host, &rt, &host);
-    let (printed, said) = host.told();
-    assert!(rt; outcome.status() == Status::Done);
-    assert!(rt; printed.as_slice() == lines.replies.as_bytes());
-    assert!(rt; said.as_str() == "");
+    assert!(rt; ended(&rt, host).is(Status::Done, lines.replies.as_str(), ""));
     Ok(())
 }

@@ -10,4 +10,6 @@ mod host;
 #[cfg(test)]
 mod largest;
 #[cfg(test)]
+mod lines;
+#[cfg(test)]
 mod refusals;

@@ -1,10 +1,14 @@
 //! What is said of refusals, and when.
-use crate::host::Host;
+use crate::host::{Host, ended};
+use crate::lines::Lines;
 use ksm_base::Fault;
 use ksm_causes::Refused;
-use ksm_host::{Status, run_on};
+use ksm_host::Status;
 use ksm_script::{LineReply, Refusal};
+use std::alloc::Global;
+use std::sync::Wait;
 use std::test::Fail;
+use std::thread::Threads;
 
 const WORDS: &str = "ksmbook --nodes 2 --frames 2 --passes 1";
 
@@ -36,41 +40,48 @@ reg 1 1 1 dd|ok|
 unmerge 0|unmerged 0 refused 4|no frame of node 0 is free
 move 0 0 1|refused 4|no frame of node 1 is free";
 
+/// What is said of a line, if it is refused.
+fn add_sentence(said: &mut String, number: u32, row: Row) -> Result<(), Fail> {
+    if let Some((_, refusal)) = row.reply.split_once("refused ") {
+        let Row { line, why, .. } = row;
+        write!(said, "line {number}, refused {refusal}: {why}: {line}\n")?;
+    }
+    Ok(())
+}
+
+/// A row's line, its reply and why it is refused.
+#[derive(Clone, Copy)]
+struct Row<'a> {
+    line: &'a str,
+    reply: &'a str,
+    why: &'a str,
+}
+
+fn row_of(text: &str) -> Option<Row<'_>> {
+    let (line, told) = text.split_once('|')?;
+    let (reply, why) = told.split_once('|')?;
+    Some(Row { line, reply, why })
+}
+
 /// Each refusal is said behind its reply, with the number of its line and the line; and what is printed is the same
 /// where none is said.
 #[test]
 fn each_refusal_is_said(rt: HostRuntime) -> Result<(), Fail> {
-    let mut script = String::new(rt.alloc());
-    let mut replies = String::new(rt.alloc());
+    let mut lines = Lines::new(rt.alloc());
     let mut sentences = String::new(rt.alloc());
     let mut number = 0u32;
-    for row in ROWS.split('\n') {
-        let Some((line, told)) = row.split_once('|') else {
+    for text in ROWS.split('\n') {
+        let Some(row) = row_of(text) else {
             return Err(Fail::from("a row"));
         };
-        let Some((reply, why)) = told.split_once('|') else {
-            return Err(Fail::from("a reply"));
-        };
         number = number.saturating_add(1);
-        write!(script, "{line}\n")?;
-        write!(replies, "{reply}\n")?;
-        if let Some((_, refusal)) = reply.split_once("refused ") {
-            write!(
-                sentences,
-                "line {number}, refused {refusal}: {why}: {line}\n"
-            )?;
-        }
+        lines.add(row.line, row.reply)?;
+        add_sentence(&mut sentences, number, row)?;
     }
     for (value, wanted) in [("1", sentences.as_str()), ("0", "")] {
-        let host = Host::new(rt.alloc(), WORDS, script.as_str(), None).explaining(
-            Some(value),
-            true,
-        );
-        let outcome = run_on(&host, &rt, &host);
-        let (printed, said) = host.told();
-        assert!(rt; outcome.status() == Status::Done);
-        assert!(rt; printed.as_slice() == replies.as_bytes());
-        assert!(rt; said.as_str() == wanted);
+        let host = Host::new(rt.alloc(), WORDS, lines.script.as_str(), None);
+        let ending = ended(&rt, host.explaining(Some(value), true));
+        assert!(rt; ending.is(Status::Done, lines.replies.as_str(), wanted));
     }
     Ok(())
 }
@@ -90,6 +101,18 @@ fn a_refusal_for_memory_is_said(rt: HostRuntime) -> Result<(), Fail> {
     Ok(())
 }
 
+/// Whether a refusal is said with this value of the variable, and with a terminal or none.
+fn is_said<T: Threads + Wait + Sync>(
+    threads: &T,
+    alloc: Global,
+    value: Option<&str>,
+    is_terminal: bool,
+) -> Option<bool> {
+    let host = Host::new(alloc, WORDS, "look 1", None).explaining(value, is_terminal);
+    let ending = ended(threads, host);
+    (ending.status == Status::Done).then_some(!ending.said.is_empty())
+}
+
 /// The variable decides where it is 0 or 1, else the terminal does.
 #[test]
 fn who_asks_for_words(rt: HostRuntime) {
@@ -103,36 +126,40 @@ fn who_asks_for_words(rt: HostRuntime) {
         (Some("yes"), true, true),
     ];
     for (value, is_terminal, are_told) in cases {
-        let host = Host::new(rt.alloc(), WORDS, "look 1", None).explaining(value, is_terminal);
-        let outcome = run_on(&host, &rt, &host);
-        let (_, said) = host.told();
-        assert!(rt; outcome.status() == Status::Done);
-        assert!(rt; said.is_empty() != are_told, "{value:?} {is_terminal}");
+        let said = is_said(&rt, rt.alloc(), value, is_terminal);
+        assert!(rt; said == Some(are_told), "{value:?} {is_terminal}");
     }
+}
+
+/// Whether the program, whose output has this room, ends, prints and says so.
+fn stops_so<T: Threads + Wait + Sync>(
+    threads: &T,
+    alloc: Global,
+    room: usize,
+    wanted: (Status, &str, &str),
+) -> bool {
+    let host = Host::new(alloc, WORDS, "look 1\nlook 0\n", Some(room));
+    let ending = ended(threads, host.explaining(Some("1"), false));
+    let printed = ending.printed.as_slice();
+    printed.len() == room
+        && "refused 12\nrefused 14\n".as_bytes().starts_with(printed)
+        && ending.status == wanted.0
+        && ending.said.as_str().strip_prefix(wanted.1) == Some(wanted.2)
 }
 
 /// A refusal is said once its reply is sent, and where that fails nothing more is sent or said.
 #[test]
 fn words_stand_behind_a_reply_that_is_sent(rt: HostRuntime) {
-    let wanted = "refused 12\nrefused 14\n";
     let first = "line 1, refused 12: there is no such pass: look 1\n";
     let both =
         "line 1, refused 12: there is no such pass: look 1\nline 2, refused 14: the pass holds no frame: look 0\n";
     let broken = "ksmbook: a read or a write failed\n";
-    for room in 0..=wanted.len() {
-        let host = Host::new(rt.alloc(), WORDS, "look 1\nlook 0\n", Some(room)).explaining(
-            Some("1"),
-            false,
-        );
-        let outcome = run_on(&host, &rt, &host);
-        let (printed, said) = host.told();
-        let (end, why, last) = match room {
+    for room in 0..23 {
+        let wanted = match room {
             0..=10 => (Status::Broken, "", broken),
             11..=21 => (Status::Broken, first, broken),
             _ => (Status::Done, both, ""),
         };
-        assert_eq!(rt; outcome.status(), end, "{room}");
-        assert_eq!(rt; printed.as_slice(), &wanted.as_bytes()[..room], "{room}");
-        assert!(rt; said.as_str().strip_prefix(why) == Some(last), "{room}");
+        assert!(rt; stops_so(&rt, rt.alloc(), room, wanted), "{room}");
     }
 }
