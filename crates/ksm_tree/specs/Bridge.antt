@@ -1,5 +1,6 @@
 -- The book's rows beside the dups with their items.
-use Rattle.ksm_tree.specs.Terms.{All, Choice, Dup, Empty, GuestPage, item_count, items_of, length, List, Merged, PageState, Row, Stale, without_item, ℕ, ◌≡◌}
+use Rattle.std.specs.Prelude.{All, length, List, ℕ, ◌≡◌}
+use Rattle.ksm_tree.specs.Terms.{Choice, Dup, Empty, GuestPage, item_count, items_of, Merged, PageState, Row, Stale, without_item}
 use Rattle.ksm_tree.specs.Dups.{change_items}
 
 -- each dup has as many items as there are rows merged into it

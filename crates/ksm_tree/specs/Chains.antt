@@ -1,5 +1,6 @@
 -- Where the dups of a tree and bytes stand, and what callers see of the dups by place and of the groups. (own)
-use Rattle.ksm_tree.specs.Terms.{Bool, bytes_eq, DupRow, filter, length, List, map, MOST_FRAMES, nat_lt, ℕ, ◌&&◌, ◌==◌, ◌≡◌, ◌≤◌}
+use Rattle.std.specs.Prelude.{Bool, bytes_eq, filter, length, List, map, nat_lt, ℕ, ◌&&◌, ◌==◌, ◌≡◌, ◌≤◌}
+use Rattle.ksm_tree.specs.Terms.{DupRow, MOST_FRAMES}
 use Rattle.ksm_tree.specs.declared.groups.Groups.{Groups}
 use Rattle.ksm_tree.specs.Dups.{AreDups, DupsState, rows_of}
 use Rattle.ksm_tree.specs.Groups.{AreTotals, chain_in}

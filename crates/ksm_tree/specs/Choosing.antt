@@ -1,7 +1,7 @@
 -- Which dup a page joins, and where a new dup goes:
 -- the book's own words, with the items of a dup in place of the rows merged into it.
-use Rattle.ksm_tree.specs.Terms.{Best, Bool, bytes_eq, Choice, Dup, DupRow, Empty, empty_from, false, find, if◌then◌else◌, length, List, list_all, nat_le, nat_lt, None, not, Option, Some, Stale, true}
-use Rattle.ksm_tree.specs.Terms.{ℕ, ◌&&◌, ◌==◌, ◌||◌, ◌≡◌}
+use Rattle.std.specs.Prelude.{Bool, bytes_eq, false, find, if◌then◌else◌, length, List, nat_le, nat_lt, None, not, Option, Some, true, ℕ, ◌&&◌, ◌==◌, ◌||◌, ◌≡◌}
+use Rattle.ksm_tree.specs.Terms.{Best, Choice, Dup, DupRow, Empty, empty_from, list_all, Stale}
 use Rattle.ksm_tree.specs.Dups.{DupsState, is_stale, places_open, rows_of}
 use Rattle.ksm_tree.specs.Chains.{in_group}
 

@@ -1,6 +1,6 @@
 -- Dups with their items, in the order of their places (mm/ksm: stable nodes, chains).
-use Rattle.ksm_tree.specs.Terms.{[], All, Bool, Dup, DupRow, false, filter, find, GuestPage, if◌then◌else◌, InPlaceOrder, length, List, map, nat_lt, None, not, Option, option_map, same_page, Some, ℕ}
-use Rattle.ksm_tree.specs.Terms.{◌&&◌, ◌++◌, ◌+◌, ◌<◌, ◌==◌, ◌^◌, ◌∷◌, ◌≡◌}
+use Rattle.std.specs.Prelude.{[], All, Bool, false, filter, find, if◌then◌else◌, length, List, map, nat_lt, None, not, Option, option_map, Some, ℕ, ◌&&◌, ◌++◌, ◌+◌, ◌<◌, ◌==◌, ◌^◌, ◌∷◌, ◌≡◌}
+use Rattle.ksm_tree.specs.Terms.{Dup, DupRow, GuestPage, InPlaceOrder, same_page}
 use Rattle.ksm_tree.specs.Places.{is_open}
 use Rattle.ksm_tree.specs.Numbered.{Numbers}
 

@@ -1,6 +1,6 @@
 -- The groups: the dups of one tree and one content (mm/ksm: a chain links the copies of one content), and how many are chains.
-use Rattle.ksm_tree.specs.Terms.{[], Bool, bytes_eq, count_by, DupRow, ForSome, get, if◌then◌else◌, in_chain, is_some, leads_group, length, List, MOST_SPARE, nat_lt, None, Option, Some, true, ℕ, ◌&&◌}
-use Rattle.ksm_tree.specs.Terms.{◌+◌, ◌<◌, ◌==◌, ◌^◌, ◌≡◌, ◌≤◌}
+use Rattle.std.specs.Prelude.{[], Bool, bytes_eq, count_by, if◌then◌else◌, is_some, length, List, nat_lt, None, Option, Some, true, ℕ, ◌&&◌, ◌+◌, ◌<◌, ◌==◌, ◌^◌, ◌≡◌, ◌≤◌}
+use Rattle.ksm_tree.specs.Terms.{DupRow, ForSome, get, in_chain, leads_group, MOST_SPARE}
 use Rattle.smallvec.specs.SmallVec.{HasRoomFor}
 use Rattle.ksm_tree.specs.declared.groups.Groups.{Groups}
 use Rattle.ksm_tree.specs.Numbered.{KeepsReserve, number_of, places_in}

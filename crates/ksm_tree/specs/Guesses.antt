@@ -1,5 +1,6 @@
 -- Numbers as guesses, each in a slot. (own)
-use Rattle.ksm_tree.specs.Terms.{[], get_or, List, NO_NUMBER, replicate, set, ℕ, ◌∷◌, ◌≡◌, ◌⊎◌}
+use Rattle.std.specs.Prelude.{[], get_or, List, replicate, set, ℕ, ◌∷◌, ◌≡◌, ◌⊎◌}
+use Rattle.ksm_tree.specs.Terms.{NO_NUMBER}
 
 -- the number in a slot, or what is told of one in which no number is
 abbrev pub guess_at : List ℕ → ℕ → ℕ

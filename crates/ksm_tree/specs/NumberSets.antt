@@ -1,5 +1,6 @@
 -- Sets of numbers as words of bits. (own)
-use Rattle.ksm_tree.specs.Terms.{bit_at, Bool, false, length, List, MatchOption, not, Option, slice_index, true, ℕ, ◌%◌, ◌*◌, ◌/◌, ◌<◌, ◌==◌, ◌^◌, ◌≡◌, ◌≢◌, ◌≤◌}
+use Rattle.std.specs.Prelude.{Bool, false, length, List, MatchOption, not, Option, slice_index, true, ℕ, ◌%◌, ◌*◌, ◌/◌, ◌<◌, ◌==◌, ◌^◌, ◌≡◌, ◌≢◌, ◌≤◌}
+use Rattle.ksm_tree.specs.Terms.{bit_at}
 
 -- the bit of the number is set
 abbrev pub has : List ℕ → ℕ → Bool

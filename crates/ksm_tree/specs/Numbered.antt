@@ -1,7 +1,7 @@
 -- Contents, each with a number: a tree with the bytes of a page. Under the number stands the group: the places of its
 -- dups. How many have a number: those that were in use when the others lost theirs, and a reserve. (own)
-use Rattle.ksm_tree.specs.Terms.{[], Bool, bytes_eq, Content, false, get, is_at, is_some, length, List, lookup, MOST_SPARE, nat_lt, None, Option, option_map, Ordering, Slab, Some, true, ℕ, ◌&&◌, ◌+◌}
-use Rattle.ksm_tree.specs.Terms.{◌==◌, ◌↔◌, ◌≡◌, ◌≢◌, ◌≤◌, ◌⊎◌}
+use Rattle.std.specs.Prelude.{[], Bool, bytes_eq, false, is_some, length, List, nat_lt, None, Option, option_map, Some, true, ℕ, ◌&&◌, ◌+◌, ◌==◌, ◌↔◌, ◌≡◌, ◌≢◌, ◌≤◌, ◌⊎◌}
+use Rattle.ksm_tree.specs.Terms.{Content, get, is_at, lookup, MOST_SPARE, Ordering, Slab}
 use Rattle.ksm_tree.specs.declared.groups.Group.{Group}
 use Rattle.ksm_tree.specs.contracts.content.ContentOrd.TheImpl as content_ord
 

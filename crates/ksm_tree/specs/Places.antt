@@ -1,5 +1,6 @@
 -- Places in ascending order, each once, and those at which a count passes a test. (own)
-use Rattle.ksm_tree.specs.Terms.{[], Bool, filter, if◌then◌else◌, length, List, nat_le, nat_lt, not, SmallVec, suc, ℕ, ◌&&◌, ◌++◌, ◌==◌, ◌∷◌, ◌≡◌, ◌≤◌}
+use Rattle.std.specs.Prelude.{[], Bool, filter, if◌then◌else◌, length, List, nat_le, nat_lt, not, suc, ℕ, ◌&&◌, ◌++◌, ◌==◌, ◌∷◌, ◌≡◌, ◌≤◌}
+use Rattle.ksm_tree.specs.Terms.{SmallVec}
 
 -- the places with this one at its place in the order, whether it was there or not
 abbrev pub with_place : ℕ → List ℕ → List ℕ

@@ -1,7 +1,8 @@
 -- The dups by place: a slot for each place, under a key that is compared before it is believed, and the places whose
 -- slots pass a test. (own)
-use Rattle.ksm_tree.specs.Terms.{[], Bool, cond, count_by, Dup, false, filter_map, get, get_or, GuestPage, IfSome, if◌then◌else◌, is_none, length, List, map, MOST_FRAMES, nat_lt, None, Option}
-use Rattle.ksm_tree.specs.Terms.{option_map, range_with_len, Slab, slab_len, slice_index, slice_index_or, slice_set, Some, suc, true, ℕ, ◌&&◌, ◌*◌, ◌+◌, ◌<◌, ◌^◌, ◌∷◌, ◌≡◌, ◌≤◌}
+use Rattle.std.specs.Prelude.{[], Bool, cond, count_by, false, filter_map, get_or, IfSome, if◌then◌else◌, is_none, length, List, map, nat_lt, None, Option, option_map, slice_index, slice_index_or}
+use Rattle.std.specs.Prelude.{slice_set, Some, suc, true, ℕ, ◌&&◌, ◌*◌, ◌+◌, ◌<◌, ◌^◌, ◌∷◌, ◌≡◌, ◌≤◌}
+use Rattle.ksm_tree.specs.Terms.{Dup, get, GuestPage, MOST_FRAMES, range_with_len, Slab, slab_len}
 use Rattle.ksm_tree.specs.declared.number_set.CountedSet.{CountedSet}
 use Rattle.ksm_tree.specs.Dups.{is_stale, items_in, stands_at}
 use Rattle.ksm_tree.specs.NumberSets.{has, Marks}

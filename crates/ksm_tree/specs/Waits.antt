@@ -1,5 +1,6 @@
 -- Waiting pages, by tree and bytes (mm/ksm: the unstable tree; that one page waits for each content is own).
-use Rattle.ksm_tree.specs.Terms.{bytes_eq, Content, find, GuestPage, if◌then◌else◌, List, map, Option, option_map, ℕ, ◌&&◌, ◌==◌, ◌≡◌}
+use Rattle.std.specs.Prelude.{bytes_eq, find, if◌then◌else◌, List, map, Option, option_map, ℕ, ◌&&◌, ◌==◌, ◌≡◌}
+use Rattle.ksm_tree.specs.Terms.{Content, GuestPage}
 
 -- a page that waits for an equal one
 pub record WaitingPage : Type 0 where

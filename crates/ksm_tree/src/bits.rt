@@ -2,7 +2,8 @@
 //! number is found in a step for each height, wherever it is, and so is that there is none.
 #![tactic(auto, using(crate::proofs::NumberBits::steps))]
 
-ghost use Rattle.ksm_tree.specs.Terms.{[], FailsForMemory, false, IfOk, length, List, MatchOption, true, ℕ, ◌*◌, ◌+◌, ◌/◌, ◌<◌, ◌^◌, ◌∷◌, ◌≡◌, ◌≢◌, ◌≤◌};
+ghost use Rattle.std.specs.Prelude.{[], false, IfOk, length, List, MatchOption, true, ℕ, ◌*◌, ◌+◌, ◌/◌, ◌<◌, ◌^◌, ◌∷◌, ◌≡◌, ◌≢◌, ◌≤◌};
+ghost use Rattle.ksm_tree.specs.Terms.{FailsForMemory};
 ghost use Rattle.ksm_tree.specs.NumberSets.{FindsLeast, has, HasNoBit, IsLowestBit, Marks};
 
 use ksm_base::Fault;
@@ -36,7 +37,7 @@ pub struct Word {
 }
 
 impl Model for Word {
-    ghost use Rattle.ksm_tree.specs.Terms.{[], List, ℕ, ◌∷◌};
+    ghost use Rattle.std.specs.Prelude.{[], List, ℕ, ◌∷◌};
 
     ghost Value = { List ℕ };
 
@@ -81,7 +82,7 @@ pub struct Words<S: Bits, const MOST: usize> {
 }
 
 impl<S: Bits, const MOST: usize> Model for Words<S, MOST> {
-    ghost use Rattle.ksm_tree.specs.Terms.{List, ℕ};
+    ghost use Rattle.std.specs.Prelude.{List, ℕ};
     ghost use Rattle.ksm_tree.specs.NumberSets.{AreSummed};
 
     ghost Value = { List ℕ };
@@ -92,7 +93,7 @@ impl<S: Bits, const MOST: usize> Model for Words<S, MOST> {
 }
 
 impl<S: Bits, const MOST: usize> Words<S, MOST> {
-    ghost use Rattle.ksm_tree.specs.Terms.{replicate};
+    ghost use Rattle.std.specs.Prelude.{replicate};
 
     /// No numbers, with room for those of so many words. The one fault is `Memory`.
     pub fn empty(alloc: Global, summary: S, words: usize) -> Result<Words<S, MOST>, Fault>

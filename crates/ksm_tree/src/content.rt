@@ -1,6 +1,6 @@
 //! What groups and waiting pages are found by: a tree and the bytes of a page, in an order of their own. Beside that
 //! the slot in which the number of their group is remembered.
-ghost use Rattle.ksm_tree.specs.Terms.{bytes_eq, ◌<◌, ◌≡◌};
+ghost use Rattle.std.specs.Prelude.{bytes_eq, ◌<◌, ◌≡◌};
 ghost use Rattle.ksm_tree.specs.declared.content.TheConstants.{SLOTS as slots};
 
 use ksm_base::{PAGE_WORDS, PageBytes};

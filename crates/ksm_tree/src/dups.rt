@@ -9,9 +9,9 @@
 //! A page that looks for a dup to join walks along its chain, which mostly has one dup. Of a long chain most dups are
 //! full. So while there is a long one in a small table, the open places of all contents are kept, and such a page walks
 //! along these if they are fewer.
-ghost use Rattle.ksm_tree.specs.Terms.{[], All, count_by, FailsForMemory, false, find, has_item, IfNone, IfOk, if◌then◌else◌, in_chain, is_some, IsTrue, leads_group, length, List, MOST_FRAMES};
-ghost use Rattle.ksm_tree.specs.Terms.{MOST_REFERENCES, MOST_SPARE, None, OnErr, OnOk, option_copied, option_map, same_page, slice_get, Some, true, with_item, without_item, ℕ, ◌&&◌, ◌+◌, ◌<◌, ◌^◌};
-ghost use Rattle.ksm_tree.specs.Terms.{◌∷◌, ◌≡◌, ◌≤◌};
+ghost use Rattle.std.specs.Prelude.{[], All, count_by, false, find, IfNone, IfOk, if◌then◌else◌, is_some, IsTrue, length, List, None, OnErr, OnOk, option_copied, option_map, slice_get, Some, true, ℕ};
+ghost use Rattle.std.specs.Prelude.{◌&&◌, ◌+◌, ◌<◌, ◌^◌, ◌∷◌, ◌≡◌, ◌≤◌};
+ghost use Rattle.ksm_tree.specs.Terms.{FailsForMemory, has_item, in_chain, leads_group, MOST_FRAMES, MOST_REFERENCES, MOST_SPARE, same_page, with_item, without_item};
 ghost use Rattle.ksm_tree.specs.Chains.{AreChained, group_places, in_group, is_in_use};
 ghost use Rattle.ksm_tree.specs.Choosing.{ArePlacesToJoin, best_of, candidate_of, choice_of, found_at};
 ghost use Rattle.ksm_tree.specs.Dups.{AreDups, change_items, dup_at, dup_of, is_live, is_stale, items_in, items_of, MayBecomeDup, place_of, rows_of, stands_at, with_new, without_place};

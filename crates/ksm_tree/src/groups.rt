@@ -9,8 +9,8 @@
 //! steps. How many groups are chains is kept beside them, so the counters of chains are read.
 #![tactic(auto, using(crate::proofs::Standing::steps))]
 
-ghost use Rattle.ksm_tree.specs.Terms.{[], FailsForMemory, false, get, IfOk, IfSome, is_some, IsTrue, length, List, MOST_FRAMES as most_frames, MOST_SPARE as most_spare, OnOk, option_copied};
-ghost use Rattle.ksm_tree.specs.Terms.{Some, true, ℕ, ◌+◌, ◌≡◌, ◌≢◌, ◌≤◌, ◌⊎◌};
+ghost use Rattle.std.specs.Prelude.{[], false, IfOk, IfSome, is_some, IsTrue, length, List, OnOk, option_copied, Some, true, ℕ, ◌+◌, ◌≡◌, ◌≢◌, ◌≤◌, ◌⊎◌};
+ghost use Rattle.ksm_tree.specs.Terms.{FailsForMemory, get, MOST_FRAMES as most_frames, MOST_SPARE as most_spare};
 ghost use Rattle.ksm_tree.specs.Numbered.{AreGroups, has_place, places_in};
 ghost use Rattle.ksm_tree.specs.Places.{with_place, without};
 

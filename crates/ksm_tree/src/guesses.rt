@@ -3,7 +3,7 @@
 //!
 //! Many things have one slot, and a number may go to another thing: whoever takes one compares before it is believed.
 //! So whoever picks things of one slot gains that each is searched for, as it would be without this table.
-ghost use Rattle.ksm_tree.specs.Terms.{[], ◌≡◌};
+ghost use Rattle.std.specs.Prelude.{[], ◌≡◌};
 ghost use Rattle.ksm_tree.specs.Guesses.{guess_at, IsBegun, IsPut};
 
 use crate::groups::NO_NUMBER;

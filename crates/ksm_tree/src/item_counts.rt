@@ -6,7 +6,8 @@
 //! all chains are short that costs more than it saves.
 #![tactic(auto, using(crate::proofs::Where::steps))]
 
-ghost use Rattle.ksm_tree.specs.Terms.{All, FailsForMemory, IfOk, IfSome, length, list_all, MOST_FRAMES, not, replicate, slice_index, slice_set, ℕ, ◌<◌, ◌≡◌, ◌≤◌};
+ghost use Rattle.std.specs.Prelude.{All, IfOk, IfSome, length, not, replicate, slice_index, slice_set, ℕ, ◌<◌, ◌≡◌, ◌≤◌};
+ghost use Rattle.ksm_tree.specs.Terms.{FailsForMemory, list_all, MOST_FRAMES};
 ghost use Rattle.ksm_tree.specs.Places.{is_open as is_open_count, places_where};
 
 use crate::dups::FEW_PLACES;
@@ -26,7 +27,7 @@ pub struct Counts {
 }
 
 impl Model for Counts {
-    ghost use Rattle.ksm_tree.specs.Terms.{List, ℕ};
+    ghost use Rattle.std.specs.Prelude.{List, ℕ};
     ghost use Rattle.ksm_tree.specs.Places.{AreCounts};
 
     ghost Value = { List ℕ };

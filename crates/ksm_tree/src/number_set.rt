@@ -1,7 +1,8 @@
 //! Sets of the numbers of frames, or of places, as words of bits with as many heights above them as their limit wants.
 #![tactic(auto, using(crate::proofs::NumberBits::replicated))]
 
-ghost use Rattle.ksm_tree.specs.Terms.{FailsForMemory, false, IfOk, length, MOST_FRAMES as most_frames, true, ℕ, ◌*◌, ◌<◌, ◌≡◌, ◌≤◌};
+ghost use Rattle.std.specs.Prelude.{false, IfOk, length, true, ℕ, ◌*◌, ◌<◌, ◌≡◌, ◌≤◌};
+ghost use Rattle.ksm_tree.specs.Terms.{FailsForMemory, MOST_FRAMES as most_frames};
 ghost use Rattle.ksm_tree.specs.declared.number_set.TheConstants.{WORDS as most_words};
 ghost use Rattle.ksm_tree.specs.NumberSets.{FindsLeast, has, Marks};
 ghost use Rattle.ksm_tree.specs.Slots.{IsMarked, MayBeMarked};
@@ -33,7 +34,7 @@ pub struct NumberSet {
 }
 
 impl Model for NumberSet {
-    ghost use Rattle.ksm_tree.specs.Terms.{List, ℕ};
+    ghost use Rattle.std.specs.Prelude.{List, ℕ};
 
     ghost Value = { List ℕ };
 

@@ -1,6 +1,7 @@
 //! Sorted lists of places: of a group, and of the open dups. Most groups have few dups, so four places lie in the list
 //! itself.
-ghost use Rattle.ksm_tree.specs.Terms.{[], AllPairs, FailsForMemory, IfOk, length, OnOk, ◌+◌, ◌<◌, ◌≡◌, ◌≤◌};
+ghost use Rattle.std.specs.Prelude.{[], AllPairs, IfOk, length, OnOk, ◌+◌, ◌<◌, ◌≡◌, ◌≤◌};
+ghost use Rattle.ksm_tree.specs.Terms.{FailsForMemory};
 ghost use Rattle.smallvec.specs.SmallVec.{HasRoomFor};
 ghost use Rattle.ksm_tree.specs.Places.{with_place, without};
 

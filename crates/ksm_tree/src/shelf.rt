@@ -5,8 +5,8 @@
 //! written where no dup is, and a key that leads to a dup of another place leads nowhere.
 #![tactic(auto, using(crate::proofs::Shelved::steps))]
 
-ghost use Rattle.ksm_tree.specs.Terms.{FailsForMemory, false, has_item, IfOk, if◌then◌else◌, is_some, length, MOST_FRAMES, MOST_REFERENCES, None, OnErr, OnOk, option_copied, replicate};
-ghost use Rattle.ksm_tree.specs.Terms.{slice_index_or, slice_set, Some, true, with_item, without_item, ◌<◌, ◌≡◌, ◌≤◌};
+ghost use Rattle.std.specs.Prelude.{false, IfOk, if◌then◌else◌, is_some, length, None, OnErr, OnOk, option_copied, replicate, slice_index_or, slice_set, Some, true, ◌<◌, ◌≡◌, ◌≤◌};
+ghost use Rattle.ksm_tree.specs.Terms.{FailsForMemory, has_item, MOST_FRAMES, MOST_REFERENCES, with_item, without_item};
 ghost use Rattle.ksm_tree.specs.Dups.{dup_of, items_in};
 ghost use Rattle.ksm_tree.specs.Slots.{change_slot, present};
 

@@ -1,8 +1,8 @@
 //! The dups by their places, a slot for each: a place leads to its dup in two steps, and an empty one takes few bytes.
 #![tactic(auto, using(crate::proofs::OneSlot::steps))]
 
-ghost use Rattle.ksm_tree.specs.Terms.{[], count_by, FailsForMemory, false, find, has_item, IfOk, IfSome, is_some, length, MOST_FRAMES, MOST_REFERENCES, None, OnErr, OnOk, option_copied};
-ghost use Rattle.ksm_tree.specs.Terms.{slice_index_or, Some, true, with_item, without_item, ℕ, ◌<◌, ◌≡◌, ◌≤◌};
+ghost use Rattle.std.specs.Prelude.{[], count_by, false, find, IfOk, IfSome, is_some, length, None, OnErr, OnOk, option_copied, slice_index_or, Some, true, ℕ, ◌<◌, ◌≡◌, ◌≤◌};
+ghost use Rattle.ksm_tree.specs.Terms.{FailsForMemory, has_item, MOST_FRAMES, MOST_REFERENCES, with_item, without_item};
 ghost use Rattle.ksm_tree.specs.Choosing.{empty_place};
 ghost use Rattle.ksm_tree.specs.Dups.{dup_at, dup_of, is_live, is_stale, items_in, place_of, places_open, rows_of, with_new, without_place};
 ghost use Rattle.ksm_tree.specs.Slots.{change_at, HaveDups};

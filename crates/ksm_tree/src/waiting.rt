@@ -1,7 +1,8 @@
 //! The unstable tree, for users of this library. The book's own is in `ksm_pages`, which has each page's row.
 #![tactic(auto, using(crate::proofs::Numbering::steps))]
 
-ghost use Rattle.ksm_tree.specs.Terms.{[], FailsForMemory, IfOk, is_some, None, OnErr, Some, true, unwrap_or, ◌≡◌};
+ghost use Rattle.std.specs.Prelude.{[], IfOk, is_some, None, OnErr, Some, true, unwrap_or, ◌≡◌};
+ghost use Rattle.ksm_tree.specs.Terms.{FailsForMemory};
 ghost use Rattle.ksm_tree.specs.Waits.{IsSetTo, waiting_page};
 
 use crate::content::Content;
@@ -22,7 +23,7 @@ pub struct Waiting {
 }
 
 impl Model for Waiting {
-    ghost use Rattle.ksm_tree.specs.Terms.{List};
+    ghost use Rattle.std.specs.Prelude.{List};
     ghost use Rattle.ksm_tree.specs.Waits.{waiting_pages, WaitingPage};
 
     ghost Value = { List WaitingPage };
