@@ -1,5 +1,5 @@
 -- Each answer has its reason, and each reason its answer.
-use Rattle.std.proofs.Common.{◌≡◌, ℕ, zero, suc, ◌+◌, Bool, true, List, [], ◌∷◌, ◌++◌, length, Option, Some, None, Ok, Err, inl, inr, refl, arith}
+use Rattle.std.proofs.Common.{◌≡◌, ◌≢◌, ℕ, zero, suc, ◌+◌, Bool, true, List, [], ◌∷◌, ◌++◌, length, Option, Some, None, Ok, Err, inl, inr, refl, arith}
 use Rattle.std.specs.Prelude.{◌==◌, ◌&&◌, not, nat_lt, filter, find, count_by, slice_get, MatchOption, Any, is_some}
 use Rattle.std.specs.List.{list_any}
 use Rattle.std.specs.Bool.{Decides}
@@ -7,27 +7,29 @@ use Rattle.std.proofs.lemmas.Bool.{cases_Bool}
 use Rattle.std.proofs.lemmas.Bool.Decides.{Decides-eqb, Decides-and, nat_tests}
 use Rattle.std.proofs.lemmas.List.Sums.{length-filter}
 use Rattle.std.proofs.lemmas.List.Folds.{Any-from_list_any, list_any-from_Any}
-use Rattle.ksm_base.specs.declared.limits.TheConstants.{MOST_REFERENCES}
 use Rattle.ksm_base.specs.declared.page.GuestPage.{GuestPage}
 use Rattle.ksm_base.specs.declared.row.PageState.{PageState}
 use Rattle.ksm_base.specs.declared.row.PageState.TheVariants.{Merged}
 use Rattle.ksm_base.specs.declared.row.Row.{Row}
 use Rattle.ksm_base.specs.declared.row.DupRow.{DupRow}
 use Rattle.ksm_base.specs.declared.command.Command.{Command}
-use Rattle.ksm_base.specs.declared.command.Command.TheVariants.{Register, Store, Scan, Prune, Unmerge, MovePage, MoveDup, SetRun, SetPagesToScan, SetAcross, SetLimit}
+use Rattle.ksm_base.specs.declared.command.Command.TheVariants.{Register, Drop, Store, Scan, Prune, Unmerge, Mergeable, MovePage, MoveDup, SetRun}
+use Rattle.ksm_base.specs.declared.knobs.Knob.{Knob}
 use Rattle.ksm_base.specs.declared.reply.Reply.{Reply}
+use Rattle.ksm_base.specs.declared.reply.Reply.TheVariants.{Done}
 use Rattle.ksm_base.specs.declared.fault.Fault.{Fault}
-use Rattle.ksm_base.specs.declared.fault.Fault.TheVariants.{NoFrame, InUse}
+use Rattle.ksm_base.specs.declared.fault.Fault.TheVariants.{NoFrame, InUse, SharedPages, BadValue}
+use Rattle.ksm_base.specs.Knobs.{traits, set_by, is_in_range, value_in}
 use Rattle.ksm_base.specs.Rows.{same_page, merged_into, shared_state, is_stale, has_items}
 use Rattle.ksm_base.specs.State.{BookState}
 use Rattle.ksm_base.specs.Counting.{shared_count}
-use Rattle.ksm_base.specs.Refusals.{is_known, is_of, has_guest, live_dup_at, is_within, refusal}
+use Rattle.ksm_base.specs.Refusals.{is_known, is_of, has_guest, live_dup_at, setting_refusal, refusal}
 use Rattle.ksm_base.specs.Answers.{Answer, frame_needed, any_mergeable, IsAccepted, IsAnswerUnless, IsAnswer}
 use Rattle.ksm_base.specs.Reasons.{HasRow, GuestHasRow, HasItem, LivesAt, SharesPages, HasMergeable, IsOutside, Refuses, register_on_no_node, register_again, drop_unknown, store_unknown, scan_stands}
-use Rattle.ksm_base.specs.Reasons.{unmerge_unknown, mergeable_unknown, move_to_no_node, move_unknown, move_dup_to_no_node, move_no_dup, move_dup_across, run_above, pages_outside, across_above}
-use Rattle.ksm_base.specs.Reasons.{across_shared, limit_outside, limit_shared, zero_above, Wants, for_a_new_page, for_a_merged_page, for_a_zero_page, elsewhere, for_a_dup, StopsAt, Replies}
-use Rattle.ksm_base.specs.Reasons.{registered, dropped, stored, scanned, nothing_to_scan, scan_stopped, pruned, unmerged, unmerging_stopped, made_mergeable, moved, dup_moved, run_set, all_unshared}
-use Rattle.ksm_base.specs.Reasons.{unsharing_stopped, pages_set, across_set, limit_set, zero_set, IsTaken, HasReason, refuses, replies, finds_no_frame, finds_in_use}
+use Rattle.ksm_base.specs.Reasons.{unmerge_unknown, mergeable_unknown, move_to_no_node, move_unknown, move_dup_to_no_node, move_no_dup, move_dup_across, value_outside}
+use Rattle.ksm_base.specs.Reasons.{shared_pages_stay, Wants, for_a_new_page, for_a_merged_page, for_a_zero_page, elsewhere, for_a_dup, StopsAt, Replies}
+use Rattle.ksm_base.specs.Reasons.{registered, dropped, stored, scanned, nothing_to_scan, scan_stopped, pruned, unmerged, unmerging_stopped, made_mergeable, moved, dup_moved, all_unshared}
+use Rattle.ksm_base.specs.Reasons.{unsharing_stopped, knob_set, IsTaken, HasReason, refuses, replies, finds_no_frame, finds_in_use}
 use Rattle.ksm_base.proofs.Pages.{same_page_refl, same_page_eq}
 use Rattle.ksm_base.proofs.Edits.{count_more}
 
@@ -62,8 +64,8 @@ Decides-page page r = (same_page_eq r.page page, λ same. rw same (same_page_ref
 Decides-merged : (number : ℕ) (state : PageState) → Decides (merged_into number state) (state ≡ Merged number)
 Decides-merged number state = (λ h. grind (arith, nat_tests), λ h. grind (arith, nat_tests))
 
-Decides-outside : (low high v : ℕ) → Decides (not (is_within low high v)) (IsOutside low high v)
-Decides-outside low high v = (λ h. grind (arith, nat_tests), λ h. grind (arith, nat_tests))
+Decides-outside : (knob : Knob) (v : ℕ) → Decides (not (is_in_range knob v)) (IsOutside knob v)
+Decides-outside knob v = (λ h. grind (arith, nat_tests), λ h. grind (arith, nat_tests))
 
 module _ (b : BookState) where
   Decides-row : (page : GuestPage) → Decides (is_known b page) (HasRow b page)
@@ -89,6 +91,14 @@ module _ (b : BookState) where
   Decides-mergeable : Decides (any_mergeable b) (HasMergeable b)
   Decides-mergeable = Decides-any (λ r. r.mergeable) (λ r. r.mergeable ≡ true) (λ r. (λ h. h, λ h. h)) b.rows
 
+  -- so has one of a knob
+  setting_reason : (c : Command) (set : Option (Knob × ℕ)) → set_by c ≡ set → (f : Fault) → setting_refusal b set ≡ Some f → Refuses b c f
+  setting_reason c None by f h = absurd cc
+  setting_reason c (Some (knob, v)) by f h =
+      let outside : IsOutside knob v → Refuses b c BadValue = value_outside by in
+      let shared : ¬ (IsOutside knob v) → (traits knob).fixed_while_shared ≡ true → v ≢ value_in knob b.knobs → SharesPages b → Refuses b c SharedPages = shared_pages_stay by in
+      grind (arith, nat_tests, outside, shared, Decides-shared, Decides-outside knob v)
+
   -- a refusal has its reason
   pub reason : (c : Command) (f : Fault) → refusal b c ≡ Some f → Refuses b c f
   reason (Register page node bytes) f h =
@@ -96,12 +106,16 @@ module _ (b : BookState) where
   reason (MovePage page node) f h = grind (arith, nat_tests, move_to_no_node, move_unknown, Decides-row page)
   reason (MoveDup place node) f h =
       grind (arith, nat_tests, move_dup_to_no_node, move_no_dup, move_dup_across, Decides-lives place)
-  reason (SetLimit v) f h =
-      grind (arith, nat_tests, limit_outside, limit_shared, Decides-shared, Decides-outside 2 MOST_REFERENCES v)
-  reason (SetPagesToScan v) f h = grind (arith, nat_tests, pages_outside, Decides-outside 1 1000000 v)
-  reason (SetAcross v) f h = grind (arith, nat_tests, across_above, across_shared, Decides-shared)
-  reason _ f h =
-      grind (arith, nat_tests, drop_unknown, store_unknown, scan_stands, unmerge_unknown, mergeable_unknown, run_above, zero_above, Decides-row, Decides-guest)
+  reason (Scan n) f h = grind (arith, nat_tests, scan_stands)
+  reason (Drop page) f h = grind (arith, drop_unknown, Decides-row)
+  reason (Store page bytes) f h = grind (arith, store_unknown, Decides-row)
+  reason (Unmerge guest) f h = grind (arith, unmerge_unknown, Decides-guest)
+  reason (Mergeable guest) f h = grind (arith, mergeable_unknown, Decides-guest)
+  reason c f h = setting_reason c (set_by c) refl f h
+
+  -- a command that sets a knob is refused as its setting
+  set_refused : (c : Command) (knob : Knob) (v : ℕ) → {f : Option Fault} → set_by c ≡ Some (knob, v) → setting_refusal b (Some (knob, v)) ≡ f → refusal b c ≡ f
+  set_refused c knob v by is = grind (arith, by, is)
 
   -- what has a reason is refused
   pub refused : {c : Command} {f : Fault} → Refuses b c f → refusal b c ≡ Some f
@@ -117,13 +131,8 @@ module _ (b : BookState) where
   refused (move_dup_to_no_node n) = grind (arith, nat_tests)
   refused (move_no_dup n h) = grind (arith, nat_tests, Decides-lives)
   refused (move_dup_across n found by_node other) = grind (arith, nat_tests)
-  refused (run_above h) = grind (arith, nat_tests)
-  refused (pages_outside h) = grind (arith, nat_tests)
-  refused (across_above h) = grind (arith, nat_tests)
-  refused (across_shared most other shares) = grind (arith, nat_tests, Decides-shared)
-  refused (limit_outside h) = grind (arith, nat_tests)
-  refused (limit_shared inside other shares) = grind (arith, nat_tests, Decides-shared)
-  refused (zero_above h) = grind (arith, nat_tests)
+  refused (value_outside {c = c} by h) = set_refused c _ _ by (grind (arith, nat_tests))
+  refused (shared_pages_stay {c = c} by inside fixed other shares) = set_refused c _ _ by (grind (arith, nat_tests, Decides-shared))
 
 abbrev StopHome : (Row → Bool) → List Row → ℕ → ℕ → Type 0
 StopHome test rows k n = MatchOption (slice_get (filter test rows) k) ⊥ (λ r. n ≡ r.home)
@@ -191,8 +200,11 @@ module _ (b : BookState) where
   accepted (MoveDup place node) a taken h = grind (arith, replies, dup_moved, finds_no_frame, for_a_dup, finds_in_use)
   accepted (SetRun v) a taken h =
       let test : Row → Bool = λ r. shared_state r.state in
-      grind (arith, nat_tests, replies, run_set, all_unshared, unsharing_stopped, stops test b.rows, length-filter test b.rows)
-  accepted _ a taken h = grind (arith, replies, dropped, made_mergeable, pages_set, across_set, limit_set, zero_set)
+      let set : v ≢ 2 → Replies b (SetRun v) Done = λ other. knob_set refl (λ e. other cc) in
+      grind (arith, nat_tests, replies, set, all_unshared, unsharing_stopped, stops test b.rows, length-filter test b.rows)
+  accepted (Drop page) a taken h = grind (arith, replies, dropped)
+  accepted (Mergeable guest) a taken h = grind (arith, replies, made_mergeable)
+  accepted c a taken h = let set : Replies b c Done = knob_set refl (λ e. cc) in grind (arith, replies, set)
 
   -- each answer has its reason
   pub has_reason : (c : Command) (a : Answer) → IsAnswer b c a → HasReason b c a
@@ -206,6 +218,9 @@ module _ (b : BookState) where
   answers a taken h None is = h
   answers a taken h (Some fault) is = absurd (taken fault (reason b _ fault is))
 
+  set_done : (c : Command) (knob : Knob) (v : ℕ) → set_by c ≡ Some (knob, v) → c ≢ SetRun 2 → IsAccepted b c (Ok Done)
+  set_done c knob v by other = grind (arith, nat_tests, by, other)
+
   replied : {c : Command} {r : Reply} → Replies b c r → IsAccepted b c (Ok r)
   replied (scanned some) = grind (arith, Decides-mergeable b)
   replied (nothing_to_scan none) = grind (arith, Decides-mergeable b)
@@ -213,7 +228,7 @@ module _ (b : BookState) where
   replied (pruned count) = grind (arith, stale_beside b.rows b.dups)
   replied (unmerged {guest = guest} count) = grind (arith, length-filter (λ r. is_of guest r && shared_state r.state) b.rows)
   replied (unmerging_stopped s) = grind (arith, stopped_at _ _ _ _ s)
-  replied (run_set other) = grind (arith, nat_tests)
+  replied (knob_set {c = c} by other) = set_done c _ _ by other
   replied (all_unshared two count) = grind (arith, length-filter (λ (r : Row). shared_state r.state) b.rows)
   replied (unsharing_stopped two s) = grind (arith, stopped_at _ _ _ _ s)
   replied _ = tt

@@ -1,5 +1,5 @@
 -- Edits that keep a book sound: rows that become private, a row more or less, stale dups dropped.
-use Rattle.std.proofs.Common.{◌≡◌, ℕ, ◌<◌, ◌≤◌, Bool, true, false, List, [], ◌∷◌, get_or, map, None, arith, Option, ◌^◌}
+use Rattle.std.proofs.Common.{◌≡◌, ℕ, ◌<◌, ◌≤◌, Bool, true, false, List, [], ◌∷◌, get_or, map, None, arith, Option, ◌^◌, sym, ◌∙◌}
 use Rattle.std.specs.Prelude.{◌==◌, All, filter, if◌then◌else◌}
 use Rattle.std.proofs.lemmas.Bool.{lt-ltb}
 use Rattle.std.proofs.lemmas.Bool.Decides.{nat_tests}
@@ -11,6 +11,7 @@ use Rattle.ksm_base.specs.declared.row.PageState.TheVariants.{Private, Merged}
 use Rattle.ksm_base.specs.declared.row.Row.{Row}
 use Rattle.ksm_base.specs.declared.row.DupRow.{DupRow}
 use Rattle.ksm_base.specs.declared.knobs.Knobs.{Knobs}
+use Rattle.ksm_base.specs.Knobs.{AreKnobs}
 use Rattle.ksm_base.specs.Rows.{InPageOrder, comes_before, private_state, waiting_state, zero_state, all_zero, merged_into, item_count, has_items, with_row, change_rows}
 use Rattle.ksm_base.specs.State.{BookState, without_stale}
 use Rattle.ksm_base.specs.Visit.{waits_for, partner}
@@ -70,15 +71,17 @@ pub record AreSoundRows (b : BookState) (rows : List Row) : Type 0 where
 pub sound_rows : (b : BookState) (rows : List Row) → IsSound b → AreSoundRows b rows → IsSound (record b { rows = rows })
 sound_rows b rows s h = assumption
 
--- a sound book stays sound with any cursor, passes, run, pages_to_scan and use_zero_pages in their ranges
-pub sound_settings : (b : BookState) (run pages_to_scan zero_pages passes : ℕ) (cursor : Option GuestPage) → run ≤ 2
-    → (1 ≤ pages_to_scan) × (pages_to_scan ≤ 1000000)
-    → zero_pages ≤ 1
+-- a sound book stays sound with any cursor, passes that fit and knobs in their ranges, where trees and limit stay
+pub sound_settings : (b : BookState) (knobs : Knobs) (passes : ℕ) (cursor : Option GuestPage) → AreKnobs knobs
+    → knobs.merge_across_nodes ≡ b.knobs.merge_across_nodes
+    → knobs.max_page_sharing ≡ b.knobs.max_page_sharing
     → passes < 2 ^ 64 → IsSound b
-    → IsSound (record b { knobs = record b.knobs { run = run; pages_to_scan = pages_to_scan; use_zero_pages = zero_pages }; cursor = cursor; passes = passes })
-sound_settings b run pages_to_scan zero_pages passes cursor run_most pages_range zero_most passes_fit s =
-    let set : Knobs = record b.knobs { run = run; pages_to_scan = pages_to_scan; use_zero_pages = zero_pages } in
-    let items : All (HasDup set b.dups) b.rows = λ k d lt number merged. let item = s.items k d lt number merged in (item.0, grind arith) in
+    → IsSound (record b { knobs = knobs; cursor = cursor; passes = passes })
+sound_settings b knobs passes cursor are_knobs across limit passes_fit s =
+    let items : All (HasDup knobs b.dups) b.rows = λ k d lt number merged. let item = s.items k d lt number merged in (item.0, grind arith) in
+    let waiting : NoneWaitsTwice knobs b.rows = λ k d lt waits. grind (arith, s.waiting k d lt waits) in
+    let trees : All (λ d. knobs.merge_across_nodes ≡ 1 → d.tree ≡ 0) b.dups = λ k d lt one. s.trees k d lt (sym across ∙ one) in
+    let most : All (λ d. item_count b.rows d ≤ knobs.max_page_sharing) b.dups = λ k d lt. grind (arith, limit, s.limit k d lt) in
     assumption
 
 -- a calmer row: of the old row's page, and private, or else with the old row's home, bytes and state

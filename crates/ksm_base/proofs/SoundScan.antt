@@ -20,12 +20,12 @@ use Rattle.ksm_base.proofs.SoundPair.{new_place_free, partner_pairs, sound_made}
 -- a sound book stays sound wherever its cursor is
 pub sound_cursor : (b : BookState) (cursor : Option GuestPage) → IsSound b → IsSound (record b { cursor = cursor })
 sound_cursor b cursor s =
-    sound_settings b _ _ _ _ cursor s.knobs.run s.knobs.pages_to_scan s.knobs.use_zero_pages s.passes s
+    sound_settings b b.knobs b.passes cursor s.knobs refl refl s.passes s
 
 -- a sound book stays sound where a pass ends
 pub sound_pass_ended : (b : BookState) → IsSound b → IsSound (pass_ended b)
 sound_pass_ended b s =
-    sound_settings b _ _ _ _ None s.knobs.run s.knobs.pages_to_scan s.knobs.use_zero_pages (omega arith) s
+    sound_settings b b.knobs _ None s.knobs refl refl (omega arith) s
 
 -- a settled row is calmer than it was
 pub settled_calmer : (r : Row) → IsCalmer r (settled r)

@@ -4,10 +4,12 @@ use Rattle.ksm_base.specs.declared.page.GuestPage.{GuestPage}
 use Rattle.ksm_base.specs.declared.row.PageState.TheVariants.{Private}
 use Rattle.ksm_base.specs.declared.row.Row.{Row}
 use Rattle.ksm_base.specs.declared.command.Command.{Command}
-use Rattle.ksm_base.specs.declared.command.Command.TheVariants.{Register, Drop, Store, Scan, Prune, Unmerge, Mergeable, MovePage, SetRun, SetPagesToScan, SetAcross, SetLimit, SetZeroPages}
+use Rattle.ksm_base.specs.declared.command.Command.TheVariants.{Register, Drop, Store, Scan, Prune, Unmerge, Mergeable, MovePage, SetRun, SetAcross, SetLimit}
 use Rattle.ksm_base.specs.declared.reply.Reply.{Reply}
-use Rattle.ksm_base.specs.declared.reply.Reply.TheVariants.{Done, Scanned, Unmerged}
+use Rattle.ksm_base.specs.declared.reply.Reply.TheVariants.{Scanned, Unmerged}
 use Rattle.ksm_base.specs.declared.fault.Fault.{Fault}
+use Rattle.ksm_base.specs.declared.knobs.Knob.{Knob}
+use Rattle.ksm_base.specs.Knobs.{set_by, with_value}
 use Rattle.ksm_base.specs.Rows.{comes_before, with_row, without_page, change_rows, change_row, shared_state}
 use Rattle.ksm_base.specs.State.{BookState, without_stale, with_none_waiting}
 use Rattle.ksm_base.specs.Visit.{visit_begun, visits}
@@ -56,6 +58,11 @@ unshare_stopped (Some fault) k b =
       knobs = record b.knobs { run = 0 };
     }
 
+-- the state with another value of a knob, where one is set
+abbrev pub with_setting : Option (Knob × ℕ) → BookState → BookState
+with_setting None b = b
+with_setting (Some (knob, v)) b = record b { knobs = with_value knob v b.knobs }
+
 -- the state after a command that is answered with a reply
 abbrev pub effect : BookState → Command → Reply → BookState
 effect b (Register page node bytes) reply = record b { rows = with_row (fresh_row page node bytes) b.rows }
@@ -68,17 +75,14 @@ effect b (Unmerge guest) (Unmerged k stop) =
 effect b (Mergeable guest) reply = record b { rows = change_rows (is_of guest) (λ r. record r { mergeable = true }) b.rows }
 effect b (MovePage page node) reply = record b { rows = change_row page (moved node) b.rows }
 effect b (SetRun v) (Unmerged k stop) = unshare_stopped stop k b
-effect b (SetRun v) Done = record b { knobs = record b.knobs { run = v } }
-effect b (SetPagesToScan v) reply = record b { knobs = record b.knobs { pages_to_scan = v } }
 effect b (SetAcross v) reply =
     if v == b.knobs.merge_across_nodes then b
     else record (with_none_waiting (without_stale b)) { knobs = record b.knobs { merge_across_nodes = v } }
 effect b (SetLimit v) reply =
     if v == b.knobs.max_page_sharing then b
     else record (without_stale b) { knobs = record b.knobs { max_page_sharing = v } }
-effect b (SetZeroPages v) reply = record b { knobs = record b.knobs { use_zero_pages = v } }
--- a dup that moves to another frame stays as it is, and no command gives another reply
-effect b _ _ = b
+-- a dup that moves to another frame stays as it is
+effect b command reply = with_setting (set_by command) b
 
 -- the state after a command and its answer: a refusal keeps the state
 abbrev pub after : BookState → Command → Answer → BookState

@@ -1,15 +1,17 @@
 -- What each command changes, and that all else stays: each row beside the one that stands in its place afterwards,
 -- field by field.
 -- Apply says the same as a function; that no command changes more is the law `each_command_changes_this_alone`. Own.
-use Rattle.std.specs.Prelude.{◌≡◌, ◌≢◌, ◌↔◌, ◌⊎◌, ℕ, Bool, true, false, List, All, Contains, Some, None}
+use Rattle.std.specs.Prelude.{◌≡◌, ◌≢◌, ◌↔◌, ◌⊎◌, ℕ, Bool, true, false, List, All, Contains, Option, Some, None}
 use Rattle.std.specs.List.{AllZip}
 use Rattle.ksm_base.specs.declared.page.GuestPage.{GuestPage}
 use Rattle.ksm_base.specs.declared.row.PageState.TheVariants.{Private, Waiting}
 use Rattle.ksm_base.specs.declared.row.Row.{Row}
 use Rattle.ksm_base.specs.declared.command.Command.{Command}
-use Rattle.ksm_base.specs.declared.command.Command.TheVariants.{Register, Drop, Store, Scan, Prune, Unmerge, Mergeable, MovePage, MoveDup, SetRun, SetPagesToScan, SetAcross, SetLimit, SetZeroPages}
+use Rattle.ksm_base.specs.declared.command.Command.TheVariants.{Register, Drop, Store, Scan, Prune, Unmerge, Mergeable, MovePage, MoveDup, SetRun, SetAcross, SetLimit}
 use Rattle.ksm_base.specs.declared.reply.Reply.{Reply}
 use Rattle.ksm_base.specs.declared.reply.Reply.TheVariants.{Done, Scanned, Pruned, Unmerged}
+use Rattle.ksm_base.specs.declared.knobs.Knob.{Knob}
+use Rattle.ksm_base.specs.Knobs.{set_by, with_value}
 use Rattle.ksm_base.specs.Rows.{row_at, shared_state}
 use Rattle.ksm_base.specs.State.{BookState}
 use Rattle.ksm_base.specs.Reasons.{HasItem}
@@ -75,6 +77,11 @@ pub record IsVisited (r s : Row) : Type 0 where
 abbrev pub RowsAlone : BookState → BookState → Type 0
 RowsAlone b c = c ≡ record b { rows = c.rows }
 
+-- a knob alone gets another value
+abbrev pub SetsAlone : Option (Knob × ℕ) → BookState → BookState → Type 0
+SetsAlone None b c = ⊥
+SetsAlone (Some (knob, v)) b c = c ≡ record b { knobs = with_value knob v b.knobs }
+
 -- what a command changes that is answered so; c is the state afterwards
 abbrev pub Changes : Command → Reply → BookState → BookState → Type 0
 Changes (Register page node bytes) Done b c =
@@ -94,14 +101,12 @@ Changes (Mergeable guest) Done b c = RowsAlone b c
     × RowByRow (Where (λ r. r.page.guest ≡ guest) (λ r s. s ≡ record r { mergeable = true })) b c
 Changes (MovePage page node) Done b c = RowsAlone b c × RowByRow (Where (λ r. r.page ≡ page) (IsMoved node)) b c
 Changes (MoveDup place node) Done b c = c ≡ b
-Changes (SetRun v) Done b c = c ≡ record b { knobs = record b.knobs { run = v } }
 Changes (SetRun v) (Unmerged k None) b c =
     (c ≡ record b { rows = c.rows; cursor = None; knobs = record b.knobs { run = 2 } })
     × RowByRow (λ r s. IsAlone r.mergeable false r s) b c
 Changes (SetRun v) (Unmerged k (Some fault)) b c =
     (c ≡ record b { rows = c.rows; knobs = record b.knobs { run = 0 } })
     × RowByRow (Where (λ r. shared_state r.state ≡ true) (λ r s. IsAlone r.mergeable false r s ⊎ (s ≡ r))) b c
-Changes (SetPagesToScan v) Done b c = c ≡ record b { knobs = record b.knobs { pages_to_scan = v } }
 Changes (SetAcross v) Done b c =
     (v ≡ b.knobs.merge_across_nodes → c ≡ b)
     × (v ≢ b.knobs.merge_across_nodes
@@ -111,5 +116,5 @@ Changes (SetLimit v) Done b c =
     (v ≡ b.knobs.max_page_sharing → c ≡ b)
     × (v ≢ b.knobs.max_page_sharing
     → (c ≡ record b { dups = c.dups; knobs = record b.knobs { max_page_sharing = v } }) × StaleGone b c)
-Changes (SetZeroPages v) Done b c = c ≡ record b { knobs = record b.knobs { use_zero_pages = v } }
+Changes command Done b c = SetsAlone (set_by command) b c
 Changes _ _ b c = ⊥

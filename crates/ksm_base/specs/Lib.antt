@@ -9,5 +9,6 @@ pub mod Reasons
 pub mod Apply
 pub mod Changes
 pub mod Journal
+pub mod Knobs
 pub mod Sound
 pub mod Reading

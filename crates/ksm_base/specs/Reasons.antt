@@ -3,17 +3,18 @@
 -- Refusals and Answers say the same by tests in an order; that both agree, each way, is the law
 -- `each_answer_has_its_reason`. Own.
 use Rattle.std.specs.Prelude.{◌≡◌, ◌≢◌, ℕ, ◌+◌, ◌<◌, ◌≤◌, Bool, true, ◌&&◌, List, ◌∷◌, ◌++◌, length, count_by, Any, ◌⊎◌, Some, None, Ok, Err}
-use Rattle.ksm_base.specs.declared.limits.TheConstants.{MOST_REFERENCES}
 use Rattle.ksm_base.specs.declared.page.GuestPage.{GuestPage}
 use Rattle.ksm_base.specs.declared.row.PageState.TheVariants.{Merged, Zero}
 use Rattle.ksm_base.specs.declared.row.Row.{Row}
 use Rattle.ksm_base.specs.declared.row.DupRow.{DupRow}
 use Rattle.ksm_base.specs.declared.command.Command.{Command}
-use Rattle.ksm_base.specs.declared.command.Command.TheVariants.{Register, Drop, Store, Scan, Prune, Unmerge, Mergeable, MovePage, MoveDup, SetRun, SetPagesToScan, SetAcross, SetLimit, SetZeroPages}
+use Rattle.ksm_base.specs.declared.command.Command.TheVariants.{Register, Drop, Store, Scan, Prune, Unmerge, Mergeable, MovePage, MoveDup, SetRun}
 use Rattle.ksm_base.specs.declared.reply.Reply.{Reply}
 use Rattle.ksm_base.specs.declared.reply.Reply.TheVariants.{Done, Scanned, Pruned, Unmerged}
 use Rattle.ksm_base.specs.declared.fault.Fault.{Fault}
 use Rattle.ksm_base.specs.declared.fault.Fault.TheVariants.{Memory, UnknownPage, AlreadyRegistered, NoFrame, NotRunning, SharedPages, BadValue, InUse, CrossesNodes, UnknownPlace, BadNode}
+use Rattle.ksm_base.specs.declared.knobs.Knob.{Knob}
+use Rattle.ksm_base.specs.Knobs.{set_by, traits, value_in}
 use Rattle.ksm_base.specs.Rows.{row_at, shared_state}
 use Rattle.ksm_base.specs.State.{BookState}
 use Rattle.ksm_base.specs.Counting.{shared_count}
@@ -44,9 +45,9 @@ SharesPages b = Any (HasItem b) b.dups
 abbrev pub HasMergeable : BookState → Type 0
 HasMergeable b = Any (λ r. r.mergeable ≡ true) b.rows
 
--- a value below or above a range
-abbrev pub IsOutside : ℕ → ℕ → ℕ → Type 0
-IsOutside low high v = (v < low) ⊎ (high < v)
+-- a value below or above a knob's range
+abbrev pub IsOutside : Knob → ℕ → Type 0
+IsOutside knob v = (v < (traits knob).least) ⊎ ((traits knob).most < v)
 
 -- each refusal that the state decides, with its reason: of the tests the first that fails refuses
 pub data Refuses (b : BookState) : Command → Fault → Type 0 where
@@ -67,15 +68,10 @@ pub data Refuses (b : BookState) : Command → Fault → Type 0 where
       → Refuses b (MoveDup place node) UnknownPlace
   move_dup_across : {place node : ℕ} {d : DupRow} → node < b.shape.nodes → live_dup_at b place ≡ Some d
       → b.knobs.merge_across_nodes ≡ 0 → d.tree ≢ node → Refuses b (MoveDup place node) CrossesNodes
-  run_above : {v : ℕ} → 2 < v → Refuses b (SetRun v) BadValue
-  pages_outside : {v : ℕ} → IsOutside 1 1000000 v → Refuses b (SetPagesToScan v) BadValue
-  across_above : {v : ℕ} → 1 < v → Refuses b (SetAcross v) BadValue
-  across_shared : {v : ℕ} → v ≤ 1 → v ≢ b.knobs.merge_across_nodes → SharesPages b
-      → Refuses b (SetAcross v) SharedPages
-  limit_outside : {v : ℕ} → IsOutside 2 MOST_REFERENCES v → Refuses b (SetLimit v) BadValue
-  limit_shared : {v : ℕ} → ¬ (IsOutside 2 MOST_REFERENCES v) → v ≢ b.knobs.max_page_sharing → SharesPages b
-      → Refuses b (SetLimit v) SharedPages
-  zero_above : {v : ℕ} → 1 < v → Refuses b (SetZeroPages v) BadValue
+  value_outside : {c : Command} {knob : Knob} {v : ℕ} → set_by c ≡ Some (knob, v) → IsOutside knob v
+      → Refuses b c BadValue
+  shared_pages_stay : {c : Command} {knob : Knob} {v : ℕ} → set_by c ≡ Some (knob, v) → ¬ (IsOutside knob v)
+      → (traits knob).fixed_while_shared ≡ true → v ≢ value_in knob b.knobs → SharesPages b → Refuses b c SharedPages
 
 -- each command that needs one frame, with the node of which it needs it
 pub data Wants (b : BookState) : Command → ℕ → Type 0 where
@@ -115,15 +111,11 @@ pub data Replies (b : BookState) : Command → Reply → Type 0 where
   made_mergeable : {guest : ℕ} → Replies b (Mergeable guest) Done
   moved : {page : GuestPage} {node : ℕ} → Replies b (MovePage page node) Done
   dup_moved : {place node : ℕ} → Replies b (MoveDup place node) Done
-  run_set : {v : ℕ} → v ≢ 2 → Replies b (SetRun v) Done
   all_unshared : {v k : ℕ} → v ≡ 2 → k ≡ count_by (λ r. shared_state r.state) b.rows
       → Replies b (SetRun v) (Unmerged k None)
   unsharing_stopped : {v k n : ℕ} → v ≡ 2 → StopsAt (λ r. shared_state r.state) b.rows k n
       → Replies b (SetRun v) (Unmerged k (Some (NoFrame n)))
-  pages_set : {v : ℕ} → Replies b (SetPagesToScan v) Done
-  across_set : {v : ℕ} → Replies b (SetAcross v) Done
-  limit_set : {v : ℕ} → Replies b (SetLimit v) Done
-  zero_set : {v : ℕ} → Replies b (SetZeroPages v) Done
+  knob_set : {c : Command} {knob : Knob} {v : ℕ} → set_by c ≡ Some (knob, v) → c ≢ SetRun 2 → Replies b c Done
 
 -- the state refuses nothing
 abbrev pub IsTaken : BookState → Command → Type 0

@@ -1,14 +1,15 @@
 -- The refusals that the state decides, in the order in which they are tested. Own, where nothing else is said.
 use Rattle.std.specs.Prelude.{ℕ, Bool, false, not, ◌&&◌, ◌==◌, nat_lt, nat_le, find, Option, Some, None, is_some, is_none, if◌then◌else◌}
 use Rattle.std.specs.List.{list_any}
-use Rattle.ksm_base.specs.declared.limits.TheConstants.{MOST_REFERENCES}
 use Rattle.ksm_base.specs.declared.page.GuestPage.{GuestPage}
 use Rattle.ksm_base.specs.declared.row.Row.{Row}
 use Rattle.ksm_base.specs.declared.row.DupRow.{DupRow}
 use Rattle.ksm_base.specs.declared.command.Command.{Command}
-use Rattle.ksm_base.specs.declared.command.Command.TheVariants.{Register, Drop, Store, Scan, Prune, Unmerge, Mergeable, MovePage, MoveDup, SetRun, SetPagesToScan, SetAcross, SetLimit, SetZeroPages}
+use Rattle.ksm_base.specs.declared.command.Command.TheVariants.{Register, Drop, Store, Scan, Unmerge, Mergeable, MovePage, MoveDup}
 use Rattle.ksm_base.specs.declared.fault.Fault.{Fault}
 use Rattle.ksm_base.specs.declared.fault.Fault.TheVariants.{UnknownPage, AlreadyRegistered, NotRunning, SharedPages, BadValue, CrossesNodes, UnknownPlace, BadNode}
+use Rattle.ksm_base.specs.declared.knobs.Knob.{Knob}
+use Rattle.ksm_base.specs.Knobs.{is_in_range, set_by, traits, value_in}
 use Rattle.ksm_base.specs.Rows.{row_at, has_items}
 use Rattle.ksm_base.specs.State.{BookState}
 use Rattle.ksm_base.specs.Counting.{shared_count}
@@ -42,13 +43,16 @@ abbrev pub crosses : BookState → ℕ → Option DupRow → Bool
 crosses b node None = false
 crosses b node (Some d) = b.knobs.merge_across_nodes == 0 && not (d.tree == node)
 
--- a value in its range, both ends included
-abbrev pub is_within : ℕ → ℕ → ℕ → Bool
-is_within low high v = nat_le low v && nat_le v high
-
 -- a knob gets another value while pages are shared (admin-guide/mm/ksm for merge_across_nodes, own for max_page_sharing)
 abbrev pub changes_while_shared : BookState → ℕ → ℕ → Bool
 changes_while_shared b knob v = not (v == knob) && nat_lt 0 (shared_count b.rows b.dups)
+
+-- the refusal of a command that sets a knob
+abbrev pub setting_refusal : BookState → Option (Knob × ℕ) → Option Fault
+setting_refusal b None = None
+setting_refusal b (Some (knob, v)) =
+    refused_if (not (is_in_range knob v)) BadValue (
+    refused_if ((traits knob).fixed_while_shared && changes_while_shared b (value_in knob b.knobs) v) SharedPages None)
 
 -- the refusal of a command; none where it is up to the frames
 abbrev pub refusal : BookState → Command → Option Fault
@@ -56,7 +60,6 @@ refusal b (Register page node bytes) = refused_if (is_no_node b node) BadNode (r
 refusal b (Drop page) = refused_if (not (is_known b page)) UnknownPage None
 refusal b (Store page bytes) = refused_if (not (is_known b page)) UnknownPage None
 refusal b (Scan n) = refused_if (not (b.knobs.run == 1)) NotRunning None
-refusal b Prune = None
 refusal b (Unmerge guest) = refused_if (not (has_guest b guest)) UnknownPage None
 refusal b (Mergeable guest) = refused_if (not (has_guest b guest)) UnknownPage None
 refusal b (MovePage page node) = refused_if (is_no_node b node) BadNode (refused_if (not (is_known b page)) UnknownPage None)
@@ -64,10 +67,4 @@ refusal b (MoveDup place node) =
     refused_if (is_no_node b node) BadNode (
     refused_if (is_none (live_dup_at b place)) UnknownPlace (
     refused_if (crosses b node (live_dup_at b place)) CrossesNodes None))
-refusal b (SetRun v) = refused_if (nat_lt 2 v) BadValue None
-refusal b (SetPagesToScan v) = refused_if (not (is_within 1 1000000 v)) BadValue None
-refusal b (SetAcross v) =
-    refused_if (nat_lt 1 v) BadValue (refused_if (changes_while_shared b b.knobs.merge_across_nodes v) SharedPages None)
-refusal b (SetZeroPages v) = refused_if (nat_lt 1 v) BadValue None
-refusal b (SetLimit v) =
-    refused_if (not (is_within 2 MOST_REFERENCES v)) BadValue (refused_if (changes_while_shared b b.knobs.max_page_sharing v) SharedPages None)
+refusal b command = setting_refusal b (set_by command)

@@ -4,20 +4,11 @@ use Rattle.ksm_base.specs.declared.row.PageState.TheVariants.{Merged}
 use Rattle.ksm_base.specs.declared.row.Row.{Row}
 use Rattle.ksm_base.specs.declared.row.DupRow.{DupRow}
 use Rattle.ksm_base.specs.declared.knobs.Knobs.{Knobs}
-use Rattle.ksm_base.specs.declared.limits.TheConstants.{MOST_REFERENCES}
+use Rattle.ksm_base.specs.Knobs.{AreKnobs}
 use Rattle.ksm_base.specs.Values.{IsShape}
 use Rattle.ksm_base.specs.Rows.{InPageOrder, InPlaceOrder, private_state, waiting_state, zero_state, all_zero, item_count, dup_numbered}
 use Rattle.ksm_base.specs.State.{BookState, tree_of}
 use Rattle.ksm_base.specs.Visit.{partner}
-
--- each knob is in its range
-pub record AreKnobs (knobs : Knobs) : Type 0 where
-  -- 0: the scan stands, 1: it runs, 2: all merged pages are unmerged
-  pub run : knobs.run ≤ 2
-  pub pages_to_scan : (1 ≤ knobs.pages_to_scan) × (knobs.pages_to_scan ≤ 1000000)
-  pub merge_across_nodes : knobs.merge_across_nodes ≤ 1
-  pub max_page_sharing : (2 ≤ knobs.max_page_sharing) × (knobs.max_page_sharing ≤ MOST_REFERENCES)
-  pub use_zero_pages : knobs.use_zero_pages ≤ 1
 
 -- the dup of a row that is merged into a number: it stands among the dups, with the row's tree and bytes
 pub record IsDupOf (knobs : Knobs) (dups : List DupRow) (row : Row) (number : ℕ) (dup : DupRow) : Type 0 where

@@ -5,6 +5,7 @@ use Rattle.ksm_base.specs.declared.row.Row.{Row}
 use Rattle.ksm_base.specs.declared.row.DupRow.{DupRow}
 use Rattle.ksm_base.specs.declared.knobs.Knobs.{Knobs}
 use Rattle.ksm_base.specs.declared.shape.Shape.{Shape}
+use Rattle.ksm_base.specs.Knobs.{default_knobs}
 use Rattle.ksm_base.specs.Values.{frames_of}
 use Rattle.ksm_base.specs.Rows.{has_items, settled}
 
@@ -28,10 +29,6 @@ pub record BookState : Type 0 where
 -- there are as many places as frames (own)
 abbrev pub place_count : Shape → ℕ
 place_count shape = frames_of shape
-
--- the settings at the start (admin-guide/mm/ksm; for max_page_sharing own, as Linux has it)
-abbrev pub default_knobs : Knobs
-default_knobs = record { run = 0; pages_to_scan = 100; merge_across_nodes = 1; max_page_sharing = 256; use_zero_pages = 0 }
 
 -- a book in which nothing was done yet (own)
 abbrev pub opening : Shape → BookState

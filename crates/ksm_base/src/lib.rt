@@ -17,7 +17,7 @@ mod sound;
 pub use command::Command;
 pub use counters::Counters;
 pub use fault::Fault;
-pub use knobs::Knobs;
+pub use knobs::{Knob, Knobs};
 pub use limits::{
     COUNT_SPAN, FRAME_WORDS, MOST_COUNT, MOST_FRAMES, MOST_FRAMES_PER_NODE, MOST_LIVES, MOST_NODES,
     MOST_PASSES, MOST_REFERENCES, MOST_TRIES, PLACE_SPAN,
