@@ -1,3 +1,4 @@
+pub mod EachKnob
 pub mod Pages
 pub mod Reasons
 pub mod Changes

@@ -1,8 +1,8 @@
 -- Bytes are read as a line exactly where they write it.
 use Rattle.ksm_lines.proofs.Names.{[], all_knobs, all_shown, ap, append-nil, AreWritten, arith, Bool, bytes_eq, bytes_eq-Decides, cond, content, Err, false, Form, form_in, Gives, guest, IfErr, IfOk}
-use Rattle.ksm_lines.proofs.Names.{IsLine, IsOf, IsWritten, Kind, kind_of, Knob, knob, knob_name, knob_of, left_out, Line, line_at, line_of, LineFault, List, list_all, ltb, made, MaxPageSharing}
-use Rattle.ksm_lines.proofs.Names.{MergeAcrossNodes, named_in, None, number, OfKnob, Ok, Option, PagesToScan, Part, read, refl, Result, Run, Shown, shown, shown_name, shown_of, Some, sym, Told, true}
-use Rattle.ksm_lines.proofs.Names.{UseZeroPages, values, Values, visits, ZeroPages, ℕ, ◌++◌, ◌>>=◌, ◌^◌, ◌∙◌, ◌∷◌, ◌≡◌, ◌≢◌}
+use Rattle.ksm_lines.proofs.Names.{IsLine, IsOf, IsWritten, Kind, kind_of, Knob, knob, knob_name, knob_of, left_out, Line, line_at, line_of, LineFault, List, list_all, ltb, made}
+use Rattle.ksm_lines.proofs.Names.{named_in, None, number, Ok, Option, Part, read, refl, Result, Shown, shown, shown_name, shown_of, Some, sym, Told, true}
+use Rattle.ksm_lines.proofs.Names.{values, Values, visits, ℕ, ◌++◌, ◌>>=◌, ◌^◌, ◌∙◌, ◌∷◌, ◌≡◌, ◌≢◌}
 use Rattle.ksm_lines.proofs.Numbers.{number_again, number_takes}
 
 -- values that are there and equal are equal
@@ -18,20 +18,11 @@ bound (Some a) then b e = (a, refl, e)
 
 -- the name of a knob is read as that knob
 knob_read : (named : Knob) → knob_of (knob_name named) ≡ Some named
-knob_read Run = refl
-knob_read PagesToScan = refl
-knob_read MergeAcrossNodes = refl
-knob_read MaxPageSharing = refl
-knob_read UseZeroPages = refl
+knob_read named = grind arith
 
 -- the name of what is shown is read as that
 shown_read : (named : Shown) → shown_of (shown_name named) ≡ Some named
-shown_read (OfKnob Run) = refl
-shown_read (OfKnob PagesToScan) = refl
-shown_read (OfKnob MergeAcrossNodes) = refl
-shown_read (OfKnob MaxPageSharing) = refl
-shown_read (OfKnob UseZeroPages) = refl
-shown_read ZeroPages = refl
+shown_read named = grind arith
 
 -- the word that writes what is told is read as that
 pub word_read : (kind : Kind) (told : Told kind) (word : List ℕ) → IsWritten kind told word → read kind word ≡ Some told
@@ -75,12 +66,7 @@ above_space byte = ltb 32 byte
 
 -- the name of what is shown has no space, and nothing before it
 pub shown_above : (named : Shown) → list_all above_space (shown_name named) ≡ true
-shown_above (OfKnob Run) = refl
-shown_above (OfKnob PagesToScan) = refl
-shown_above (OfKnob MergeAcrossNodes) = refl
-shown_above (OfKnob MaxPageSharing) = refl
-shown_above (OfKnob UseZeroPages) = refl
-shown_above ZeroPages = refl
+shown_above named = grind arith
 
 -- a word with such a byte is not shown
 pub not_shown : (word : List ℕ) → list_all above_space word ≡ false → shown_of word ≡ None

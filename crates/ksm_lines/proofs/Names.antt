@@ -1,17 +1,18 @@
 -- The definitions, and the laws of the libraries and crates below, by their names, for proofs.
+pub use Rattle.ksm_base.proofs.EachKnob.{stands}
+pub use Rattle.ksm_base.specs.Knobs.{all_knobs}
+pub use Rattle.ksm_base.specs.declared.knobs.Knob.{Knob}
 pub use Rattle.ksm_base.specs.declared.page.GuestPage.{GuestPage}
 pub use Rattle.ksm_base.specs.declared.page.TheConstants.{PAGE_WORDS}
 pub use Rattle.ksm_lines.specs.Content.{byte_at, content_of, digit_or_none, digits_of_word, hex_value, is_small, page_of, pair_in, word_at}
 pub use Rattle.ksm_lines.specs.Digits.{IsReadTo}
 pub use Rattle.ksm_lines.specs.Grammar.{AreWritten, content, Form, form_in, guest, IsLine, IsNoLine, IsOf, IsWritten, Kind, kind_of, knob, left_out, made, Makes, number, shown, Told, Values, visits}
 pub use Rattle.ksm_lines.specs.Grammar.{words_of}
-pub use Rattle.ksm_lines.specs.Knobs.{all_knobs, all_shown, knob_name, knob_of, named_in, shown_name, shown_of}
+pub use Rattle.ksm_lines.specs.Knobs.{all_shown, knob_name, knob_of, named_in, shown_name, shown_of}
 pub use Rattle.ksm_lines.specs.Leading.{BeginsWith}
 pub use Rattle.ksm_lines.specs.Reading.{ended, Gives, GivesLast, is_plain, line_at, line_of, number_below, read, values, words_left, ◌>>=◌}
 pub use Rattle.ksm_lines.specs.Worked.{BadLines}
 pub use Rattle.ksm_lines.specs.declared.field.TheConstants.{DIGIT_VALUES}
-pub use Rattle.ksm_lines.specs.declared.knob.Knob.{Knob}
-pub use Rattle.ksm_lines.specs.declared.knob.Knob.TheVariants.{MaxPageSharing, MergeAcrossNodes, PagesToScan, Run, UseZeroPages}
 pub use Rattle.ksm_lines.specs.declared.knob.Shown.{Shown}
 pub use Rattle.ksm_lines.specs.declared.knob.Shown.TheVariants.{Knob as OfKnob, ZeroPages}
 pub use Rattle.ksm_lines.specs.declared.line.Line.{Line}

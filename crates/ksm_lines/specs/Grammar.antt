@@ -2,7 +2,7 @@
 use Rattle.std.specs.Prelude.{◌≡◌, ℕ, ◌^◌, ◌<◌, ◌==◌, List, [], ◌∷◌, Option, Some, None, codes, decimal}
 use Rattle.std.specs.List.{slice_split}
 use Rattle.ksm_base.specs.declared.page.GuestPage.{GuestPage}
-use Rattle.ksm_lines.specs.declared.knob.Knob as knobs
+use Rattle.ksm_base.specs.declared.knobs.Knob as knobs
 use Rattle.ksm_lines.specs.declared.knob.Shown as showns
 use Rattle.ksm_lines.specs.declared.part.Part.{Part}
 use Rattle.ksm_lines.specs.declared.part.Part.TheVariants.{Guest, Page, Node, Place, Pass, Visits, Value, Content, Knob, Shown}

@@ -1,22 +1,15 @@
 -- The knobs, and what else is shown, by their names (admin-guide/mm/ksm).
 use Rattle.std.specs.Prelude.{ℕ, List, [], ◌∷◌, Option, Some, None, map, codes, bytes_eq, if◌then◌else◌}
-use Rattle.ksm_base.specs.declared.command.Command.{Command}
-use Rattle.ksm_base.specs.declared.command.Command.TheVariants.{SetRun, SetPagesToScan, SetAcross, SetLimit, SetZeroPages}
-use Rattle.ksm_base.specs.declared.knobs.Knobs.{Knobs}
+use Rattle.ksm_base.specs.declared.knobs.Knob.{Knob}
 use Rattle.ksm_base.specs.Counting.{counters_of}
+use Rattle.ksm_base.specs.Knobs.{all_knobs, traits, value_in}
 use Rattle.ksm_base.specs.State.{BookState}
-use Rattle.ksm_lines.specs.declared.knob.Knob.{Knob}
 use Rattle.ksm_lines.specs.declared.knob.Shown.{Shown}
 use Rattle.ksm_lines.specs.declared.knob.Shown.TheVariants.{Knob as OfKnob, ZeroPages}
-use Rattle.ksm_lines.specs.declared.knob.Knob.TheVariants.{Run, PagesToScan, MergeAcrossNodes, MaxPageSharing, UseZeroPages}
 
 -- the name of a knob
 abbrev pub knob_name : Knob → List ℕ
-knob_name Run = codes "run"
-knob_name PagesToScan = codes "pages_to_scan"
-knob_name MergeAcrossNodes = codes "merge_across_nodes"
-knob_name MaxPageSharing = codes "max_page_sharing"
-knob_name UseZeroPages = codes "use_zero_pages"
+knob_name knob = (traits knob).name
 
 -- the name of what is shown
 abbrev pub shown_name : Shown → List ℕ
@@ -28,9 +21,6 @@ abbrev pub named_in : {A : Type 0} → (A → List ℕ) → List A → List ℕ 
 named_in name_of [] name = None
 named_in name_of (x ∷ xs) name = if bytes_eq name (name_of x) then Some x else named_in name_of xs name
 
-abbrev pub all_knobs : List Knob
-all_knobs = Run ∷ PagesToScan ∷ MergeAcrossNodes ∷ MaxPageSharing ∷ UseZeroPages ∷ []
-
 abbrev pub all_shown : List Shown
 all_shown = ZeroPages ∷ map OfKnob all_knobs
 
@@ -41,22 +31,6 @@ knob_of = named_in knob_name all_knobs
 -- what is shown, by its name
 abbrev pub shown_of : List ℕ → Option Shown
 shown_of = named_in shown_name all_shown
-
--- the command that sets a knob
-abbrev pub setting : Knob → ℕ → Command
-setting Run value = SetRun value
-setting PagesToScan value = SetPagesToScan value
-setting MergeAcrossNodes value = SetAcross value
-setting MaxPageSharing value = SetLimit value
-setting UseZeroPages value = SetZeroPages value
-
--- what a knob is set to
-abbrev pub value_in : Knob → Knobs → ℕ
-value_in Run knobs = knobs.run
-value_in PagesToScan knobs = knobs.pages_to_scan
-value_in MergeAcrossNodes knobs = knobs.merge_across_nodes
-value_in MaxPageSharing knobs = knobs.max_page_sharing
-value_in UseZeroPages knobs = knobs.use_zero_pages
 
 -- the value that is shown: a knob's, or how many pages are mapped from the zero page
 abbrev pub shown_in : Shown → BookState → ℕ

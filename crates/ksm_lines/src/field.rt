@@ -11,9 +11,9 @@ ghost use Rattle.ksm_lines.specs.Reading.{Gives, GivesField, GivesLast, GivesPag
 ghost use Rattle.ksm_lines.specs.Reading.{field, values, ended, read};
 ghost use Rattle.ksm_lines.specs.declared.part.Part.TheVariants as parts;
 
-use crate::knob::{Knob, Shown, knob_named, shown_named};
+use crate::knob::{Shown, knob_named, shown_named};
 use crate::line::LineFault;
-use ksm_base::{GuestPage, PAGE_WORDS, PageBytes};
+use ksm_base::{GuestPage, Knob, PAGE_WORDS, PageBytes};
 use std::simd::prelude::*;
 
 /// How many digits a page is written in.
@@ -84,19 +84,19 @@ pub fn behind_name<'a, const N: usize>(text: &'a [u8], name: &[u8; N]) -> Option
 
 /// What is left of a text behind a name of any length, where it begins with it. The first byte that differs ends it.
 #[inline(always)]
-pub fn behind<'a, const N: usize>(text: &'a [u8], name: &[u8; N]) -> Option<&'a [u8]>
+pub fn behind<'a>(text: &'a [u8], name: &[u8]) -> Option<&'a [u8]>
     ensures some { IfSome result (λ left. text.now ≡ name.now ++ left.now) }
     ensures none { IfNone result ((left : List ℕ) → text.now ≢ name.now ++ left) }
 {
-    if text.len() < N {
+    if text.len() < name.len() {
         return None;
     }
-    for i in 0..N {
+    for i in 0..name.len() {
         if text[i] != name[i] {
             return None;
         }
     }
-    Some(&text[N..])
+    Some(&text[name.len()..])
 }
 
 /// Whether a word is this name. The first byte that differs ends it.

@@ -1,28 +1,13 @@
 //! The knobs by their names.
 ghost use Rattle.std.specs.Prelude.{◌≡◌, ◌≢◌, ◌++◌, ℕ, List, IfSome, IfNone};
-ghost use Rattle.ksm_lines.specs.declared.knob.Knob as knobs;
+ghost use Rattle.ksm_base.specs.declared.knobs.Knob as knobs;
 ghost use Rattle.ksm_lines.specs.declared.knob.Shown as showns;
-ghost use Rattle.ksm_lines.specs.Knobs.{setting, value_in, knob_name, knob_of, shown_name, shown_of};
+ghost use Rattle.ksm_lines.specs.Knobs.{knob_name, knob_of, shown_name, shown_of};
 ghost use Rattle.ksm_lines.specs.Reading.{Gives};
 
 use crate::field::behind;
 use crate::line::LineFault;
-use ksm_base::{Command, Knobs};
-
-/// A knob, by its name in the language (admin-guide/mm/ksm).
-#[derive(Clone, Copy, Debug, PartialEq, Eq)]
-pub enum Knob {
-    /// `run`
-    Run,
-    /// `pages_to_scan`
-    PagesToScan,
-    /// `merge_across_nodes`
-    MergeAcrossNodes,
-    /// `max_page_sharing`
-    MaxPageSharing,
-    /// `use_zero_pages`
-    UseZeroPages,
-}
+use ksm_base::Knob;
 
 /// What a line shows, by its name in the language (admin-guide/mm/ksm).
 #[derive(Clone, Copy, Debug, PartialEq, Eq)]
@@ -33,54 +18,18 @@ pub enum Shown {
     ZeroPages,
 }
 
-impl Knob {
-    /// The command that sets the knob.
-    pub fn setting(self, value: u32) -> Command
-        ensures { result ≡ setting self value }
-    {
-        match self {
-            Knob::Run => Command::SetRun(value),
-            Knob::PagesToScan => Command::SetPagesToScan(value),
-            Knob::MergeAcrossNodes => Command::SetAcross(value),
-            Knob::MaxPageSharing => Command::SetLimit(value),
-            Knob::UseZeroPages => Command::SetZeroPages(value),
-        }
-    }
-
-    /// What the knob is set to.
-    pub fn value_in(self, knobs: &Knobs) -> u32
-        ensures { result ≡ value_in self knobs.now }
-    {
-        match self {
-            Knob::Run => knobs.run,
-            Knob::PagesToScan => knobs.pages_to_scan,
-            Knob::MergeAcrossNodes => knobs.merge_across_nodes,
-            Knob::MaxPageSharing => knobs.max_page_sharing,
-            Knob::UseZeroPages => knobs.use_zero_pages,
-        }
-    }
-}
-
 /// The knob whose name begins a text, and what is behind the name. No name of a knob begins another's.
 #[inline(always)]
 pub fn knob_at(text: &[u8]) -> Option<(Knob, &[u8])>
     ensures some { IfSome result (λ r. text.now ≡ knob_name r.0 ++ r.1.now) }
     ensures none { IfNone result ((knob : knobs.Knob) → (left : List ℕ) → text.now ≢ knob_name knob ++ left) }
 {
-    if let Some(left) = behind(text, b"run") {
-        return Some((Knob::Run, left));
+    for knob in &Knob::ALL {
+        if let Some(left) = behind(text, knob.name()) {
+            return Some((*knob, left));
+        }
     }
-    if let Some(left) = behind(text, b"pages_to_scan") {
-        return Some((Knob::PagesToScan, left));
-    }
-    if let Some(left) = behind(text, b"merge_across_nodes") {
-        return Some((Knob::MergeAcrossNodes, left));
-    }
-    if let Some(left) = behind(text, b"max_page_sharing") {
-        return Some((Knob::MaxPageSharing, left));
-    }
-    let left = behind(text, b"use_zero_pages")?;
-    Some((Knob::UseZeroPages, left))
+    None
 }
 
 /// What is shown by the name that begins a text, and what is behind the name.

@@ -9,7 +9,7 @@ mod part;
 mod worked;
 
 pub use field::{PAGE_DIGITS, cut, ended};
-pub use knob::{Knob, Shown};
+pub use knob::Shown;
 pub use leading::{leading_page_line, leading_rare_line, leading_short_line, names_content};
 pub use line::{Line, LineFault, PageLine, RareLine, ShortLine, read_line};
 pub use part::{Part, is_read, parts_of};

@@ -14,8 +14,8 @@ use crate::field::{
     content_alone, cut, ended, guest, guest_alone, is, knob, number, number_alone, page_alone,
     shown_alone,
 };
-use crate::knob::{Knob, Shown};
-use ksm_base::{GuestPage, PageBytes};
+use crate::knob::Shown;
+use ksm_base::{GuestPage, Knob, PageBytes};
 use thiserror::Error;
 
 /// A line of a script, by how it is answered and whether it has the content of a page (own).

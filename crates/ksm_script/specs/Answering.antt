@@ -10,6 +10,7 @@ use Rattle.ksm_base.specs.State.{BookState}
 use Rattle.ksm_base.specs.Answers.{Answer, IsAnswerOrMemory}
 use Rattle.ksm_base.specs.Apply.{after}
 use Rattle.ksm_base.specs.Counting.{counters_of}
+use Rattle.ksm_base.specs.Knobs.{setting}
 use Rattle.ksm_base.specs.Reading.{bytes_of, ticket_of, mappers_of}
 use Rattle.ksm_base.specs.declared.page.GuestPage.{GuestPage}
 use Rattle.ksm_base.specs.Refusals.{is_known}
@@ -22,7 +23,7 @@ use Rattle.ksm_script.specs.declared.pass_state.PassState.{PassState}
 use Rattle.ksm_script.specs.declared.refusal.Refusal.TheVariants.{Book}
 use Rattle.ksm_script.specs.declared.reply.LineReply.{LineReply}
 use Rattle.ksm_script.specs.declared.reply.LineReply.TheVariants as told
-use Rattle.ksm_lines.specs.Knobs.{setting, shown_in}
+use Rattle.ksm_lines.specs.Knobs.{shown_in}
 use Rattle.ksm_script.specs.State.{ScriptState}
 use Rattle.ksm_script.specs.Lookups.{Finds, Equals, LooksAt, GivesUp, AtPass, Audits, EndsIdle}
 use Rattle.ksm_script.specs.Replies.{text_of}

@@ -8,6 +8,7 @@ use Rattle.ksm_base.specs.declared.page.TheConstants.{PAGE_WORDS}
 use Rattle.ksm_base.specs.declared.shape.Shape.{Shape}
 use Rattle.ksm_base.specs.declared.command.Command.{Command}
 use Rattle.ksm_base.specs.declared.command.Command.TheVariants as commands
+use Rattle.ksm_base.specs.declared.knobs.Knob.TheVariants.{Run}
 use Rattle.ksm_base.specs.declared.reply.Reply.TheVariants as replies
 use Rattle.ksm_base.specs.declared.fault.Fault.{Fault}
 use Rattle.ksm_base.specs.declared.fault.Fault.TheVariants.{Memory, UnknownPage, NotRunning, BadValue, UnknownPlace, BadNode}
@@ -18,7 +19,6 @@ use Rattle.frame_table.specs.Lookup.{ReaderLog, IsVacant}
 use Rattle.frame_table.specs.Seats.{new_pass}
 use Rattle.ksm_audit.specs.declared.report.Row.{Row}
 use Rattle.ksm_audit.specs.Lookups.{word_loads}
-use Rattle.ksm_lines.specs.declared.knob.Knob.TheVariants.{Run}
 use Rattle.ksm_lines.specs.declared.knob.Shown.TheVariants.{Knob as OfKnob}
 use Rattle.ksm_lines.specs.declared.line.Line.{Line}
 use Rattle.ksm_lines.specs.declared.line.Line.TheVariants as lines
