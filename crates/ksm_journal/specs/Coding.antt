@@ -1,18 +1,19 @@
 -- How a journal keeps its entries: a command in eight bytes, an answer in one, and beside them what these have no room
 -- for. Own.
-use Rattle.std.specs.Prelude.{ℕ, ◌*◌, ◌<◌, Bool, true, false, not, ◌&&◌, List, [], ◌∷◌, slice_index_or, None, Ok, Err, MatchBool, if◌then◌else◌}
+use Rattle.std.specs.Prelude.{ℕ, ◌*◌, ◌<◌, Bool, true, false, not, ◌&&◌, List, [], ◌∷◌, slice_index_or, None, option_map, unwrap_or, Ok, Err, MatchBool, if◌then◌else◌}
 use Rattle.std.specs.List.{repeat}
 use Rattle.ksm_base.specs.declared.page.GuestPage.{GuestPage}
 use Rattle.ksm_base.specs.declared.page.TheConstants.{PAGE_WORDS}
 use Rattle.ksm_base.specs.declared.command.Command.{Command}
-use Rattle.ksm_base.specs.declared.command.Command.TheVariants.{Register, Drop, Store, Scan, Prune, Unmerge, Mergeable, MovePage, MoveDup, SetRun, SetPagesToScan, SetAcross, SetLimit, SetZeroPages}
+use Rattle.ksm_base.specs.declared.command.Command.TheVariants.{Register, Drop, Store, Scan, Prune, Unmerge, Mergeable, MovePage, MoveDup, SetRun}
 use Rattle.ksm_base.specs.declared.reply.Reply.TheVariants.{Done, Scanned, Pruned, Unmerged}
 use Rattle.ksm_base.specs.declared.fault.Fault.TheVariants.{UnknownPage, AlreadyRegistered, NoFrame, NotRunning, SharedPages, BadValue, InUse, CrossesNodes, UnknownPlace, BadNode}
 use Rattle.ksm_base.specs.Answers.{Answer}
 use Rattle.ksm_base.specs.Journal.{Entry}
+use Rattle.ksm_base.specs.Knobs.{knob_numbered, setting}
 use Rattle.ksm_journal.specs.declared.code.CommandKind.{CommandKind}
 use Rattle.ksm_journal.specs.declared.code.CommandKind.TheVariants.{Storing, Registering0, Registering1, Registering2, Registering3, Dropping, Scanning, Unmerging, MakingMergeable, MovingPage}
-use Rattle.ksm_journal.specs.declared.code.CommandKind.TheVariants.{MovingDup, SettingRun, SettingPagesToScan, SettingAcross, SettingLimit, SettingZeroPages, StoringPage, RegisteringPage, Whole}
+use Rattle.ksm_journal.specs.declared.code.CommandKind.TheVariants.{MovingDup, SettingRun, Setting, StoringPage, RegisteringPage, Whole}
 use Rattle.ksm_journal.specs.declared.code.CommandCode.{CommandCode}
 use Rattle.ksm_journal.specs.declared.code.AnswerCode.{AnswerCode}
 use Rattle.ksm_journal.specs.declared.code.AnswerCode.TheVariants.{AllDone, PageUnknown, PageKnown, FrameMissing0, FrameMissing1, FrameMissing2, FrameMissing3, ScanStands, PagesShared}
@@ -63,10 +64,7 @@ command_of MakingMergeable c = Mergeable c.guest
 command_of MovingPage c = MovePage (page_of c) c.byte
 command_of MovingDup c = MoveDup c.number c.byte
 command_of SettingRun c = SetRun c.byte
-command_of SettingPagesToScan c = SetPagesToScan c.number
-command_of SettingAcross c = SetAcross c.number
-command_of SettingLimit c = SetLimit c.number
-command_of SettingZeroPages c = SetZeroPages c.number
+command_of Setting c = unwrap_or (option_map (λ knob. setting knob c.number) (knob_numbered c.byte)) Prune
 command_of kind c = Prune
 
 -- the answer that a code tells beside a number

@@ -3,7 +3,7 @@
 ghost use Rattle.std.specs.Prelude.{◌≡◌, ℕ, Ok, Err, IfSome, length, true, false};
 ghost use Rattle.ksm_journal.specs.Coding.{IsInside, answer_of, command_beside, command_of, entry_of, full, is_beside, is_whole, tells_all};
 
-use ksm_base::{Command, Fault, GuestPage, PAGE_WORDS, PageBytes, Reply};
+use ksm_base::{Command, Fault, GuestPage, Knob, PAGE_WORDS, PageBytes, Reply};
 
 /// Which command it is, and where its parts stand. A page stands in `guest` and `number`, the one byte of its bytes in
 /// `byte`.
@@ -30,11 +30,8 @@ pub(crate) enum CommandKind {
     MovingDup,
     /// The value is `byte`; `number` is how many pages got a frame.
     SettingRun,
-    /// The value is `number`.
-    SettingPagesToScan,
-    SettingAcross,
-    SettingLimit,
-    SettingZeroPages,
+    /// The number of the knob, which is not `run`, is `byte`; the value is `number`.
+    Setting,
     /// A store of other bytes: the page and its bytes are row `number` of the pages.
     StoringPage,
     /// A registering with other bytes, on node `byte`: the page and its bytes are row `number` of the pages.
@@ -183,17 +180,9 @@ impl CommandCode {
                 let byte = u8::try_from(run).ok()?;
                 CommandCode::of_number(CommandKind::SettingRun, byte, count_of(answer))
             }
-            Command::SetPagesToScan(pages) => {
-                CommandCode::of_number(CommandKind::SettingPagesToScan, 0, pages)
-            }
-            Command::SetAcross(across) => {
-                CommandCode::of_number(CommandKind::SettingAcross, 0, across)
-            }
-            Command::SetLimit(limit) => {
-                CommandCode::of_number(CommandKind::SettingLimit, 0, limit)
-            }
-            Command::SetZeroPages(zero_pages) => {
-                CommandCode::of_number(CommandKind::SettingZeroPages, 0, zero_pages)
+            _ => {
+                let (knob, value) = Knob::set_by(command)?;
+                CommandCode::of_number(CommandKind::Setting, knob.number() as u8, value)
             }
         };
         Some(code)
@@ -236,10 +225,10 @@ impl CommandCode {
                 node: u32::from(self.byte),
             },
             CommandKind::SettingRun => Command::SetRun(u32::from(self.byte)),
-            CommandKind::SettingPagesToScan => Command::SetPagesToScan(self.number),
-            CommandKind::SettingAcross => Command::SetAcross(self.number),
-            CommandKind::SettingLimit => Command::SetLimit(self.number),
-            CommandKind::SettingZeroPages => Command::SetZeroPages(self.number),
+            CommandKind::Setting => match Knob::numbered(u16::from(self.byte)) {
+                Some(knob) => knob.setting(self.number),
+                None => Command::Prune,
+            },
             _ => Command::Prune,
         }
     }
