@@ -1,13 +1,14 @@
 -- Commands, replies and counters as C has them (own).
-use Rattle.std.specs.Prelude.{◌≡◌, ◌≢◌, ℕ, ◌==◌, Option, Some, None, Result, Ok, Err, if◌then◌else◌}
+use Rattle.std.specs.Prelude.{◌≡◌, ◌≢◌, ℕ, ◌-◌, ◌==◌, nat_lt, Option, Some, None, option_map, Result, Ok, Err, if◌then◌else◌}
 use Rattle.ksm_base.specs.declared.command.Command.{Command}
-use Rattle.ksm_base.specs.declared.command.Command.TheVariants.{Register, Drop, Store, Scan, Prune, Unmerge, Mergeable, MovePage, MoveDup, SetRun, SetPagesToScan, SetAcross, SetLimit, SetZeroPages}
+use Rattle.ksm_base.specs.declared.command.Command.TheVariants.{Register, Drop, Store, Scan, Prune, Unmerge, Mergeable, MovePage, MoveDup}
 use Rattle.ksm_base.specs.declared.counters.Counters.{Counters}
 use Rattle.ksm_base.specs.declared.fault.Fault.{Fault}
 use Rattle.ksm_base.specs.declared.fault.Fault.TheVariants as fault
 use Rattle.ksm_base.specs.declared.page.GuestPage.{GuestPage}
 use Rattle.ksm_base.specs.declared.reply.Reply.{Reply}
 use Rattle.ksm_base.specs.declared.reply.Reply.TheVariants.{Done, Scanned, Pruned, Unmerged}
+use Rattle.ksm_base.specs.Knobs.{knob_numbered, setting}
 use Rattle.ksm_ffi.specs.Answers.{number_of}
 use Rattle.ksm_ffi.specs.declared.answer.Answer.{Answer}
 use Rattle.ksm_ffi.specs.declared.answer.Answer.TheVariants as answer
@@ -31,12 +32,8 @@ commanded r =
     else if r.kind == 7 then Some (Mergeable r.guest)
     else if r.kind == 8 then Some (MovePage (page_in r) r.node)
     else if r.kind == 9 then Some (MoveDup r.value r.node)
-    else if r.kind == 10 then Some (SetRun r.value)
-    else if r.kind == 11 then Some (SetPagesToScan r.value)
-    else if r.kind == 12 then Some (SetAcross r.value)
-    else if r.kind == 13 then Some (SetLimit r.value)
-    else if r.kind == 14 then Some (SetZeroPages r.value)
-    else None
+    else if nat_lt r.kind 10 then None
+    else option_map (λ knob. setting knob r.value) (knob_numbered (r.kind - 10))
 
 -- how a fault is answered
 abbrev pub fault_answer : Fault → Answer

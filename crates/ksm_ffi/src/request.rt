@@ -6,7 +6,10 @@ ghost use Rattle.ksm_ffi.specs.Requests.{IsMade, LeavesMade, TellsFault, TellsMa
 ghost use Rattle.ksm_ffi.specs.Requests.{fault_answer, node_of};
 
 use crate::answer::Answer;
-use ksm_base::{Command, Counters, Fault, GuestPage, PAGE_WORDS, PageBytes, Reply};
+use ksm_base::{Command, Counters, Fault, GuestPage, Knob, PAGE_WORDS, PageBytes, Reply};
+
+/// The kind that sets the knob of number 0; the others follow by their numbers.
+const FIRST_SETTING: u16 = 10;
 
 /// A command. `kind` tells which, and so which of the other fields count.
 #[repr(C)]
@@ -65,11 +68,10 @@ impl Request {
                 node,
                 ..Request::of_value(9, place)
             },
-            Command::SetRun(run) => Request::of_value(10, run),
-            Command::SetPagesToScan(pages) => Request::of_value(11, pages),
-            Command::SetAcross(across) => Request::of_value(12, across),
-            Command::SetLimit(limit) => Request::of_value(13, limit),
-            Command::SetZeroPages(zero_pages) => Request::of_value(14, zero_pages),
+            _ => match Knob::set_by(&command) {
+                Some((knob, value)) => Request::of_value(FIRST_SETTING + knob.number(), value),
+                None => none,
+            },
         }
     }
 
@@ -137,12 +139,10 @@ impl Request {
             7 => Some(Command::Mergeable { guest }),
             8 => Some(Command::MovePage { page, node }),
             9 => Some(Command::MoveDup { place: value, node }),
-            10 => Some(Command::SetRun(value)),
-            11 => Some(Command::SetPagesToScan(value)),
-            12 => Some(Command::SetAcross(value)),
-            13 => Some(Command::SetLimit(value)),
-            14 => Some(Command::SetZeroPages(value)),
-            _ => None,
+            _ => {
+                let knob = Knob::numbered(kind.checked_sub(FIRST_SETTING)?)?;
+                Some(knob.setting(value))
+            }
         }
     }
 }
