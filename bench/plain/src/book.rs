@@ -2,10 +2,11 @@
 
 use std::mem;
 
-use crate::command::{Answer, Command, Counters, Fault, Knobs, Reply};
+use crate::command::{Answer, Command, Counters, Fault, Reply};
 use crate::contents::{Contents, Waiting};
 use crate::dups::Dups;
 use crate::keeper::Keeper;
+use crate::knobs::Knobs;
 use crate::order::Order;
 use crate::restless::{Entry, Restless};
 use crate::rows::{Page, Row, Rows, State};
@@ -37,13 +38,7 @@ impl Book {
         let places = keeper.table.places();
         Book {
             keeper,
-            knobs: Knobs {
-                run: 0,
-                pages_to_scan: 100,
-                merge_across_nodes: 1,
-                max_page_sharing: 256,
-                use_zero_pages: 0,
-            },
+            knobs: Knobs::DEFAULT,
             rows: Rows::default(),
             order: Order::default(),
             restless: Restless::default(),

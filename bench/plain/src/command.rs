@@ -1,4 +1,4 @@
-//! Commands, their answers, and what they may set and count.
+//! Commands, their answers, and what they count.
 
 use crate::rows::Page;
 use crate::table::PageBytes;
@@ -48,14 +48,6 @@ pub enum Fault {
 }
 
 pub type Answer = Result<Reply, Fault>;
-
-pub struct Knobs {
-    pub run: u32,
-    pub pages_to_scan: u32,
-    pub merge_across_nodes: u32,
-    pub max_page_sharing: u32,
-    pub use_zero_pages: u32,
-}
 
 #[derive(Default)]
 pub struct Counters {

@@ -1,8 +1,50 @@
-//! Commands that set a knob.
+//! The knobs, and the commands that set them.
 
 use crate::book::Book;
-use crate::command::{Answer, Fault, Reply};
+use crate::command::{Answer, Command, Fault, Reply};
 use crate::table::ZERO_PAGE;
+
+/// The knobs, from a row for each: its variant, its field, whose name is the word for it, the command that sets it, and its first value.
+macro_rules! knobs {
+    ($($knob:ident, $field:ident, $command:ident, $first:literal;)*) => {
+        #[derive(Clone, Copy)]
+        pub enum Knob {
+            $($knob,)*
+        }
+
+        impl Knob {
+            pub const NAMED: [(&[u8], Knob); [$(Knob::$knob),*].len()] = [$((stringify!($field).as_bytes(), Knob::$knob)),*];
+
+            pub fn command(self, value: u32) -> Command {
+                match self {
+                    $(Knob::$knob => Command::$command(value),)*
+                }
+            }
+        }
+
+        pub struct Knobs {
+            $(pub $field: u32,)*
+        }
+
+        impl Knobs {
+            pub const DEFAULT: Knobs = Knobs { $($field: $first,)* };
+
+            pub fn value(&self, knob: Knob) -> u32 {
+                match knob {
+                    $(Knob::$knob => self.$field,)*
+                }
+            }
+        }
+    };
+}
+
+knobs! {
+    Run, run, SetRun, 0;
+    PagesToScan, pages_to_scan, SetPagesToScan, 100;
+    MergeAcrossNodes, merge_across_nodes, SetAcross, 1;
+    MaxPageSharing, max_page_sharing, SetLimit, 256;
+    UseZeroPages, use_zero_pages, SetZeroPages, 0;
+}
 
 impl Book {
     pub(crate) fn set_run(&mut self, run: u32) -> Answer {

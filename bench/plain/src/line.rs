@@ -1,6 +1,7 @@
 //! Lines of the script language, read where they lie.
 
 use crate::command::Command;
+use crate::knobs::Knob;
 use crate::rows::{Page, page};
 use crate::table::{PAGE_WORDS, PageBytes};
 
@@ -24,15 +25,6 @@ pub enum Line {
     Look(u32),
     Leave(u32),
     Audit,
-}
-
-#[derive(Clone, Copy)]
-pub enum Knob {
-    Run,
-    PagesToScan,
-    MergeAcrossNodes,
-    MaxPageSharing,
-    UseZeroPages,
 }
 
 /// The line that a text begins with, and its length with the newline; none where it begins with none. The text has a newline, or more
@@ -194,25 +186,11 @@ impl Words<'_> {
     }
 
     fn knob(&mut self) -> Option<Knob> {
-        const NAMES: [(&[u8], Knob); 5] = [
-            (b"run", Knob::Run),
-            (b"pages_to_scan", Knob::PagesToScan),
-            (b"merge_across_nodes", Knob::MergeAcrossNodes),
-            (b"max_page_sharing", Knob::MaxPageSharing),
-            (b"use_zero_pages", Knob::UseZeroPages),
-        ];
-        NAMES.into_iter().find(|(name, _)| self.take(name).is_some()).map(|(_, knob)| knob)
+        Knob::NAMED.into_iter().find_map(|(name, knob)| self.take(name).map(|()| knob))
     }
 
     fn setting(&mut self) -> Option<Command> {
-        let (knob, value) = (self.knob()?, self.next_number()?);
-        Some(match knob {
-            Knob::Run => Command::SetRun(value),
-            Knob::PagesToScan => Command::SetPagesToScan(value),
-            Knob::MergeAcrossNodes => Command::SetAcross(value),
-            Knob::MaxPageSharing => Command::SetLimit(value),
-            Knob::UseZeroPages => Command::SetZeroPages(value),
-        })
+        Some(self.knob()?.command(self.next_number()?))
     }
 }
 

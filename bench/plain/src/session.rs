@@ -7,7 +7,7 @@ use std::thread;
 
 use crate::book::Book;
 use crate::command::{Answer, Command, Fault, Reply};
-use crate::line::{Knob, Line};
+use crate::line::Line;
 use crate::table::{Found, Hold, PageBytes, Table, Why};
 use crate::text::{write_content, write_number};
 
@@ -46,7 +46,7 @@ impl Session {
                 Some(place) => write_number(text, b"place ", place),
             },
             Line::Rmap(place) => self.write_mappers(text, place)?,
-            Line::Show(knob) => self.write_knob(text, knob),
+            Line::Show(knob) => write_number(text, b"", self.book.knobs.value(knob)),
             Line::ShowZeroPages => write_number(text, b"", self.book.counters().zero),
             Line::Stat => write_counters(text, &self.book),
             Line::Find(pass, place) => self.find(text, pass, place, None)?,
@@ -73,18 +73,6 @@ impl Session {
             write_number(text, b":", page & u64::from(u32::MAX));
         }
         Ok(())
-    }
-
-    fn write_knob(&self, text: &mut Vec<u8>, knob: Knob) {
-        let knobs = &self.book.knobs;
-        let value = match knob {
-            Knob::Run => knobs.run,
-            Knob::PagesToScan => knobs.pages_to_scan,
-            Knob::MergeAcrossNodes => knobs.merge_across_nodes,
-            Knob::MaxPageSharing => knobs.max_page_sharing,
-            Knob::UseZeroPages => knobs.use_zero_pages,
-        };
-        write_number(text, b"", value);
     }
 
     fn hold(&mut self, pass: u32) -> Result<&mut Option<Hold>, Fault> {
