@@ -4,6 +4,7 @@ ghost use Rattle.std.specs.Prelude.{◌≡◌, ◌<◌, ℕ, ◌↔◌, IsTrue, 
 ghost use Rattle.frame_core.specs.declared.event.KeeperStep.TheVariants.{Reap, Put, Raise, Open, Add, Sub, Publish, Replace, Withdraw, Freeze, Word};
 ghost use Rattle.frame_core.specs.Ledger.{blank, frame_at};
 ghost use Rattle.frame_core.specs.State.{frame_word, count_in};
+ghost use Rattle.frame_core.specs.Words.{page_at};
 ghost use Rattle.ksm_base.specs.Values.{frames_of};
 ghost use Rattle.frame_core.specs.declared.ledger.Note.{Note};
 ghost use Rattle.frame_table.specs.Kept.{May, did, Did};
@@ -90,6 +91,21 @@ fn write_down(uses: &mut Vec<Use>, generations: &mut Vec<u64>, frame: u32, note:
     let kept = &mut uses[frame as usize];
     kept.kind = note.kind;
     kept.base = note.base;
+}
+
+// Writes down that a frame is filled from now on, in a life. What it has of references stays, and is not stored.
+#[tactic(auto, using(crate::proofs::Notes::uses_get, crate::proofs::Notes::uses_set, crate::proofs::Notes::generations_set))]
+fn fill(uses: &mut Vec<Use>, generations: &mut Vec<u64>, frame: u32, generation: u64)
+    requires uses { frame < length uses.old.items }
+    requires generations { frame < length generations.old.items }
+    ensures uses { (notes : List Note) (x : Note) → uses.old.items ≡ map use_of notes
+        → use_of x ≡ record (use_of (slice_index_or notes frame blank)) { kind = Kind.Filling }
+        → uses.new.items ≡ map use_of (slice_set notes frame x) }
+    ensures generations { (notes : List Note) (x : Note) → generations.old.items ≡ map generation_of notes
+        → generation_of x ≡ generation → generations.new.items ≡ map generation_of (slice_set notes frame x) }
+{
+    generations[frame as usize] = generation;
+    uses[frame as usize].kind = Kind::Filling;
 }
 
 impl Keeper {
@@ -190,13 +206,16 @@ impl Keeper {
     pub fn raise(&mut self, table: &FrameTable, frame: u32)
         requires own { self.old.table ≡ table.now }
         requires may { May self.old (Raise frame) }
-        ensures { Did self.old (Raise frame) self.new }
+        ensures step { Did self.old (Raise frame) self.new }
+        ensures filling { (frame_at self.new.ledger frame).kind ≡ Kind.Filling }
     {
         let before = FrameWord::unpack(table.raise_at(&mut self.seat, frame));
-        let mut note = note(&self.uses, &self.generations, frame);
-        note.kind = Kind::Filling;
-        note.generation = before.generation + 1;
-        write_down(&mut self.uses, &mut self.generations, frame, note);
+        fill(
+            &mut self.uses,
+            &mut self.generations,
+            frame,
+            before.generation + 1,
+        );
     }
 
     /// Stores the word `i` of a frame that is Filling or Private.
@@ -205,7 +224,17 @@ impl Keeper {
         requires may { May self.old (Put frame i word) }
         ensures { self.new ≡ did self.old (Put frame i word) 0 }
     {
-        table.put_at(&mut self.seat, frame, i, word);
+        self.put_on(table, frame, table.page(frame), i, word);
+    }
+
+    /// The same, where it is known where the frame's page begins (`FrameTable::page`).
+    pub fn put_on(&mut self, table: &FrameTable, frame: u32, page: usize, i: usize, word: u64)
+        requires own { self.old.table ≡ table.now }
+        requires may { May self.old (Put frame i word) }
+        requires page { page ≡ page_at (frames_of table.now.shape) frame }
+        ensures { self.new ≡ did self.old (Put frame i word) 0 }
+    {
+        table.put_at(&mut self.seat, frame, page, i, word);
     }
 
     /// Opens a frame that was filled: it is Private, with one reference of the keeper.
@@ -292,7 +321,18 @@ impl Keeper {
         ensures step { self.new ≡ did self.old (Word frame i) result }
         ensures content { result ≡ slice_index (frame_at self.old.ledger frame).content i }
     {
-        table.word_at(&mut self.seat, frame, i)
+        self.word_on(table, frame, table.page(frame), i)
+    }
+
+    /// The same, where it is known where the frame's page begins (`FrameTable::page`).
+    pub fn word_on(&mut self, table: &FrameTable, frame: u32, page: usize, i: usize) -> u64
+        requires own { self.old.table ≡ table.now }
+        requires may { May self.old (Word frame i) }
+        requires page { page ≡ page_at (frames_of table.now.shape) frame }
+        ensures step { self.new ≡ did self.old (Word frame i) result }
+        ensures content { result ≡ slice_index (frame_at self.old.ledger frame).content i }
+    {
+        table.word_at(&mut self.seat, frame, page, i)
     }
 
     /// Ends the keeper where its table is not closed, as where passes are in other hands for good: its notes are freed,

@@ -11,7 +11,7 @@ ghost use Rattle.frame_core.specs.declared.seat.Aim.{Aim};
 ghost use Rattle.frame_core.specs.declared.seat.Phase.TheVariants.{Idle, Placed, Counted, Held};
 ghost use Rattle.frame_core.specs.Ledger.{frame_at};
 ghost use Rattle.frame_core.specs.State.{frame_word};
-ghost use Rattle.frame_core.specs.Words.{frame_word_at, page_at, content_at, words_for};
+ghost use Rattle.frame_core.specs.Words.{frame_word_at, page_at, words_for};
 ghost use Rattle.frame_table.specs.Keeping.{Keeps, MayKeep, word_of_frame};
 ghost use Rattle.frame_table.specs.Reading.{IsHolder, StepsNow};
 ghost use Rattle.frame_table.specs.Rule.{Holds};
@@ -116,22 +116,15 @@ impl FrameTable {
         self.places as usize + frame as usize * LINE_WORDS
     }
 
-    // Where the page of a frame begins, behind the lines of all frames and one that is unused.
-    pub(crate) fn page(&self, frame: u32) -> usize
+    /// Where the page of a frame begins, behind the lines of all frames and one that is unused. Who takes one word of it
+    /// after another asks once.
+    pub fn page(&self, frame: u32) -> usize
         requires inside { frame < frames_of self.now.shape }
         ensures at { result ≡ page_at (frames_of self.now.shape) frame }
         ensures within { result + words_of_page ≤ self.now.id.words }
         ensures small { result < 2 ^ 32 }
     {
         self.pages + frame as usize * PAGE_WORDS
-    }
-
-    pub(crate) fn content_word(&self, frame: u32, i: usize) -> usize
-        requires inside { (frame < frames_of self.now.shape) × (i < words_of_page) }
-        ensures at { result ≡ content_at (frames_of self.now.shape) frame i }
-        ensures within { result < self.now.id.words }
-    {
-        self.page(frame) + i
     }
 }
 
@@ -315,14 +308,20 @@ impl FrameTable {
         self.table.shared.load::<Reap>(seat, self.frame_word(frame))
     }
 
-    pub(crate) fn put_at(&self, seat: &mut Seat<(), View>, frame: u32, i: usize, content: u64)
-        requires { MayKeep self.now seat.old.table_id seat.old.me (keeper.Put frame i content) }
+    pub(crate) fn put_at(
+        &self,
+        seat: &mut Seat<(), View>,
+        frame: u32,
+        page: usize,
+        i: usize,
+        content: u64,
+    )
+        requires asks { MayKeep self.now seat.old.table_id seat.old.me (keeper.Put frame i content) }
+        requires page { page ≡ page_at (frames_of self.now.shape) frame }
         ensures seat { (seat.new.table_id ≡ seat.old.table_id) × (seat.new.id ≡ seat.old.id) }
         ensures step { Keeps (keeper.Put frame i content) seat.old.me 0 seat.new.me }
     {
-        self.table
-            .shared
-            .store::<Put>(seat, self.content_word(frame, i), content);
+        self.table.shared.store::<Put>(seat, page + i, content);
     }
 
     pub(crate) fn raise_at(&self, seat: &mut Seat<(), View>, frame: u32) -> u64
@@ -414,13 +413,18 @@ impl FrameTable {
             .compare_exchange::<Freeze>(seat, self.frame_word(frame), alone, none)
     }
 
-    pub(crate) fn word_at(&self, seat: &mut Seat<(), View>, frame: u32, i: usize) -> u64
-        requires { MayKeep self.now seat.old.table_id seat.old.me (keeper.Word frame i) }
+    pub(crate) fn word_at(
+        &self,
+        seat: &mut Seat<(), View>,
+        frame: u32,
+        page: usize,
+        i: usize,
+    ) -> u64
+        requires asks { MayKeep self.now seat.old.table_id seat.old.me (keeper.Word frame i) }
+        requires page { page ≡ page_at (frames_of self.now.shape) frame }
         ensures seat { (seat.new.table_id ≡ seat.old.table_id) × (seat.new.id ≡ seat.old.id) }
         ensures step { Keeps (keeper.Word frame i) seat.old.me result seat.new.me }
     {
-        self.table
-            .shared
-            .load::<Word>(seat, self.content_word(frame, i))
+        self.table.shared.load::<Word>(seat, page + i)
     }
 }

@@ -1,7 +1,7 @@
 -- Steps of the keeper that were made, one after the other; what they make of a placement, of the lives spent and of the sets of
 -- free and dying frames; and frames that are found, filled and mounted.
 use Rattle.ksm_book.proofs.Names.{Add, added, All, Allocates, along, ap, append-nil, append_assoc, AreSets, arith, blank, Bool, cases_eq, cases_lt, cond, count_in, did, drop, DupRow, Dying}
-use Rattle.ksm_book.proofs.Names.{dying_from, dying_kind, dying_on, false, filter_passes, Finds, FindsNone, frame_at, Frames, frames_of, Free, free_kind, get_or, get_or-set_other, get_or-set_same}
+use Rattle.ksm_book.proofs.Names.{dying_from, dying_kind, dying_on, false, Filling, filter_passes, Finds, FindsNone, frame_at, Frames, frames_of, Free, free_kind, get_or, get_or-set_other, get_or-set_same}
 use Rattle.ksm_book.proofs.Names.{get_or_past, given_by, Gives, HasNewFrame, holding, IsLawful, IsSetOf, KeeperStep, KeeperView, Keeps, Kind, Ledger, ledger_after, length, length-set, length-take-le}
 use Rattle.ksm_book.proofs.Names.{List, loads, Log, MakesSteps, map, map-append, Marks, mounting, needed_after, None, NoneOf, Note, Open, opened, Option, PAGE_WORDS, Placed, puts, Raise, raised, Reap}
 use Rattle.ksm_book.proofs.Names.{reaped, refl, replayed, replicate, Row, set, set-get_or, set-set, set_past, Shape, Some, spent, spent_on, stepped, steps_of, suc, sum_by-set, take, take_more, true}
@@ -253,4 +253,15 @@ sets_reaped {w = w} found frame are is none d f =
     record {
       free = set_marked free_kind frame (rw is) (λ g ne. grind (arith, other_if)) are.free f;
       dying = set_marked dying_kind frame (rw is) (λ g ne. grind (arith, other_if)) are.dying (rw over d);
+    }
+
+-- a frame that was raised, and went from the free ones: the sets of free and dying frames are right
+pub sets_raised : {v w : KeeperView} (found frame : ℕ) {free dying : List ℕ} → AreSets v free dying → free_kind (frame_at v.ledger frame).kind ≡ true
+    → w ≡ did v (Raise frame) found → (frame_at w.ledger frame).kind ≡ Filling → {free' : List ℕ} → Marks free free' frame false → AreSets w free' dying
+sets_raised {v} {w} found frame are free is filling f =
+    let full : free_kind (frame_at w.ledger frame).kind ≡ false = rw filling refl in
+    let as_was : (g : ℕ) → dying_kind (frame_at w.ledger g).kind ≡ dying_kind (frame_at v.ledger g).kind = λ g. grind (arith, put_there) in
+    record {
+      free = set_marked free_kind frame (rw is) (λ g ne. grind (arith, get_or-set_other)) are.free (rw full f);
+      dying = record { room = rw is are.dying.room; marked = λ g lt. grind (arith, are.dying.marked g, as_was g) };
     }

@@ -1,7 +1,7 @@
 //! The keeper with the sets of its free and of its dying frames, so that neither is looked for frame by frame.
 
 ghost use Rattle.std.specs.Prelude.{◌≡◌, ◌<◌, ◌≤◌, ℕ, ◌↔◌, IfErr, IfOk, IsTrue, MatchOption, slice_index};
-ghost use Rattle.ksm_book.specs.Terms.{Add, count_in, Did, did, first_ledger, frame_at, frame_word, frames_of, Freeze, IsShape, May, Memory, Open, Publish, Put, Raise, Reap, Sub, Withdraw, Word};
+ghost use Rattle.ksm_book.specs.Terms.{Add, count_in, Did, did, first_ledger, frame_at, frame_word, frames_of, Freeze, IsShape, May, Memory, Open, page_at, Publish, Put, Raise, Reap, Sub, Withdraw, Word};
 ghost use Rattle.ksm_book.specs.Keeping.{MayLeave};
 ghost use Rattle.ksm_book.specs.Steps.{NoneOf, IsFirstOf, free_kind, dying_kind};
 
@@ -150,17 +150,17 @@ impl FrameKeeper {
     {
         self.keeper.raise(table, frame);
         // It was free, and not dying.
-        let kind = self.keeper.kind(frame);
-        self.free.mark(frame, matches!(kind, Kind::Free));
+        self.free.remove(frame);
     }
 
-    /// Stores a word of a frame.
-    pub fn put(&mut self, table: &FrameTable, frame: u32, i: usize, word: u64)
+    /// Stores a word of a frame, whose page begins there.
+    pub fn put(&mut self, table: &FrameTable, frame: u32, page: usize, i: usize, word: u64)
         requires own { self.old.table ≡ table.now }
         requires may { May self.old (Put frame i word) }
+        requires page { page ≡ page_at (frames_of table.now.shape) frame }
         ensures { self.new ≡ did self.old (Put frame i word) 0 }
     {
-        self.keeper.put(table, frame, i, word);
+        self.keeper.put_on(table, frame, page, i, word);
     }
 
     /// Makes a frame that was filled the page's own, with one reference.
@@ -206,13 +206,14 @@ impl FrameKeeper {
         alone
     }
 
-    /// Loads a word of a frame.
-    pub fn word(&mut self, table: &FrameTable, frame: u32, i: usize) -> u64
+    /// Loads a word of a frame, whose page begins there.
+    pub fn word(&mut self, table: &FrameTable, frame: u32, page: usize, i: usize) -> u64
         requires own { self.old.table ≡ table.now }
         requires may { May self.old (Word frame i) }
+        requires page { page ≡ page_at (frames_of table.now.shape) frame }
         ensures step { self.new ≡ did self.old (Word frame i) result }
         ensures content { result ≡ slice_index (frame_at self.old.ledger frame).content i }
     {
-        self.keeper.word(table, frame, i)
+        self.keeper.word_on(table, frame, page, i)
     }
 }

@@ -71,8 +71,9 @@ pub fn write(keeper: &mut FrameKeeper, table: &FrameTable, frame: u32, bytes: &P
     ensures ledger { keeper.new.ledger ≡ with_frame keeper.old.ledger frame
         (holding (frame_at keeper.old.ledger frame) bytes.now) }
 {
+    let page = table.page(frame);
     for i in 0..PAGE_WORDS {
-        keeper.put(table, frame, i, bytes[i]);
+        keeper.put(table, frame, page, i, bytes[i]);
     }
 }
 
@@ -87,9 +88,10 @@ pub fn load(keeper: &mut FrameKeeper, table: &FrameTable, frame: u32) -> PageByt
     ensures loaded { keeper.new ≡ stepped keeper.old (loads frame 0 result) }
     ensures ledger { keeper.new.ledger ≡ keeper.old.ledger }
 {
+    let page = table.page(frame);
     let mut bytes = [0; PAGE_WORDS];
     for i in 0..PAGE_WORDS {
-        bytes[i] = keeper.word(table, frame, i);
+        bytes[i] = keeper.word(table, frame, page, i);
     }
     bytes
 }

@@ -3,7 +3,7 @@ use Rattle.frame_table.proofs.CoreNames.{filled, frame_at}
 use Rattle.frame_table.proofs.Names.{ledger_in}
 use Rattle.frame_table.specs.Notes.{generation_of, use_of}
 use Rattle.frame_table.proofs.Notes.{notes_kept}
-use Rattle.frame_table.proofs.keeper.Keeper.put.Goals as goal
+use Rattle.frame_table.proofs.keeper.Keeper.put_on.Goals as goal
 
 pub invariant_of-self : goal.invariant_of-self
 invariant_of-self c =
