@@ -24,7 +24,7 @@ use Rattle.ksm_base.proofs.SoundScan.{sound_cursor, sound_none_waiting}
 
 -- the knobs stay in their ranges where one gets another value of its range
 pub are_with : (knob : Knob) (v : ℕ) (knobs : Knobs) → is_in_range knob v ≡ true → AreKnobs knobs → AreKnobs (with_value knob v knobs)
-are_with knob v knobs inside are other = grind (arith, nat_tests, are other)
+are_with knob v knobs inside are = grind (arith, nat_tests)
 
 -- a sound book stays sound where a knob that may change while pages are shared gets another value of its range
 pub sound_set : (b : BookState) (knob : Knob) (v : ℕ) → is_in_range knob v ≡ true → (traits knob).fixed_while_shared ≡ false → IsSound b

@@ -11,7 +11,6 @@ use Rattle.ksm_base.specs.declared.row.PageState.TheVariants.{Merged}
 use Rattle.ksm_base.specs.declared.row.Row.{Row}
 use Rattle.ksm_base.specs.declared.row.DupRow.{DupRow}
 use Rattle.ksm_base.specs.declared.knobs.Knobs.{Knobs}
-use Rattle.ksm_base.specs.declared.knobs.Knob.TheVariants.{MaxPageSharing}
 use Rattle.ksm_base.specs.Rows.{same_page, waiting_state, merged_into, item_count, is_stale, has_items, with_dup, change_rows, dup_numbered, InPlaceOrder}
 use Rattle.ksm_base.specs.State.{BookState, tree_of, place_count}
 use Rattle.ksm_base.specs.Visit.{waits_for, partner, empty_from, new_place, made_dup}
@@ -175,7 +174,7 @@ sound_made b w row place pair free s =
             count_either_le (λ r. same_page r.page w.page) (λ r. same_page r.page row.page) b.rows,
             one_of_page w.page b.rows s.rows_rise,
             one_of_page row.page b.rows s.rows_rise,
-            (s.knobs MaxPageSharing).0,
+            s.knobs,
           ))
           (λ k d lt.
           let p : Row → Bool = λ r. merged_into (get_or b.dups k d).number r.state in

@@ -76,6 +76,12 @@ knob_numbered number = find (λ knob. (traits knob).number == number) all_knobs
 abbrev pub is_in_range : Knob → ℕ → Bool
 is_in_range knob value = nat_le (traits knob).least value && nat_le value (traits knob).most
 
+-- these knobs are in their ranges
+abbrev pub AreInRange : List Knob → Knobs → Type 0
+AreInRange [] knobs = Unit {0}
+AreInRange (knob ∷ rest) knobs =
+    ((traits knob).least ≤ value_in knob knobs) × (value_in knob knobs ≤ (traits knob).most) × AreInRange rest knobs
+
 -- each knob is in its range
 abbrev pub AreKnobs : Knobs → Type 0
-AreKnobs knobs = (knob : Knob) → ((traits knob).least ≤ value_in knob knobs) × (value_in knob knobs ≤ (traits knob).most)
+AreKnobs = AreInRange all_knobs

@@ -260,7 +260,7 @@ module _ (s : Stage) (sound : IsSound s.0) (some : 1 ≤ length (mergeable_pages
       let start : begun (ended s times) ≡ (elsewhere None (ended s times).0.passes (visit_begun s.0), s.1) =
       grind (arith, settled_twice, none, still) in
       let same : ahead (ended s times) ≡ ahead s = grind (arith, none) in
-      let made = pass_made (ended s times) (sound_settings (passed s).0 _ _ _ _ None went.knobs.run went.knobs.pages_to_scan went.knobs.use_zero_pages (omega arith) went) (rw same (some_ahead s.0 some)) in
+      let made = pass_made (ended s times) (sound_settings (passed s).0 _ _ None went.knobs refl refl (omega arith) went) (rw same (some_ahead s.0 some)) in
       grind (arith, pages_alike None (ended s times).0.passes (filter (up_to None) (ahead s)) (begun s), still.beside)
 
   -- a pass is as many visits as there are pages ahead, and so are several, where the first is whole and still

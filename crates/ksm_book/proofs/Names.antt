@@ -9,7 +9,7 @@ pub use Rattle.ksm_base.proofs.RowCounts.{change_none, count_with_row, count_wit
 pub use Rattle.ksm_base.proofs.SoundCounts.{joined_count, not_an_item}
 pub use Rattle.ksm_base.proofs.SoundEdits.{no_dup_lives, sound_changed, sound_settings}
 pub use Rattle.ksm_base.proofs.SoundItems.{dup_of_item, home_of_item}
-pub use Rattle.ksm_base.proofs.SoundKnobs.{none_shared}
+pub use Rattle.ksm_base.proofs.SoundKnobs.{none_shared, sound_set}
 pub use Rattle.ksm_base.proofs.SoundPair.{IsFree, new_place_free, next_is_new, waits_tells, WaitsFor}
 pub use Rattle.ksm_base.proofs.SoundScan.{settled_calmer, sound_cursor, sound_none_waiting, sound_row_visited, sound_visit_begun}
 pub use Rattle.ksm_base.proofs.SoundSteps.{sound_after, sound_opening}
@@ -31,7 +31,7 @@ pub use Rattle.ksm_book.specs.Placement.{Agrees, DupFits, FitsBase, in_hand, IsI
 pub use Rattle.ksm_book.specs.Promised.{dup_frames, FindsPlace, is_in_use, IsOutlived, LieOn, own_frames, StandsOn}
 pub use Rattle.ksm_book.specs.Scanned.{ahead_before, ahead_up_to, Comes, FindsStill, FindsUpTo, HasVisited, is_nowhere, is_quiet, last_visited, passes_ended, Reached, StaysStill, Stops, up_to}
 pub use Rattle.ksm_book.specs.Scanned.{VisitsPage}
-pub use Rattle.ksm_book.specs.Terms.{Add, added, after_cursor, Ahead, Answer, are_paired, AreAscending, AreKnobs, At, at_home_on, best_dup, blank, BookState, change_row, change_rows, comes_before}
+pub use Rattle.ksm_book.specs.Terms.{Add, added, after_cursor, Ahead, Answer, are_paired, AreAscending, At, at_home_on, best_dup, blank, BookState, change_row, change_rows, comes_before}
 pub use Rattle.ksm_book.specs.Terms.{Command, count_in, default_knobs, Did, did, Done, Drop, dup_of_row, DupRow, Dying, effect, elsewhere, empty_from, EndsAt, every_row, Fault, filled, Find, FindsAt}
 pub use Rattle.ksm_book.specs.Terms.{FindsNext, FindsRow, first_ledger, frame_at, Frames, frames_of, Free, Freeze, fresh_row, frozen, GenerationFits, GuestPage, handled, has_item, has_items, HasRoom}
 pub use Rattle.ksm_book.specs.Terms.{HasRow, InPageOrder, InPlaceOrder, InUse, is_before, is_best, is_for_zero, is_next, is_no_rival, is_no_worse, is_of, is_restless, is_stale, IsAlone}
@@ -42,7 +42,7 @@ pub use Rattle.ksm_book.specs.Terms.{of_guest, on_its_own, Open, opened, OwnPage
 pub use Rattle.ksm_book.specs.Terms.{place_count, Private, Prune, Pruned, Publish, Raise, raised, Reap, reaped, Register, relaid, Row, row_at, row_changed, row_visited, same_page, Scan, scan_stopped}
 pub use Rattle.ksm_book.specs.Terms.{Scanned, seen, SetAcross, SetLimit, SetPagesToScan, SetRun, settled, Shape, shared_state, shown, Stable, Store, stored, Sub, tree_of, UnknownPage, Unmerge}
 pub use Rattle.ksm_book.specs.Terms.{Unmerged, unshare_stopped, unshared, visit, visit_begun, visit_of, visits, Waiting, waiting_state, waits_for, with_dup, with_frame, with_row, Withdraw}
-pub use Rattle.ksm_book.specs.Terms.{without_page, Zero}
+pub use Rattle.ksm_book.specs.Terms.{Filling, is_in_range, Knob, traits, with_value, without_page, Zero}
 pub use Rattle.ksm_book.specs.Whole.{BookValue, BookView, HasShown, mapped, nodes_got, view_of}
 pub use Rattle.ksm_order.proofs.Ordered.{absent_parts, any_found, none_found, with_rises, without_between, without_rises}
 pub use Rattle.ksm_pages.proofs.Found.{find_changed, find_changed_other, find_put, first_found as found_first}

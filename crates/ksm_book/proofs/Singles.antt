@@ -1,15 +1,15 @@
 -- The commands carried out: on single pages, on one dup, and on all pages of a guest, or all, which leave their dups, or the zero
 -- page, one after another.
 use Rattle.ksm_book.specs.declared.state.State.TheInside.{Inside}
-use Rattle.ksm_book.proofs.Names.{absent_parts, All, All-map, Answer, any_found, ap, append-nil, AreKnobs, arith, at_home_on, BookState, BookValue, BookView, Bool, change_row, change_rows}
+use Rattle.ksm_book.proofs.Names.{absent_parts, All, All-map, Answer, any_found, ap, append-nil, arith, at_home_on, BookState, BookValue, BookView, Bool, change_row, change_rows}
 use Rattle.ksm_book.proofs.Names.{comes_before, Command, count_by-le-length, count_more, Done, Drop, DupRow, Err, false, Fault, filter, filter_passes, find, find_all, find_passes, find_put, FindsNone}
 use Rattle.ksm_book.proofs.Names.{frame_at, frames_of, fresh_row, get_or-append_seam, GuestPage, HasLeft, HasNewFrame, HasRemounted, Held, holding, IfSome, inl, InPageOrder, is_next, is_of}
-use Rattle.ksm_book.proofs.Names.{is_shared_of, is_some, IsCarried, IsHeld, IsLaid, IsReadable, IsSound, IsWritable, KeeperView, Knobs, leaving, left_by, length, length-append, let_go, lies_on}
+use Rattle.ksm_book.proofs.Names.{is_in_range, is_shared_of, is_some, IsCarried, IsHeld, IsLaid, IsReadable, IsSound, IsWritable, KeeperView, Knob, Knobs, leaving, left_by, length, length-append, let_go, lies_on}
 use Rattle.ksm_book.proofs.Names.{LiesWith, List, list_any, live_dup_at, lying, MakesSteps, map, map_alike, map_fixed, map_mapped, Mapped, MatchOption, MayLeave, MayMove, MayNotLeave, Mergeable}
 use Rattle.ksm_book.proofs.Names.{mergeable_count, MoveDup, MovePage, NoFrame, None, not, of_guest, Ok, Option, option_map, PAGE_WORDS, pages_ordered, PagesView, Provides, puts, refl, Register}
 use Rattle.ksm_book.proofs.Names.{relaid, Resettles, ResettlesEach, Row, row_at, same_page, same_page_refl, same_Some, seen, SetRun, shared_state, slice_get-get_or, slice_get_past, Some, sound_after}
-use Rattle.ksm_book.proofs.Names.{sound_settings, state_of, stepped, Store, stored, take-append_seam, true, UnknownPage, Unmerge, Unmerged, unshare_stopped, unshared, Unshares, view_of, with_frame}
-use Rattle.ksm_book.proofs.Names.{with_row, without_between, without_page, [], ℕ, ◌++◌, ◌+◌, ◌<◌, ◌==◌, ◌∙◌, ◌∷◌, ◌≡◌, ◌≤◌}
+use Rattle.ksm_book.proofs.Names.{sound_set, state_of, stepped, Store, stored, take-append_seam, traits, true, UnknownPage, Unmerge, Unmerged, unshare_stopped, unshared, Unshares, view_of, with_frame}
+use Rattle.ksm_book.proofs.Names.{with_row, with_value, without_between, without_page, [], ℕ, ◌++◌, ◌+◌, ◌<◌, ◌==◌, ◌∙◌, ◌∷◌, ◌≡◌, ◌≤◌}
 use Rattle.ksm_book.proofs.ByPage.{found_page, lies_again, lies_still, row_of_page}
 use Rattle.ksm_book.proofs.Laying.{come_there, laid_changed, laid_left, laid_mapped, laid_rows, may_leave, resettled, retuned, serves_at, turned}
 use Rattle.ksm_book.proofs.Made.{spent_kept}
@@ -34,15 +34,11 @@ pub lawful : {v w : BookView} {command : Command} {answer : Answer} {L : Type 0}
 lawful s h = (grind (arith, sound_after), h.1)
 
 -- where a knob on which no dup hangs gets a value in its range, the state is sound, and all lies lawfully
-pub tuned : {p q : PagesView} {k : KeeperView} {cursor : Option GuestPage} {passes run pages zero_pages : ℕ} → IsSound (state_of p cursor passes) × IsLaid p k
-    → q ≡ record p { knobs = record p.knobs { run = run; pages_to_scan = pages; use_zero_pages = zero_pages } }
-    → (AreKnobs p.knobs → (run ≤ 2) × ((1 ≤ pages) × (pages ≤ 1000000)) × (zero_pages ≤ 1)) → IsSound (state_of q cursor passes) × IsLaid q k
-tuned {p} {cursor = cursor} {passes} {run} {pages} {zero_pages} h goes fits =
-    let fit = fits h.0.knobs in
-    rw goes (
-      sound_settings (state_of p cursor passes) run pages zero_pages passes cursor fit.0 fit.1 fit.2 h.0.passes h.0,
-      retuned (inl refl) h.1,
-    )
+pub tuned : {p q : PagesView} {k : KeeperView} {cursor : Option GuestPage} {passes : ℕ} (knob : Knob) (v : ℕ) → IsSound (state_of p cursor passes) × IsLaid p k
+    → q ≡ record p { knobs = with_value knob v p.knobs } → is_in_range knob v ≡ true → (traits knob).fixed_while_shared ≡ false
+    → IsSound (state_of q cursor passes) × IsLaid q k
+tuned {p} {cursor = cursor} {passes} knob v h goes inside free =
+    rw goes (sound_set (state_of p cursor passes) knob v inside free h.0, retuned (inl (grind (arith, free))) h.1)
 
 -- a command carried out from one book value was carried out from an equal one, and so was an equal command
 pub carried_so : {old now : BookValue} {w : BookView} {by given : Command} {answer : Answer} → old ≡ now → by ≡ given → IsCarried (view_of old) w by answer → IsCarried (view_of now) w given answer

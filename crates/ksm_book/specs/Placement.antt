@@ -1,5 +1,5 @@
 -- Lawful placement: how rows, dups and the keeper's frames agree (own).
-use Rattle.std.specs.Prelude.{All, cond, count_by, false, is_some, length, List, None, Option, Some, true, ℕ, ◌+◌, ◌-◌, ◌/◌, ◌<◌, ◌≡◌, ◌≢◌, ◌≤◌}
+use Rattle.std.specs.Prelude.{All, cond, count_by, false, is_some, length, List, None, Option, Some, true, ℕ, ◌+◌, ◌/◌, ◌<◌, ◌≡◌, ◌≢◌, ◌≤◌}
 use Rattle.ksm_book.specs.Terms.{DupRow, Filling, frame_at, Frames, frames_of, Free, GenerationFits, KeeperView, Kind, Ledger, Life, Merged, merged_into}
 use Rattle.ksm_book.specs.Terms.{named_at, OwnPage, PAGE_WORDS, PageState, Private, Row, Shape, shared_state, Stable, Waiting, Zero, zero_state}
 use Rattle.ksm_book.specs.Commands.{is_frame}

@@ -3,6 +3,7 @@ pub use Rattle.frame_core.specs.Ledger.{added, blank, filled, first_ledger, fram
 pub use Rattle.frame_core.specs.Ledger.{with_frame}
 pub use Rattle.frame_core.specs.Rule.{GenerationFits}
 pub use Rattle.frame_core.specs.State.{count_in, frame_word}
+pub use Rattle.frame_core.specs.Words.{page_at}
 pub use Rattle.frame_core.specs.declared.event.KeeperStep.{KeeperStep}
 pub use Rattle.frame_core.specs.declared.event.KeeperStep.TheVariants.{Add, Freeze, Open, Publish, Put, Raise, Reap, Sub, Withdraw, Word}
 pub use Rattle.frame_core.specs.declared.frame.Kind.{Kind}
@@ -16,12 +17,13 @@ pub use Rattle.ksm_base.specs.Answers.{Answer, every_row, frame_needed, IsAnswer
 pub use Rattle.ksm_base.specs.Apply.{after, effect, fresh_row, is_before, let_go, scan_stopped, stored, unshare_stopped, unshared}
 pub use Rattle.ksm_base.specs.Counting.{counters_of, mergeable_count}
 pub use Rattle.ksm_base.specs.Journal.{Entry, IsLegal, journal_after, last_stored, ReadsLastStored}
+pub use Rattle.ksm_base.specs.Knobs.{default_knobs, is_in_range, setting, traits, with_value}
 pub use Rattle.ksm_base.specs.Reading.{bytes_of, mappers_of, ticket_of}
-pub use Rattle.ksm_base.specs.Refusals.{changes_while_shared, is_known, is_of, live_dup_at}
+pub use Rattle.ksm_base.specs.Refusals.{is_known, is_of, live_dup_at, setting_refusal}
 pub use Rattle.ksm_base.specs.Rows.{all_zero, change_row, change_rows, comes_before, has_items, InPageOrder, InPlaceOrder, is_stale, item_count, merged_into, merged_state, row_at, same_page, settled}
 pub use Rattle.ksm_base.specs.Rows.{shared_state, waiting_state, with_dup, with_row, without_page, zero_state}
-pub use Rattle.ksm_base.specs.Sound.{AreKnobs, IsDupOf, IsSound}
-pub use Rattle.ksm_base.specs.State.{BookState, default_knobs, opening, pass_ended, place_count, tree_of}
+pub use Rattle.ksm_base.specs.Sound.{IsDupOf, IsSound}
+pub use Rattle.ksm_base.specs.State.{BookState, opening, pass_ended, place_count, tree_of}
 pub use Rattle.ksm_base.specs.Values.{frames_of, IsShape}
 pub use Rattle.ksm_base.specs.Visit.{after_cursor, best_dup, empty_from, handled, is_best, is_for_zero, is_no_rival, is_no_worse, made_dup, may_join, new_place, next_row, paired, partner, pass_begun}
 pub use Rattle.ksm_base.specs.Visit.{pass_ended_at_last, row_visited, visit, visit_begun, visit_ended, visit_of, visits, waits_for}
@@ -29,6 +31,7 @@ pub use Rattle.ksm_base.specs.declared.command.Command.{Command}
 pub use Rattle.ksm_base.specs.declared.command.Command.TheVariants.{Drop, Mergeable, MoveDup, MovePage, Prune, Register, Scan, SetAcross, SetLimit, SetPagesToScan, SetRun, Store, Unmerge}
 pub use Rattle.ksm_base.specs.declared.fault.Fault.{Fault}
 pub use Rattle.ksm_base.specs.declared.fault.Fault.TheVariants.{InUse, Memory, NoFrame, UnknownPage}
+pub use Rattle.ksm_base.specs.declared.knobs.Knob.{Knob}
 pub use Rattle.ksm_base.specs.declared.limits.TheConstants.{MOST_FRAMES, MOST_LIVES, MOST_REFERENCES}
 pub use Rattle.ksm_base.specs.declared.page.GuestPage.{GuestPage}
 pub use Rattle.ksm_base.specs.declared.page.TheConstants.{PAGE_WORDS, PAGE_WORDS as WORDS}

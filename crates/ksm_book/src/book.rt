@@ -15,7 +15,7 @@ use crate::state::State;
 use frame_table::{FrameTable, Keeper};
 use ksm_base::laws::a_journal_goes_on;
 use ksm_base::{
-    Command, Counters, Fault, GuestPage, Knobs, PageBytes, Reply, Shape,
+    Command, Counters, Fault, GuestPage, Knob, Knobs, PageBytes, Reply, Shape,
     each_page_has_what_was_stored_last,
 };
 use ksm_journal::Journal;
@@ -240,9 +240,9 @@ fn carry_out(
         Command::MovePage { page, node } => state.move_page(table, *page, *node),
         Command::MoveDup { place, node } => state.move_dup(table, *place, *node),
         Command::SetRun(run) => state.set_run(table, *run),
-        Command::SetPagesToScan(pages) => state.set_pages_to_scan(*pages),
+        Command::SetPagesToScan(pages) => state.set(Knob::PagesToScan, *pages),
         Command::SetAcross(across) => state.set_across(table, *across),
         Command::SetLimit(limit) => state.set_limit(table, *limit),
-        Command::SetZeroPages(zero_pages) => state.set_zero_pages(*zero_pages),
+        Command::SetZeroPages(zero_pages) => state.set(Knob::UseZeroPages, *zero_pages),
     }
 }

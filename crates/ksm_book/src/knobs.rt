@@ -1,35 +1,41 @@
 //! The commands that set a knob: each tests the range first, then what the knob must wait for.
 
-ghost use Rattle.std.specs.Prelude.{◌≡◌};
-ghost use Rattle.ksm_book.specs.Terms.{changes_while_shared};
+ghost use Rattle.std.specs.Prelude.{◌≡◌, ◌≢◌, Some, false};
+ghost use Rattle.ksm_book.specs.Terms.{setting, setting_refusal, traits};
 ghost use Rattle.ksm_book.specs.Carried.{CarriesOut};
 
 use crate::stale::drop_stale;
 use crate::state::State;
 use frame_table::FrameTable;
-use ksm_base::{Command, Fault, Knobs, MOST_REFERENCES, Reply};
+use ksm_base::{Command, Fault, Knob, Reply};
 
 impl State {
-    /// Sets how many pages a scan visits.
-    pub fn set_pages_to_scan(&mut self, pages: u32) -> Result<Reply, Fault>
-        ensures { CarriesOut self.old self.new (Command.SetPagesToScan pages) result }
+    // Why a knob does not get a value, if it does not.
+    fn refusal(&self, knob: Knob, value: u32) -> Option<Fault>
+        ensures { result ≡ setting_refusal self.now.state (Some (knob, value)) }
     {
-        if !(1..=1_000_000).contains(&pages) {
-            return Err(Fault::BadValue);
+        if !knob.takes(value) {
+            return Some(Fault::BadValue);
         }
-        let knobs = self.pages.knobs();
-        self.pages.set_knobs(Knobs {
-            pages_to_scan: pages,
-            ..knobs
-        });
-        Ok(Reply::Done)
+        let changes = knob.value_in(&self.pages.knobs()) != value;
+        if knob.is_fixed_while_shared() && changes && self.pages.count_shared() > 0 {
+            return Some(Fault::SharedPages);
+        }
+        None
     }
 
-    // Whether a knob would get another value while pages are shared.
-    fn would_change_shared(&self, knob: u32, value: u32) -> bool
-        ensures { result ≡ changes_while_shared self.now.state knob value }
+    /// Sets a knob that may change at any time. No page, dup or frame changes.
+    pub fn set(&mut self, knob: Knob, value: u32) -> Result<Reply, Fault>
+        requires free { (traits knob).fixed_while_shared ≡ false }
+        requires stays { setting knob value ≢ Command.SetRun 2 }
+        ensures { CarriesOut self.old self.new (setting knob value) result }
     {
-        value != knob && self.pages.count_shared() > 0
+        if let Some(fault) = self.refusal(knob, value) {
+            return Err(fault);
+        }
+        let knobs = self.pages.knobs();
+        self.pages.set_knobs(knobs.with(knob, value));
+        Ok(Reply::Done)
     }
 
     /// Sets whether pages of different nodes may be merged.
@@ -37,22 +43,17 @@ impl State {
         requires own { self.old.keeper.table ≡ table.now }
         ensures { CarriesOut self.old self.new (Command.SetAcross across) result }
     {
-        if across > 1 {
-            return Err(Fault::BadValue);
+        if let Some(fault) = self.refusal(Knob::MergeAcrossNodes, across) {
+            return Err(fault);
         }
         let knobs = self.pages.knobs();
-        if self.would_change_shared(knobs.merge_across_nodes, across) {
-            return Err(Fault::SharedPages);
-        }
         if across == knobs.merge_across_nodes {
             return Ok(Reply::Done);
         }
         drop_stale(&mut self.pages, &mut self.keeper, table);
         self.pages.settle_all();
-        self.pages.set_knobs(Knobs {
-            merge_across_nodes: across,
-            ..knobs
-        });
+        self.pages
+            .set_knobs(knobs.with(Knob::MergeAcrossNodes, across));
         Ok(Reply::Done)
     }
 
@@ -61,36 +62,16 @@ impl State {
         requires own { self.old.keeper.table ≡ table.now }
         ensures { CarriesOut self.old self.new (Command.SetLimit limit) result }
     {
-        if !(2..=MOST_REFERENCES).contains(&u64::from(limit)) {
-            return Err(Fault::BadValue);
+        if let Some(fault) = self.refusal(Knob::MaxPageSharing, limit) {
+            return Err(fault);
         }
         let knobs = self.pages.knobs();
-        if self.would_change_shared(knobs.max_page_sharing, limit) {
-            return Err(Fault::SharedPages);
-        }
         if limit == knobs.max_page_sharing {
             return Ok(Reply::Done);
         }
         drop_stale(&mut self.pages, &mut self.keeper, table);
-        self.pages.set_knobs(Knobs {
-            max_page_sharing: limit,
-            ..knobs
-        });
-        Ok(Reply::Done)
-    }
-
-    /// Sets whether empty pages merge with the zero page.
-    pub fn set_zero_pages(&mut self, zero_pages: u32) -> Result<Reply, Fault>
-        ensures { CarriesOut self.old self.new (Command.SetZeroPages zero_pages) result }
-    {
-        if zero_pages > 1 {
-            return Err(Fault::BadValue);
-        }
-        let knobs = self.pages.knobs();
-        self.pages.set_knobs(Knobs {
-            use_zero_pages: zero_pages,
-            ..knobs
-        });
+        self.pages
+            .set_knobs(knobs.with(Knob::MaxPageSharing, limit));
         Ok(Reply::Done)
     }
 
@@ -99,14 +80,9 @@ impl State {
         requires own { self.old.keeper.table ≡ table.now }
         ensures { CarriesOut self.old self.new (Command.SetRun run) result }
     {
-        if run > 2 {
-            return Err(Fault::BadValue);
+        match run {
+            2 => self.unshare(table),
+            _ => self.set(Knob::Run, run),
         }
-        if run == 2 {
-            return self.unshare(table);
-        }
-        let knobs = self.pages.knobs();
-        self.pages.set_knobs(Knobs { run, ..knobs });
-        Ok(Reply::Done)
     }
 }

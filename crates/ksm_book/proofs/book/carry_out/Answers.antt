@@ -31,4 +31,4 @@ returns-in-MoveDup-clause-due c = λ known.
 
 pub returns-in-SetPagesToScan-clause-due : goal.returns-in-SetPagesToScan-clause-due
 returns-in-SetPagesToScan-clause-due c = λ known.
-    stays_due _ _ (SetPagesToScan _) _ _ (λ _ _. grind (arith, known)) (grind (arith, known)) c.set_pages_to_scan.ensures
+    stays_due _ _ (SetPagesToScan _) _ _ (λ _ _. grind (arith, known)) (grind (arith, known)) c.set.ensures

@@ -1,4 +1,4 @@
-use Rattle.ksm_book.proofs.Names.{arith, Done, inl, IsCarried, Ok, seen, SetLimit, sym, view_of}
+use Rattle.ksm_book.proofs.Names.{arith, Done, inl, IsCarried, Ok, seen, SetLimit, view_of}
 use Rattle.ksm_book.proofs.Laying.{retuned}
 use Rattle.ksm_book.proofs.Singles.{book, lawful}
 use Rattle.ksm_book.proofs.state.State.set_limit.Goals as goal
@@ -12,5 +12,5 @@ invariant_of-self c =
     lawful {v = view_of c.args.self.now} (rw (← c.self.view_is) c.self.invariant.0) (
       did,
       rw c.set_knobs.ensures
-          (retuned (inl (rw c.knobs-knobs.ensures (sym (grind (arith, there))))) c.drop_stale.ensures.laid),
+          (retuned (inl (grind (arith, c.knobs-knobs.ensures, there))) c.drop_stale.ensures.laid),
     )
