@@ -19,10 +19,9 @@ use Rattle.ksm_pages.specs.Paged.{nowhere}
 use Rattle.ksm_ffi.specs.Homes.{HomeView, all_back}
 use Rattle.ksm_ffi.specs.Opening.{IsNewOf, OpensNot}
 use Rattle.ksm_ffi.specs.Answers.{number_of}
-use Rattle.ksm_ffi.specs.Requests.{TellsMade, answered, commanded, counted_of}
+use Rattle.ksm_ffi.specs.Requests.{TellsMade, answered, commanded}
 use Rattle.ksm_ffi.specs.declared.answer.Answer.{Answer}
 use Rattle.ksm_ffi.specs.declared.answer.Answer.TheVariants as answer
-use Rattle.ksm_ffi.specs.declared.request.Counted.{Counted}
 use Rattle.ksm_ffi.specs.declared.request.Made.{Made}
 use Rattle.ksm_ffi.specs.declared.request.Request.{Request}
 
@@ -71,8 +70,8 @@ TellsEntry (Some e) a request told made = (a ≡ answer.Done) × (commanded requ
 TellsEntry None a request told made = a ≡ answer.Nothing
 
 -- the counters, always
-abbrev pub TellsCounters : Counters → Answer → Counted → Type 0
-TellsCounters c a counted = (a ≡ answer.Done) × (counted ≡ counted_of c)
+abbrev pub TellsCounters : Counters → Answer → Counters → Type 0
+TellsCounters c a counted = (a ≡ answer.Done) × (counted ≡ c)
 
 -- a page as one number
 abbrev pub packed : GuestPage → ℕ

@@ -1,8 +1,7 @@
--- Commands, replies and counters as C has them (own).
+-- Commands and replies as C has them (own).
 use Rattle.std.specs.Prelude.{◌≡◌, ◌≢◌, ℕ, ◌-◌, ◌==◌, nat_lt, Option, Some, None, option_map, Result, Ok, Err, if◌then◌else◌}
 use Rattle.ksm_base.specs.declared.command.Command.{Command}
 use Rattle.ksm_base.specs.declared.command.Command.TheVariants.{Register, Drop, Store, Scan, Prune, Unmerge, Mergeable, MovePage, MoveDup}
-use Rattle.ksm_base.specs.declared.counters.Counters.{Counters}
 use Rattle.ksm_base.specs.declared.fault.Fault.{Fault}
 use Rattle.ksm_base.specs.declared.fault.Fault.TheVariants as fault
 use Rattle.ksm_base.specs.declared.page.GuestPage.{GuestPage}
@@ -14,7 +13,6 @@ use Rattle.ksm_ffi.specs.declared.answer.Answer.{Answer}
 use Rattle.ksm_ffi.specs.declared.answer.Answer.TheVariants as answer
 use Rattle.ksm_ffi.specs.declared.request.Request.{Request}
 use Rattle.ksm_ffi.specs.declared.request.Made.{Made}
-use Rattle.ksm_ffi.specs.declared.request.Counted.{Counted}
 
 -- the page that is meant
 abbrev pub page_in : Request → GuestPage
@@ -79,16 +77,3 @@ TellsMade (Err f) m = TellsFault f m
 -- where a command was not done, and no frame was wanting, nothing is told
 abbrev pub LeavesMade : Answer → Made → Made → Type 0
 LeavesMade a before m = a ≢ answer.Done → a ≢ answer.NoFrame → m ≡ before
-
--- the counters as C has them
-abbrev pub counted_of : Counters → Counted
-counted_of c = record {
-  shared = c.shared;
-  sharing = c.sharing;
-  unshared = c.unshared;
-  volatile = c.volatile;
-  zero = c.zero;
-  chains = c.chains;
-  dups = c.dups;
-  full_scans = c.full_scans;
-}

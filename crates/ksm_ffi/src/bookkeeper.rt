@@ -10,9 +10,9 @@ ghost use Rattle.ksm_ffi.specs.declared.answer.Answer.TheVariants as answer;
 
 use crate::answer::Answer;
 use crate::home::Home;
-use crate::request::{Counted, Made, Request, answered};
+use crate::request::{Made, Request, answered};
 use frame_table::FrameTable;
-use ksm_base::{Command, GuestPage, PageBytes, Shape};
+use ksm_base::{Command, Counters, GuestPage, PageBytes, Shape};
 use ksm_book::{Book, Journal};
 use std::alloc::Global;
 use std::marker::Model;
@@ -153,10 +153,10 @@ impl Bookkeeper {
     }
 
     /// Counts, to `counted`.
-    pub fn count(&self, counted: &mut Counted) -> Answer
+    pub fn count(&self, counted: &mut Counters) -> Answer
         ensures { TellsCounters (counters_of self.now.state) result counted.new }
     {
-        *counted = Counted::of(self.book.counters());
+        *counted = self.book.counters();
         Answer::Done
     }
 

@@ -13,9 +13,9 @@ use crate::answer::Answer;
 use crate::bookkeeper::Bookkeeper;
 use crate::handle::{Handle, open_both};
 use crate::numbers::Numbers;
-use crate::request::{Counted, Made, Request};
+use crate::request::{Made, Request};
 use crate::thing::Thing;
-use ksm_base::{GuestPage, PageBytes, Shape};
+use ksm_base::{Counters, GuestPage, PageBytes, Shape};
 use std::alloc::Global;
 
 // A book and the passes of its table, each in a box of its own.
@@ -187,7 +187,7 @@ pub extern "C" fn ksm_book_mappers(
 
 /// Counts the pages and dups of the book.
 #[unsafe(no_mangle)]
-pub extern "C" fn ksm_book_counters(alloc: Global, book: &mut Handle, counted: &mut Counted) -> u32
+pub extern "C" fn ksm_book_counters(alloc: Global, book: &mut Handle, counted: &mut Counters) -> u32
     ensures counted { OnBook
         (SeesBook (λ v a. TellsCounters (counters_of v.state) a counted.new)) book.old.thing result book.new.thing }
     ensures kept { result ≢ 0 → counted.new ≡ counted.old }

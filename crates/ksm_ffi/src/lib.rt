@@ -27,5 +27,5 @@ pub use home::Home;
 pub use numbers::Numbers;
 pub use owner::Owner;
 pub use reader::{Phase, Reader};
-pub use request::{Counted, Made, Request};
+pub use request::{Made, Request};
 pub use thing::Thing;

@@ -1,12 +1,12 @@
-//! A command, a reply and counters as C has them.
+//! A command and a reply as C has them.
 ghost use Rattle.std.specs.Prelude.{◌≡◌, Ok, Some, [], ◌∷◌};
 ghost use Rattle.std.specs.List.{repeat};
 ghost use Rattle.ksm_base.specs.declared.page.TheConstants.{PAGE_WORDS};
-ghost use Rattle.ksm_ffi.specs.Requests.{IsMade, LeavesMade, TellsFault, TellsMade, answered, commanded, counted_of};
+ghost use Rattle.ksm_ffi.specs.Requests.{IsMade, LeavesMade, TellsFault, TellsMade, answered, commanded};
 ghost use Rattle.ksm_ffi.specs.Requests.{fault_answer, node_of};
 
 use crate::answer::Answer;
-use ksm_base::{Command, Counters, Fault, GuestPage, Knob, PAGE_WORDS, PageBytes, Reply};
+use ksm_base::{Command, Fault, GuestPage, Knob, PAGE_WORDS, PageBytes, Reply};
 
 /// The kind that sets the knob of number 0; the others follow by their numbers.
 const FIRST_SETTING: u16 = 10;
@@ -251,37 +251,5 @@ pub fn answered(given: Result<Reply, Fault>) -> Answer
     match given {
         Ok(_) => Answer::Done,
         Err(fault) => fault_answer(fault),
-    }
-}
-
-/// The counters, in the order of the header.
-#[repr(C)]
-#[derive(Clone, Copy)]
-pub struct Counted {
-    pub shared: u64,
-    pub sharing: u64,
-    pub unshared: u64,
-    pub volatile: u64,
-    pub zero: u64,
-    pub chains: u64,
-    pub dups: u64,
-    pub full_scans: u64,
-}
-
-impl Counted {
-    /// The same counters.
-    pub fn of(counters: Counters) -> Counted
-        ensures { result ≡ counted_of counters }
-    {
-        Counted {
-            shared: counters.shared,
-            sharing: counters.sharing,
-            unshared: counters.unshared,
-            volatile: counters.volatile,
-            zero: counters.zero,
-            chains: counters.chains,
-            dups: counters.dups,
-            full_scans: counters.full_scans,
-        }
     }
 }
