@@ -13,6 +13,7 @@ use Rattle.ksm_base.specs.declared.fault.Fault.{Fault}
 use Rattle.ksm_base.specs.declared.fault.Fault.TheVariants.{NoFrame}
 use Rattle.ksm_base.specs.declared.knobs.Knobs.{Knobs}
 use Rattle.ksm_base.specs.declared.counters.Counters.{Counters}
+use Rattle.ksm_base.specs.declared.counters.TheConstants.Counters.{NONE}
 use Rattle.ksm_base.specs.declared.shape.Shape.{Shape}
 use Rattle.ksm_base.specs.Rows.{row_at}
 use Rattle.ksm_base.specs.State.{BookState}
@@ -108,10 +109,10 @@ unmerge guest pages = gives (Unmerge guest) (Ok (Unmerged pages None))
 abbrev pub stopped : Command → ℕ → ℕ → Line
 stopped command pages node = gives command (Ok (Unmerged pages (Some (NoFrame node))))
 
--- so many pages are Zero, and the other counters in the order of their line in the program
+-- so many pages are Zero, the other counters in the order of their line in the program, and nothing else is counted
 abbrev pub stat_beside : ℕ → ℕ → ℕ → ℕ → ℕ → ℕ → ℕ → ℕ → Line
 stat_beside zeroes shared sharing unshared volatile chains dups full_scans =
-    counts (record {
+    counts (record NONE {
       shared = shared;
       sharing = sharing;
       unshared = unshared;
