@@ -139,26 +139,19 @@ fn count_mappers(alloc: Global, book: &Book, place: u32) -> usize {
 
 // Two private pages, after two passes.
 const NONE_SHARED: Counters = Counters {
-    shared: 0,
-    sharing: 0,
-    unshared: 0,
     volatile: 2,
-    zero: 0,
-    chains: 0,
-    dups: 0,
     full_scans: 2,
+    ..Counters::NONE
 };
 
 // They are merged by a third, beside a stale dup.
 const MERGED_AGAIN: Counters = Counters {
     shared: 1,
     sharing: 1,
-    unshared: 0,
-    volatile: 0,
-    zero: 0,
     chains: 1,
     dups: 2,
     full_scans: 3,
+    ..Counters::NONE
 };
 
 // What is tried on a book that was just opened.
