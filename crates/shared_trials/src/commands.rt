@@ -81,10 +81,6 @@ pub fn merge_two<N: Naming>(rt: &impl Wait, ksm: &Ksm<N>, share: &mut Share<N>) 
 pub const TWO_MERGED: Counters = Counters {
     shared: 1,
     sharing: 1,
-    unshared: 0,
-    volatile: 0,
-    zero: 0,
-    chains: 0,
-    dups: 0,
     full_scans: 2,
+    ..Counters::NONE
 };
