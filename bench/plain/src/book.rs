@@ -2,8 +2,9 @@
 
 use std::mem;
 
-use crate::command::{Answer, Command, Counters, Fault, Reply};
+use crate::command::{Answer, Command, Fault, Reply};
 use crate::contents::{Contents, Waiting};
+use crate::counters::Counters;
 use crate::dups::Dups;
 use crate::keeper::Keeper;
 use crate::knobs::Knobs;

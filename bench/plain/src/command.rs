@@ -48,13 +48,3 @@ pub enum Fault {
 }
 
 pub type Answer = Result<Reply, Fault>;
-
-#[derive(Default)]
-pub struct Counters {
-    pub shared: u64,
-    pub merged: u64,
-    pub zero: u64,
-    pub chains: u64,
-    pub dups: u64,
-    pub full_scans: u64,
-}

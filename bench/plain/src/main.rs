@@ -4,6 +4,7 @@
 mod book;
 mod command;
 mod contents;
+mod counters;
 mod dups;
 mod input;
 mod keeper;

@@ -7,6 +7,7 @@ use std::thread;
 
 use crate::book::Book;
 use crate::command::{Answer, Command, Fault, Reply};
+use crate::counters::write_counters;
 use crate::line::Line;
 use crate::table::{Found, Hold, PageBytes, Table, Why};
 use crate::text::{write_content, write_number};
@@ -187,15 +188,4 @@ fn write_answer(text: &mut Vec<u8>, answer: Answer) {
 
 fn write_refusal(text: &mut Vec<u8>, fault: Fault) {
     write_number(text, b"refused ", fault as u32);
-}
-
-fn write_counters(text: &mut Vec<u8>, book: &Book) {
-    let (counters, waiting) = (book.counters(), book.waiting());
-    write_number(text, b"stat shared=", counters.shared);
-    write_number(text, b" sharing=", counters.merged - counters.shared);
-    write_number(text, b" unshared=", waiting);
-    write_number(text, b" volatile=", book.mergeable() - counters.merged - waiting - counters.zero);
-    write_number(text, b" chains=", counters.chains);
-    write_number(text, b" dups=", counters.dups);
-    write_number(text, b" full_scans=", counters.full_scans);
 }
