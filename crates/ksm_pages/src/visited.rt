@@ -1,18 +1,16 @@
-//! What a scan has ahead, what a visit finds, and what becomes of the page that is visited: it joins a dup, makes one
-//! with another page, becomes Zero, or waits.
+//! What a visit finds, and what becomes of the page that is visited: it joins a dup, makes one with another page,
+//! becomes Zero, or waits.
 
-ghost use Rattle.std.specs.Prelude.{◌≡◌, ◌≤◌, true, false, None, Some, Err, All, ◌==◌, ◌&&◌, IfNone, IfOk, IsTrue, OnOk, OnErr, length, option_map};
-ghost use Rattle.ksm_pages.specs.Ahead.{EndsAt, FindsNext, last_of, mergeable_pages, pages_behind, pages_between};
+ghost use Rattle.std.specs.Prelude.{◌≡◌, true, false, None, Some, Err, All, ◌==◌, ◌&&◌, IfNone, IfOk, IsTrue, OnOk, OnErr, option_map};
 ghost use Rattle.ksm_pages.specs.Terms.{best_of, found_at, has_only_zeroes, Memory, Merged, merged_into, Zero};
 ghost use Rattle.ksm_pages.specs.declared.pages.Find.TheVariants as finds;
 ghost use Rattle.ksm_pages.specs.Paged.{Finds, HasRoom, HasRow, IsAlone, MayPair, NoneHas, changed, is_restless, lies_on, relaid, paired as are_paired, seen};
 ghost use Rattle.ksm_pages.specs.Held.{is_alone};
 
-use crate::ahead::Ahead;
 use crate::pages::{Find, Glance, Pages};
 use crate::row::{Entry, InTree, Spot};
 use crate::unstable::tree_in;
-use ksm_base::{Fault, GuestPage, Knobs, PageBytes};
+use ksm_base::{Fault, Knobs, PageBytes};
 use ksm_tree::{Best, Dups, NO_NUMBER};
 
 /// Whether each word is zero.
@@ -70,46 +68,6 @@ fn joins_none(dups: &Dups, entry: &Entry, tree: u32, limit: u32) -> bool
 }
 
 impl Pages {
-    /// Where so many visits behind the cursor end. How many visits of the pass led to the cursor is a guess.
-    pub fn ahead(&self, cursor: Option<GuestPage>, guess: usize, visits: u64) -> Ahead
-        requires { 1 ≤ visits }
-        ensures { EndsAt (pages_behind cursor (mergeable_pages self.now.rows)) visits result }
-    {
-        self.rows.ahead(cursor, guess, visits)
-    }
-
-    /// How many visits behind the cursor come before a page, and the page of the last of them; the cursor where there
-    /// is none.
-    pub fn between(&self, cursor: Option<GuestPage>, page: GuestPage) -> (u64, Option<GuestPage>)
-        ensures many { result.0 ≡ length (pages_between cursor page (mergeable_pages self.now.rows)) }
-        ensures last { result.1 ≡ last_of cursor (pages_between cursor page (mergeable_pages self.now.rows)) }
-    {
-        self.rows.between(cursor, page)
-    }
-
-    /// Lists all rows that a visit may change, unless memory for that is refused.
-    pub fn list_restless(&mut self)
-        ensures { self.new ≡ self.old }
-    {
-        self.rows.list_restless();
-    }
-
-    /// The first page behind a cursor that a visit may change, or a page before it.
-    #[inline(always)]
-    pub fn next_restless(&mut self, cursor: Option<GuestPage>) -> Option<Spot>
-        ensures kept { self.new ≡ self.old }
-        ensures next { FindsNext cursor self.old.rows (option_map (λ s. s.page) result) }
-    {
-        self.rows.next_restless(cursor)
-    }
-
-    /// Of the listed pages those that no visit may change are listed no more, once they may be many.
-    pub fn sweep_restless(&mut self)
-        ensures { self.new ≡ self.old }
-    {
-        self.rows.sweep_restless();
-    }
-
     /// A first look at a page that is visited. It tells whether a visit may change the row, where that lies where it
     /// was guessed; and of an unchanged page whether it waits, where the unstable tree leads to it and there is no dup
     /// that it may join. Then it waits from now on. Where a look tells nothing, nothing changes, and `visit` tells.
