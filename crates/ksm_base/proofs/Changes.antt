@@ -18,16 +18,14 @@ use Rattle.ksm_base.specs.declared.reply.Reply.{Reply}
 use Rattle.ksm_base.specs.declared.reply.Reply.TheVariants as told
 use Rattle.ksm_base.specs.declared.fault.Fault.{Fault}
 use Rattle.ksm_base.specs.declared.fault.Fault.TheVariants as faults
-use Rattle.ksm_base.specs.declared.knobs.Knob.{Knob}
-use Rattle.ksm_base.specs.Knobs.{set_by}
 use Rattle.ksm_base.specs.Rows.{comes_before, same_page, row_at, with_row, without_page, change_rows, shared_state, settled, has_items}
 use Rattle.ksm_base.specs.State.{BookState, without_stale, with_none_waiting}
 use Rattle.ksm_base.specs.Visit.{visit, visit_begun, visits}
 use Rattle.ksm_base.specs.Refusals.{is_of}
 use Rattle.ksm_base.specs.Answers.{IsAnswer, shared_rows, every_row}
 use Rattle.ksm_base.specs.Apply.{fresh_row, stored, moved, let_go, unshared, is_before, scan_stopped, after}
-use Rattle.ksm_base.specs.Reasons.{Replies, registered, dropped, stored as stored_to, scanned, nothing_to_scan, scan_stopped as scan_stopped_at, pruned, unmerged, unmerging_stopped, made_mergeable}
-use Rattle.ksm_base.specs.Reasons.{moved as moved_to, dup_moved, all_unshared, unsharing_stopped, knob_set, HasReason, replies}
+use Rattle.ksm_base.specs.Reasons.{IsDoneAlone, Replies, done, scanned, nothing_to_scan, scan_stopped as scan_stopped_at, pruned, unmerged, unmerging_stopped}
+use Rattle.ksm_base.specs.Reasons.{all_unshared, unsharing_stopped, HasReason, replies}
 use Rattle.ksm_base.specs.Changes.{Where, StaleGone, IsStored, IsMoved, IsAlone, IsCalmed, IsVisited, Changes}
 use Rattle.ksm_base.proofs.Pages.{same_page_refl, same_page_eq, after_differs, one_before, not_both}
 use Rattle.ksm_base.proofs.Edits.{find_over}
@@ -138,24 +136,28 @@ module _ (b : BookState) where
         zip_rowwise b.rows (visit_begun done).rows (and_then b.rows done.rows (visit_begun done).rows (rowwise_visits v b) (rowwise_begun done)),
       )
 
-  -- so does a command that sets a knob
-  knob_changes : (c : Command) (knob : Knob) (v : ℕ) → set_by c ≡ Some (knob, v) → Changes c told.Done b (after b c (Ok told.Done))
-  knob_changes (commands.SetAcross v) knob value by =
+  done_changes : (c : Command) → IsDoneAlone c → Changes c told.Done b (after b c (Ok told.Done))
+  done_changes (commands.Register page node bytes) is =
+      (refl, other_with (fresh_row page node bytes) b.rows, own_with (fresh_row page node bytes) b.rows)
+  done_changes (commands.Drop page) is = (refl, other_without page b.rows, own_without page b.rows)
+  done_changes (commands.Store page bytes) is =
+      (refl, zip_where (Where (λ r. r.page ≡ page) (IsStored bytes)) (λ r. same_page r.page page) (stored bytes) (λ r. grind (arith, Decides-page page r, bytes_eq-Decides r.bytes bytes)) b.rows)
+  done_changes (commands.Mergeable guest) is =
+      (refl, zip_where (Where (λ r. r.page.guest ≡ guest) (λ r s. s ≡ record r { mergeable = true })) (is_of guest) (λ r. record r { mergeable = true }) (λ r. grind (arith, nat_tests)) b.rows)
+  done_changes (commands.MovePage page node) is =
+      (refl, zip_where (Where (λ r. r.page ≡ page) (IsMoved node)) (λ r. same_page r.page page) (moved node) (λ r. grind (arith, nat_tests, Decides-page page r)) b.rows)
+  done_changes (commands.SetAcross v) is =
       let dropped = with_none_waiting (without_stale b) in
       let set : BookState = record dropped { knobs = record b.knobs { merge_across_nodes = v } } in
       grind (arith, nat_tests, zip_map IsCalmed settled (λ r. grind arith) b.rows, stale_gone b set refl)
-  knob_changes (commands.SetLimit v) knob value by =
+  done_changes (commands.SetLimit v) is =
       let set : BookState = record (without_stale b) { knobs = record b.knobs { max_page_sharing = v } } in
       grind (arith, nat_tests, stale_gone b set refl)
-  knob_changes c knob v by = grind arith
+  done_changes c is = grind arith
 
   -- a command that is answered so changes this alone
   pub changes : {c : Command} {reply : Reply} → Replies b c reply → Changes c reply b (after b c (Ok reply))
-  changes (registered {page = page} {node = node} {bytes = bytes}) =
-      (refl, other_with (fresh_row page node bytes) b.rows, own_with (fresh_row page node bytes) b.rows)
-  changes (dropped {page = page}) = (refl, other_without page b.rows, own_without page b.rows)
-  changes (stored_to {page = page} {bytes = bytes}) =
-      (refl, zip_where (Where (λ r. r.page ≡ page) (IsStored bytes)) (λ r. same_page r.page page) (stored bytes) (λ r. grind (arith, Decides-page page r, bytes_eq-Decides r.bytes bytes)) b.rows)
+  changes (done {c = c} is) = done_changes c is
   changes (scanned {n = n} some) = scan_changes n n None
   changes (nothing_to_scan {n = n} none) = scan_changes n 0 None
   changes (scan_stopped_at {n = n} {v = v} some below) = scan_changes n v (Some faults.Memory)
@@ -168,16 +170,10 @@ module _ (b : BookState) where
       )
   changes (unmerging_stopped {guest = guest} {k = k} s) =
       (refl, zip_where (Where (λ r. r.page.guest ≡ guest) (λ r s. IsAlone false false r s ⊎ (s ≡ r))) (λ r. is_of guest r && is_before (slice_get (shared_rows (is_of guest) b) k) r) let_go (λ r. grind (arith, nat_tests)) b.rows)
-  changes (made_mergeable {guest = guest}) =
-      (refl, zip_where (Where (λ r. r.page.guest ≡ guest) (λ r s. s ≡ record r { mergeable = true })) (is_of guest) (λ r. record r { mergeable = true }) (λ r. grind (arith, nat_tests)) b.rows)
-  changes (moved_to {page = page} {node = node}) =
-      (refl, zip_where (Where (λ r. r.page ≡ page) (IsMoved node)) (λ r. same_page r.page page) (moved node) (λ r. grind (arith, nat_tests, Decides-page page r)) b.rows)
-  changes dup_moved = refl
   changes (all_unshared two count) =
       (refl, zip_map (λ r s. IsAlone r.mergeable false r s) unshared (λ r. grind arith) b.rows)
   changes (unsharing_stopped {k = k} two s) =
       (refl, zip_where (Where (λ r. shared_state r.state ≡ true) (λ r s. IsAlone r.mergeable false r s ⊎ (s ≡ r))) (λ r. shared_state r.state && is_before (slice_get (shared_rows every_row b) k) r) unshared (λ r. grind arith) b.rows)
-  changes (knob_set {c = c} by other) = knob_changes c _ _ by
 
   changes_of : {c : Command} {reply : Reply} → HasReason b c (Ok reply) → Changes c reply b (after b c (Ok reply))
   changes_of (replies taken r) = changes r

@@ -13,23 +13,23 @@ use Rattle.ksm_base.specs.declared.row.PageState.TheVariants.{Merged}
 use Rattle.ksm_base.specs.declared.row.Row.{Row}
 use Rattle.ksm_base.specs.declared.row.DupRow.{DupRow}
 use Rattle.ksm_base.specs.declared.command.Command.{Command}
-use Rattle.ksm_base.specs.declared.command.Command.TheVariants.{Register, Drop, Store, Scan, Prune, Unmerge, Mergeable, MovePage, MoveDup, SetRun}
+use Rattle.ksm_base.specs.declared.command.Command.TheVariants.{Register, Store, Scan, Prune, Unmerge, MovePage, MoveDup, SetRun}
 use Rattle.ksm_base.specs.declared.knobs.Knob.{Knob}
 use Rattle.ksm_base.specs.declared.reply.Reply.{Reply}
 use Rattle.ksm_base.specs.declared.reply.Reply.TheVariants.{Done}
 use Rattle.ksm_base.specs.declared.fault.Fault.{Fault}
-use Rattle.ksm_base.specs.declared.fault.Fault.TheVariants.{NoFrame, InUse, SharedPages, BadValue}
+use Rattle.ksm_base.specs.declared.fault.Fault.TheVariants.{UnknownPage, NoFrame, InUse, SharedPages, BadValue}
 use Rattle.ksm_base.specs.Knobs.{traits, set_by, is_in_range, value_in}
 use Rattle.ksm_base.specs.Rows.{same_page, merged_into, shared_state, is_stale, has_items}
 use Rattle.ksm_base.specs.State.{BookState}
 use Rattle.ksm_base.specs.Counting.{shared_count}
 use Rattle.ksm_base.specs.Refusals.{is_known, is_of, has_guest, live_dup_at, setting_refusal, refusal}
 use Rattle.ksm_base.specs.Answers.{Answer, frame_needed, any_mergeable, IsAccepted, IsAnswerUnless, IsAnswer}
-use Rattle.ksm_base.specs.Reasons.{HasRow, GuestHasRow, HasItem, LivesAt, SharesPages, HasMergeable, IsOutside, Refuses, register_on_no_node, register_again, drop_unknown, store_unknown, scan_stands}
-use Rattle.ksm_base.specs.Reasons.{unmerge_unknown, mergeable_unknown, move_to_no_node, move_unknown, move_dup_to_no_node, move_no_dup, move_dup_across, value_outside}
+use Rattle.ksm_base.specs.Reasons.{HasRow, GuestHasRow, HasItem, LivesAt, SharesPages, HasMergeable, IsOutside, Refuses, register_on_no_node, register_again, HasNoRow, without_row, scan_stands}
+use Rattle.ksm_base.specs.Reasons.{move_to_no_node, move_dup_to_no_node, move_no_dup, move_dup_across, value_outside}
 use Rattle.ksm_base.specs.Reasons.{shared_pages_stay, Wants, for_a_new_page, for_a_merged_page, for_a_zero_page, elsewhere, for_a_dup, StopsAt, Replies}
-use Rattle.ksm_base.specs.Reasons.{registered, dropped, stored, scanned, nothing_to_scan, scan_stopped, pruned, unmerged, unmerging_stopped, made_mergeable, moved, dup_moved, all_unshared}
-use Rattle.ksm_base.specs.Reasons.{unsharing_stopped, knob_set, IsTaken, HasReason, refuses, replies, finds_no_frame, finds_in_use}
+use Rattle.ksm_base.specs.Reasons.{IsDoneAlone, done, scanned, nothing_to_scan, scan_stopped, pruned, unmerged, unmerging_stopped, all_unshared}
+use Rattle.ksm_base.specs.Reasons.{unsharing_stopped, IsTaken, HasReason, refuses, replies, finds_no_frame, finds_in_use}
 use Rattle.ksm_base.proofs.Pages.{same_page_refl, same_page_eq}
 use Rattle.ksm_base.proofs.Edits.{count_more}
 
@@ -103,31 +103,30 @@ module _ (b : BookState) where
   pub reason : (c : Command) (f : Fault) → refusal b c ≡ Some f → Refuses b c f
   reason (Register page node bytes) f h =
       grind (arith, nat_tests, register_on_no_node, register_again, Decides-row page)
-  reason (MovePage page node) f h = grind (arith, nat_tests, move_to_no_node, move_unknown, Decides-row page)
+  reason (MovePage page node) f h =
+      let gone : HasNoRow b (MovePage page node) → Refuses b (MovePage page node) UnknownPage = without_row in
+      grind (arith, nat_tests, move_to_no_node, gone, Decides-row page)
   reason (MoveDup place node) f h =
       grind (arith, nat_tests, move_dup_to_no_node, move_no_dup, move_dup_across, Decides-lives place)
   reason (Scan n) f h = grind (arith, nat_tests, scan_stands)
-  reason (Drop page) f h = grind (arith, drop_unknown, Decides-row)
-  reason (Store page bytes) f h = grind (arith, store_unknown, Decides-row)
-  reason (Unmerge guest) f h = grind (arith, unmerge_unknown, Decides-guest)
-  reason (Mergeable guest) f h = grind (arith, mergeable_unknown, Decides-guest)
-  reason c f h = setting_reason c (set_by c) refl f h
+  reason c f h =
+      let gone : HasNoRow b c → Refuses b c UnknownPage = without_row in
+      grind (arith, gone, setting_reason c (set_by c) refl f, Decides-row, Decides-guest)
 
   -- a command that sets a knob is refused as its setting
   set_refused : (c : Command) (knob : Knob) (v : ℕ) → {f : Option Fault} → set_by c ≡ Some (knob, v) → setting_refusal b (Some (knob, v)) ≡ f → refusal b c ≡ f
   set_refused c knob v by is = grind (arith, by, is)
 
+  no_row_refused : (c : Command) → HasNoRow b c → refusal b c ≡ Some UnknownPage
+  no_row_refused c h = grind (arith, nat_tests, Decides-row, Decides-guest)
+
   -- what has a reason is refused
   pub refused : {c : Command} {f : Fault} → Refuses b c f → refusal b c ≡ Some f
   refused (register_on_no_node n) = grind (arith, nat_tests)
   refused (register_again n h) = grind (arith, nat_tests, Decides-row)
-  refused (drop_unknown h) = grind (arith, Decides-row)
-  refused (store_unknown h) = grind (arith, Decides-row)
+  refused (without_row {c = c} h) = no_row_refused c h
   refused (scan_stands h) = grind (arith, nat_tests)
-  refused (unmerge_unknown h) = grind (arith, Decides-guest)
-  refused (mergeable_unknown h) = grind (arith, Decides-guest)
   refused (move_to_no_node n) = grind (arith, nat_tests)
-  refused (move_unknown n h) = grind (arith, nat_tests, Decides-row)
   refused (move_dup_to_no_node n) = grind (arith, nat_tests)
   refused (move_no_dup n h) = grind (arith, nat_tests, Decides-lives)
   refused (move_dup_across n found by_node other) = grind (arith, nat_tests)
@@ -189,22 +188,20 @@ module _ (b : BookState) where
 
   -- what is answered to a command that is not refused has its reason
   accepted : (c : Command) (a : Answer) → IsTaken b c → IsAccepted b c a → HasReason b c a
-  accepted (Register page node bytes) a taken h = grind (arith, replies, registered, finds_no_frame, for_a_new_page)
-  accepted (Store page bytes) a taken h = grind (arith, replies, stored, finds_no_frame, copied)
+  accepted (Register page node bytes) a taken h = grind (arith, replies, done, finds_no_frame, for_a_new_page)
+  accepted (Store page bytes) a taken h = grind (arith, replies, done, finds_no_frame, copied)
   accepted (Scan n) a taken h = grind (arith, replies, scanned, nothing_to_scan, scan_stopped, Decides-mergeable)
   accepted Prune a taken h = grind (arith, replies, pruned, stale_beside b.rows b.dups)
   accepted (Unmerge guest) a taken h =
       let test : Row → Bool = λ r. is_of guest r && shared_state r.state in
       grind (arith, replies, unmerged, unmerging_stopped, stops test b.rows, length-filter test b.rows)
-  accepted (MovePage page node) a taken h = grind (arith, nat_tests, replies, moved, finds_no_frame, elsewhere)
-  accepted (MoveDup place node) a taken h = grind (arith, replies, dup_moved, finds_no_frame, for_a_dup, finds_in_use)
+  accepted (MovePage page node) a taken h = grind (arith, nat_tests, replies, done, finds_no_frame, elsewhere)
+  accepted (MoveDup place node) a taken h = grind (arith, replies, done, finds_no_frame, for_a_dup, finds_in_use)
   accepted (SetRun v) a taken h =
       let test : Row → Bool = λ r. shared_state r.state in
-      let set : v ≢ 2 → Replies b (SetRun v) Done = λ other. knob_set refl (λ e. other cc) in
+      let set : v ≢ 2 → Replies b (SetRun v) Done = done in
       grind (arith, nat_tests, replies, set, all_unshared, unsharing_stopped, stops test b.rows, length-filter test b.rows)
-  accepted (Drop page) a taken h = grind (arith, replies, dropped)
-  accepted (Mergeable guest) a taken h = grind (arith, replies, made_mergeable)
-  accepted c a taken h = let set : Replies b c Done = knob_set refl (λ e. cc) in grind (arith, replies, set)
+  accepted c a taken h = let is : Replies b c Done = done tt in grind (arith, replies, is)
 
   -- each answer has its reason
   pub has_reason : (c : Command) (a : Answer) → IsAnswer b c a → HasReason b c a
@@ -218,8 +215,8 @@ module _ (b : BookState) where
   answers a taken h None is = h
   answers a taken h (Some fault) is = absurd (taken fault (reason b _ fault is))
 
-  set_done : (c : Command) (knob : Knob) (v : ℕ) → set_by c ≡ Some (knob, v) → c ≢ SetRun 2 → IsAccepted b c (Ok Done)
-  set_done c knob v by other = grind (arith, nat_tests, by, other)
+  may_be_done : (c : Command) → IsDoneAlone c → IsAccepted b c (Ok Done)
+  may_be_done c is = grind (arith, nat_tests)
 
   replied : {c : Command} {r : Reply} → Replies b c r → IsAccepted b c (Ok r)
   replied (scanned some) = grind (arith, Decides-mergeable b)
@@ -228,10 +225,9 @@ module _ (b : BookState) where
   replied (pruned count) = grind (arith, stale_beside b.rows b.dups)
   replied (unmerged {guest = guest} count) = grind (arith, length-filter (λ r. is_of guest r && shared_state r.state) b.rows)
   replied (unmerging_stopped s) = grind (arith, stopped_at _ _ _ _ s)
-  replied (knob_set {c = c} by other) = set_done c _ _ by other
+  replied (done {c = c} is) = may_be_done c is
   replied (all_unshared two count) = grind (arith, length-filter (λ (r : Row). shared_state r.state) b.rows)
   replied (unsharing_stopped two s) = grind (arith, stopped_at _ _ _ _ s)
-  replied _ = tt
 
   without_frame : (c : Command) (n : ℕ) → Wants b c n → IsAccepted b c (Err (NoFrame n))
   without_frame c n w = grind (arith, wanted w)

@@ -49,20 +49,24 @@ HasMergeable b = Any (λ r. r.mergeable ≡ true) b.rows
 abbrev pub IsOutside : Knob → ℕ → Type 0
 IsOutside knob v = (v < (traits knob).least) ⊎ ((traits knob).most < v)
 
+-- the page or the guest of a command has no row, where the node that it names is there
+abbrev pub HasNoRow : BookState → Command → Type 0
+HasNoRow b (Drop page) = ¬ (HasRow b page)
+HasNoRow b (Store page bytes) = ¬ (HasRow b page)
+HasNoRow b (Unmerge guest) = ¬ (GuestHasRow b guest)
+HasNoRow b (Mergeable guest) = ¬ (GuestHasRow b guest)
+HasNoRow b (MovePage page node) = (node < b.shape.nodes) × ¬ (HasRow b page)
+HasNoRow b command = ⊥
+
 -- each refusal that the state decides, with its reason: of the tests the first that fails refuses
 pub data Refuses (b : BookState) : Command → Fault → Type 0 where
   register_on_no_node : {page : GuestPage} {node : ℕ} {bytes : List ℕ} → b.shape.nodes ≤ node
       → Refuses b (Register page node bytes) BadNode
   register_again : {page : GuestPage} {node : ℕ} {bytes : List ℕ} → node < b.shape.nodes → HasRow b page
       → Refuses b (Register page node bytes) AlreadyRegistered
-  drop_unknown : {page : GuestPage} → ¬ (HasRow b page) → Refuses b (Drop page) UnknownPage
-  store_unknown : {page : GuestPage} {bytes : List ℕ} → ¬ (HasRow b page) → Refuses b (Store page bytes) UnknownPage
+  without_row : {c : Command} → HasNoRow b c → Refuses b c UnknownPage
   scan_stands : {n : ℕ} → b.knobs.run ≢ 1 → Refuses b (Scan n) NotRunning
-  unmerge_unknown : {guest : ℕ} → ¬ (GuestHasRow b guest) → Refuses b (Unmerge guest) UnknownPage
-  mergeable_unknown : {guest : ℕ} → ¬ (GuestHasRow b guest) → Refuses b (Mergeable guest) UnknownPage
   move_to_no_node : {page : GuestPage} {node : ℕ} → b.shape.nodes ≤ node → Refuses b (MovePage page node) BadNode
-  move_unknown : {page : GuestPage} {node : ℕ} → node < b.shape.nodes → ¬ (HasRow b page)
-      → Refuses b (MovePage page node) UnknownPage
   move_dup_to_no_node : {place node : ℕ} → b.shape.nodes ≤ node → Refuses b (MoveDup place node) BadNode
   move_no_dup : {place node : ℕ} → node < b.shape.nodes → ¬ (LivesAt b place)
       → Refuses b (MoveDup place node) UnknownPlace
@@ -95,11 +99,17 @@ pub record StopsAt (test : Row → Bool) (rows : List Row) (k n : ℕ) : Type 0 
   pub count : count_by test before ≡ k
   pub home : n ≡ row.home
 
+-- nothing is counted of what the command does
+abbrev pub IsDoneAlone : Command → Type 0
+IsDoneAlone (Scan n) = ⊥
+IsDoneAlone Prune = ⊥
+IsDoneAlone (Unmerge guest) = ⊥
+IsDoneAlone (SetRun v) = v ≢ 2
+IsDoneAlone command = Unit {0}
+
 -- each reply, where the state refuses nothing
 pub data Replies (b : BookState) : Command → Reply → Type 0 where
-  registered : {page : GuestPage} {node : ℕ} {bytes : List ℕ} → Replies b (Register page node bytes) Done
-  dropped : {page : GuestPage} → Replies b (Drop page) Done
-  stored : {page : GuestPage} {bytes : List ℕ} → Replies b (Store page bytes) Done
+  done : {c : Command} → IsDoneAlone c → Replies b c Done
   scanned : {n : ℕ} → HasMergeable b → Replies b (Scan n) (Scanned n None)
   nothing_to_scan : {n : ℕ} → ¬ (HasMergeable b) → Replies b (Scan n) (Scanned 0 None)
   scan_stopped : {n v : ℕ} → HasMergeable b → v < n → Replies b (Scan n) (Scanned v (Some Memory))
@@ -108,14 +118,10 @@ pub data Replies (b : BookState) : Command → Reply → Type 0 where
       → Replies b (Unmerge guest) (Unmerged k None)
   unmerging_stopped : {guest k n : ℕ} → StopsAt (λ r. is_of guest r && shared_state r.state) b.rows k n
       → Replies b (Unmerge guest) (Unmerged k (Some (NoFrame n)))
-  made_mergeable : {guest : ℕ} → Replies b (Mergeable guest) Done
-  moved : {page : GuestPage} {node : ℕ} → Replies b (MovePage page node) Done
-  dup_moved : {place node : ℕ} → Replies b (MoveDup place node) Done
   all_unshared : {v k : ℕ} → v ≡ 2 → k ≡ count_by (λ r. shared_state r.state) b.rows
       → Replies b (SetRun v) (Unmerged k None)
   unsharing_stopped : {v k n : ℕ} → v ≡ 2 → StopsAt (λ r. shared_state r.state) b.rows k n
       → Replies b (SetRun v) (Unmerged k (Some (NoFrame n)))
-  knob_set : {c : Command} {knob : Knob} {v : ℕ} → set_by c ≡ Some (knob, v) → c ≢ SetRun 2 → Replies b c Done
 
 -- the state refuses nothing
 abbrev pub IsTaken : BookState → Command → Type 0
