@@ -2,7 +2,7 @@
 ghost use Rattle.std.specs.Prelude.{◌≡◌, IfErr, IfOk, Ok, codes};
 ghost use Rattle.ksm_lines.specs.declared.line.Line.{Line};
 ghost use Rattle.ksm_lines.specs.Grammar.{IsNoLine, Writes, words_of};
-ghost use Rattle.ksm_lines.specs.Reading.{Gives, words_left, line_at, named_line};
+ghost use Rattle.ksm_lines.specs.Reading.{Gives, line_at, named_line, parts_given, parts_in, words_left};
 
 use self::Line::{Page, Rare, Short};
 use self::PageLine::{Equal, Register, Store};
@@ -15,6 +15,7 @@ use crate::field::{
     shown_alone,
 };
 use crate::knob::Shown;
+use crate::part::Part;
 use ksm_base::{GuestPage, Knob, PageBytes};
 use thiserror::Error;
 
@@ -134,6 +135,36 @@ fn named(name: &[u8], left: Option<&[u8]>) -> Result<Line, LineFault>
         _ if is(name, b"show") => shown_alone(left).map(|shown| Short(Show { shown })),
         _ if is(name, b"audit") => ended(left).map(|()| Rare(Audit)),
         _ => Err(LineFault::Bad),
+    }
+}
+
+/// The parts behind a name, if a line begins with it.
+pub fn parts_of(name: &[u8]) -> Option<&'static [Part]>
+    ensures { parts_given result ≡ parts_in name.now }
+{
+    match name {
+        _ if is(name, b"") => Some(&[]),
+        _ if is(name, b"reg") => Some(&[Part::Guest, Part::Page, Part::Node, Part::Content]),
+        _ if is(name, b"drop") => Some(&[Part::Guest, Part::Page]),
+        _ if is(name, b"put") => Some(&[Part::Guest, Part::Page, Part::Content]),
+        _ if is(name, b"get") => Some(&[Part::Guest, Part::Page]),
+        _ if is(name, b"ticket") => Some(&[Part::Guest, Part::Page]),
+        _ if is(name, b"rmap") => Some(&[Part::Place]),
+        _ if is(name, b"scan") => Some(&[Part::Visits]),
+        _ if is(name, b"prune") => Some(&[]),
+        _ if is(name, b"unmerge") => Some(&[Part::Guest]),
+        _ if is(name, b"mergeable") => Some(&[Part::Guest]),
+        _ if is(name, b"move") => Some(&[Part::Guest, Part::Page, Part::Node]),
+        _ if is(name, b"movedup") => Some(&[Part::Place, Part::Node]),
+        _ if is(name, b"set") => Some(&[Part::Knob, Part::Value]),
+        _ if is(name, b"show") => Some(&[Part::Shown]),
+        _ if is(name, b"stat") => Some(&[]),
+        _ if is(name, b"find") => Some(&[Part::Pass, Part::Place]),
+        _ if is(name, b"equal") => Some(&[Part::Pass, Part::Place, Part::Content]),
+        _ if is(name, b"look") => Some(&[Part::Pass]),
+        _ if is(name, b"leave") => Some(&[Part::Pass]),
+        _ if is(name, b"audit") => Some(&[]),
+        _ => None,
     }
 }
 

@@ -2,10 +2,10 @@
 ghost use Rattle.std.specs.Prelude.{◌≡◌};
 ghost use Rattle.std.specs.Option.{is_some};
 ghost use Rattle.ksm_lines.specs.Grammar.{kind_of};
-ghost use Rattle.ksm_lines.specs.Reading.{parts_given, parts_in, read};
+ghost use Rattle.ksm_lines.specs.Reading.{read};
 
-use self::Part::{Content, Guest, Knob, Node, Page, Pass, Place, Shown, Value, Visits};
-use crate::field::{content_in, guest_in, is, number_in};
+use self::Part::{Content, Guest, Knob, Shown};
+use crate::field::{content_in, guest_in, number_in};
 use crate::knob::{knob_named, shown_named};
 
 /// What a word behind the name of a line stands for.
@@ -31,36 +31,6 @@ pub enum Part {
     Knob,
     /// `KNOB`, where a knob or a counter is shown.
     Shown,
-}
-
-/// The parts behind a name, if a line begins with it.
-pub fn parts_of(name: &[u8]) -> Option<&'static [Part]>
-    ensures { parts_given result ≡ parts_in name.now }
-{
-    match name {
-        _ if is(name, b"") => Some(&[]),
-        _ if is(name, b"reg") => Some(&[Guest, Page, Node, Content]),
-        _ if is(name, b"drop") => Some(&[Guest, Page]),
-        _ if is(name, b"put") => Some(&[Guest, Page, Content]),
-        _ if is(name, b"get") => Some(&[Guest, Page]),
-        _ if is(name, b"ticket") => Some(&[Guest, Page]),
-        _ if is(name, b"rmap") => Some(&[Place]),
-        _ if is(name, b"scan") => Some(&[Visits]),
-        _ if is(name, b"prune") => Some(&[]),
-        _ if is(name, b"unmerge") => Some(&[Guest]),
-        _ if is(name, b"mergeable") => Some(&[Guest]),
-        _ if is(name, b"move") => Some(&[Guest, Page, Node]),
-        _ if is(name, b"movedup") => Some(&[Place, Node]),
-        _ if is(name, b"set") => Some(&[Knob, Value]),
-        _ if is(name, b"show") => Some(&[Shown]),
-        _ if is(name, b"stat") => Some(&[]),
-        _ if is(name, b"find") => Some(&[Pass, Place]),
-        _ if is(name, b"equal") => Some(&[Pass, Place, Content]),
-        _ if is(name, b"look") => Some(&[Pass]),
-        _ if is(name, b"leave") => Some(&[Pass]),
-        _ if is(name, b"audit") => Some(&[]),
-        _ => None,
-    }
 }
 
 /// Whether a word is read as this part.
