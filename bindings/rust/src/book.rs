@@ -55,51 +55,63 @@ pub enum Command {
     SetZeroPages(u32),
 }
 
-impl Command {
-    // What the library tells of a command that it was given.
-    pub(crate) fn of(request: &Request) -> Command {
-        let Request { guest, page, visits, node, value, bytes, kind } = *request;
-        let page = GuestPage { guest, page };
-        match kind {
-            raw::REGISTER => Command::Register { page, node, bytes },
-            raw::DROP => Command::Drop { page },
-            raw::STORE => Command::Store { page, bytes },
-            raw::SCAN => Command::Scan { visits },
-            raw::PRUNE => Command::Prune,
-            raw::UNMERGE => Command::Unmerge { guest },
-            raw::MERGEABLE => Command::Mergeable { guest },
-            raw::MOVE_PAGE => Command::MovePage { page, node },
-            raw::MOVE_DUP => Command::MoveDup { place: value, node },
-            raw::SET_RUN => Command::SetRun(value),
-            raw::SET_PAGES_TO_SCAN => Command::SetPagesToScan(value),
-            raw::SET_ACROSS => Command::SetAcross(value),
-            raw::SET_LIMIT => Command::SetLimit(value),
-            raw::SET_ZERO_PAGES => Command::SetZeroPages(value),
-            kind => unreachable!("the library tells commands alone: {kind}"),
-        }
-    }
+/// A part of a request by its name: read, or set where something is given. A page has two fields.
+macro_rules! part {
+    ($request:ident page) => {
+        GuestPage { guest: $request.guest, page: $request.page }
+    };
+    ($request:ident page $given:ident) => {
+        ($request.guest, $request.page) = ($given.guest, $given.page)
+    };
+    ($request:ident $part:ident) => {
+        $request.$part
+    };
+    ($request:ident $part:ident $given:ident) => {
+        $request.$part = $given
+    };
+}
 
-    pub(crate) fn request(self) -> Request {
-        let none = Request::default();
-        let of = |kind, page: GuestPage| Request { kind, guest: page.guest, page: page.page, ..none };
-        let valued = |kind, value| Request { kind, value, ..none };
-        match self {
-            Command::Register { page, node, bytes } => Request { node, bytes, ..of(raw::REGISTER, page) },
-            Command::Drop { page } => of(raw::DROP, page),
-            Command::Store { page, bytes } => Request { bytes, ..of(raw::STORE, page) },
-            Command::Scan { visits } => Request { kind: raw::SCAN, visits, ..none },
-            Command::Prune => Request { kind: raw::PRUNE, ..none },
-            Command::Unmerge { guest } => Request { kind: raw::UNMERGE, guest, ..none },
-            Command::Mergeable { guest } => Request { kind: raw::MERGEABLE, guest, ..none },
-            Command::MovePage { page, node } => Request { node, ..of(raw::MOVE_PAGE, page) },
-            Command::MoveDup { place, node } => Request { node, ..valued(raw::MOVE_DUP, place) },
-            Command::SetRun(value) => valued(raw::SET_RUN, value),
-            Command::SetPagesToScan(value) => valued(raw::SET_PAGES_TO_SCAN, value),
-            Command::SetAcross(value) => valued(raw::SET_ACROSS, value),
-            Command::SetLimit(value) => valued(raw::SET_LIMIT, value),
-            Command::SetZeroPages(value) => valued(raw::SET_ZERO_PAGES, value),
+/// What C has of the commands: the number of each, and which part of a request each of its fields is.
+macro_rules! kinds {
+    ($($kind:literal $name:ident { $($field:tt: $part:ident),* })*) => {
+        impl Command {
+            // What the library tells of a command that it was given.
+            pub(crate) fn of(request: &Request) -> Command {
+                match request.kind {
+                    $($kind => Command::$name { $($field: part!(request $part)),* },)*
+                    kind => unreachable!("the library tells commands alone: {kind}"),
+                }
+            }
+
+            pub(crate) fn request(self) -> Request {
+                let mut request = Request::default();
+                match self {
+                    $(Command::$name { $($field: $part),* } => {
+                        request.kind = $kind;
+                        $(part!(request $part $part);)*
+                    })*
+                }
+                request
+            }
         }
-    }
+    };
+}
+
+kinds! {
+    1 Register { page: page, node: node, bytes: bytes }
+    2 Drop { page: page }
+    3 Store { page: page, bytes: bytes }
+    4 Scan { visits: visits }
+    5 Prune {}
+    6 Unmerge { guest: guest }
+    7 Mergeable { guest: guest }
+    8 MovePage { page: page, node: node }
+    9 MoveDup { place: value, node: node }
+    10 SetRun { 0: value }
+    11 SetPagesToScan { 0: value }
+    12 SetAcross { 0: value }
+    13 SetLimit { 0: value }
+    14 SetZeroPages { 0: value }
 }
 
 /// What a command did.

@@ -35,22 +35,6 @@ pub const CROSSES_NODES: u32 = 39;
 pub const UNKNOWN_PLACE: u32 = 40;
 pub const BAD_NODE: u32 = 41;
 
-// What a command is.
-pub const REGISTER: u16 = 1;
-pub const DROP: u16 = 2;
-pub const STORE: u16 = 3;
-pub const SCAN: u16 = 4;
-pub const PRUNE: u16 = 5;
-pub const UNMERGE: u16 = 6;
-pub const MERGEABLE: u16 = 7;
-pub const MOVE_PAGE: u16 = 8;
-pub const MOVE_DUP: u16 = 9;
-pub const SET_RUN: u16 = 10;
-pub const SET_PAGES_TO_SCAN: u16 = 11;
-pub const SET_ACROSS: u16 = 12;
-pub const SET_LIMIT: u16 = 13;
-pub const SET_ZERO_PAGES: u16 = 14;
-
 /// A command of a book.
 #[repr(C)]
 #[derive(Clone, Copy, Default)]
