@@ -20,7 +20,7 @@ use Rattle.ksm_base.specs.declared.fault.Fault.{Fault}
 use Rattle.ksm_base.specs.declared.fault.Fault.TheVariants as faults
 use Rattle.ksm_base.specs.Rows.{comes_before, same_page, row_at, with_row, without_page, change_rows, shared_state, settled, has_items}
 use Rattle.ksm_base.specs.State.{BookState, without_stale, with_none_waiting}
-use Rattle.ksm_base.specs.Visit.{visit, visit_begun, visits}
+use Rattle.ksm_base.specs.Visit.{next_row, row_visited, visit, visit_begun, visit_of, visits}
 use Rattle.ksm_base.specs.Refusals.{is_of}
 use Rattle.ksm_base.specs.Answers.{IsAnswer, shared_rows, every_row}
 use Rattle.ksm_base.specs.Apply.{fresh_row, stored, moved, let_go, unshared, is_before, scan_stopped, after}
@@ -112,8 +112,16 @@ module _ (start : BookState) where
   same_begun : (b : BookState) → Same b → Same (visit_begun b)
   same_begun b h = grind arith
 
+  same_row_visited : (b : BookState) (row : Row) → Same b → Same (row_visited b row)
+  same_row_visited b row h = grind arith
+
+  same_visit_of : (b : BookState) (row : Option Row) → Same b → Same (visit_of b row)
+  same_visit_of b None h = h
+  same_visit_of b (Some row) h = grind (arith, same_row_visited b row h)
+
   same_visit : (b : BookState) → Same b → Same (visit b)
-  same_visit b h = grind (arith, same_begun b h)
+  same_visit b h =
+      let begun = visit_begun b in same_visit_of begun (next_row begun.cursor begun.rows) (same_begun b h)
 
   same_visits : (n : ℕ) (b : BookState) → Same b → Same (visits n b)
   same_visits zero b h = h

@@ -27,7 +27,7 @@ use Rattle.ksm_base.specs.Refusals.{is_known, is_of, has_guest, live_dup_at, set
 use Rattle.ksm_base.specs.Answers.{Answer, frame_needed, any_mergeable, IsAccepted, IsAnswerUnless, IsAnswer}
 use Rattle.ksm_base.specs.Reasons.{HasRow, GuestHasRow, HasItem, LivesAt, SharesPages, HasMergeable, IsOutside, Refuses, register_on_no_node, register_again, HasNoRow, without_row, scan_stands}
 use Rattle.ksm_base.specs.Reasons.{move_to_no_node, move_dup_to_no_node, move_no_dup, move_dup_across, value_outside}
-use Rattle.ksm_base.specs.Reasons.{shared_pages_stay, Wants, for_a_new_page, for_a_merged_page, for_a_zero_page, elsewhere, for_a_dup, StopsAt, Replies}
+use Rattle.ksm_base.specs.Reasons.{shared_pages_stay, Wants, for_a_new_page, for_a_shared_page, elsewhere, for_a_dup, StopsAt, Replies}
 use Rattle.ksm_base.specs.Reasons.{IsDoneAlone, done, scanned, nothing_to_scan, scan_stopped, pruned, unmerged, unmerging_stopped, all_unshared}
 use Rattle.ksm_base.specs.Reasons.{unsharing_stopped, IsTaken, HasReason, refuses, replies, finds_no_frame, finds_in_use}
 use Rattle.ksm_base.proofs.Pages.{same_page_refl, same_page_eq}
@@ -184,7 +184,7 @@ stale_beside rows (d ∷ ds) =
 module _ (b : BookState) where
   copied : (page : GuestPage) (bytes : List ℕ) (n : ℕ) → frame_needed b (Store page bytes) ≡ Some n
       → Wants b (Store page bytes) n
-  copied page bytes n h = grind (arith, for_a_merged_page, for_a_zero_page)
+  copied page bytes n h = grind (arith, for_a_shared_page)
 
   -- what is answered to a command that is not refused has its reason
   accepted : (c : Command) (a : Answer) → IsTaken b c → IsAccepted b c a → HasReason b c a

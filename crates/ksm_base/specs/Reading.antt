@@ -2,7 +2,7 @@
 use Rattle.std.specs.Prelude.{ℕ, List, map, filter, Option, None, option_map, option_and_then}
 use Rattle.ksm_base.specs.declared.page.GuestPage.{GuestPage}
 use Rattle.ksm_base.specs.declared.row.PageState.{PageState}
-use Rattle.ksm_base.specs.declared.row.PageState.TheVariants.{Private, Waiting, Merged, Zero}
+use Rattle.ksm_base.specs.declared.row.PageState.TheVariants.{Merged}
 use Rattle.ksm_base.specs.declared.row.Row.{Row}
 use Rattle.ksm_base.specs.declared.row.DupRow.{DupRow}
 use Rattle.ksm_base.specs.Rows.{row_at, merged_into, dup_numbered}
@@ -15,10 +15,8 @@ bytes_of page b = option_map (λ r. r.bytes) (row_at page b.rows)
 
 -- the place of the dup into which a row in this state is merged
 abbrev pub place_of : PageState → List DupRow → Option ℕ
-place_of Private dups = None
-place_of Waiting dups = None
-place_of Zero dups = None
 place_of (Merged number) dups = option_map (λ d. d.place) (dup_numbered number dups)
+place_of state dups = None
 
 -- the place of the dup into which a page is merged; none where it has no row or isn't merged
 abbrev pub ticket_of : GuestPage → BookState → Option ℕ

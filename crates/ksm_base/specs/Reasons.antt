@@ -4,7 +4,7 @@
 -- `each_answer_has_its_reason`. Own.
 use Rattle.std.specs.Prelude.{◌≡◌, ◌≢◌, ℕ, ◌+◌, ◌<◌, ◌≤◌, Bool, true, ◌&&◌, List, ◌∷◌, ◌++◌, length, count_by, Any, ◌⊎◌, Some, None, Ok, Err}
 use Rattle.ksm_base.specs.declared.page.GuestPage.{GuestPage}
-use Rattle.ksm_base.specs.declared.row.PageState.TheVariants.{Merged, Zero}
+use Rattle.ksm_base.specs.declared.row.PageState.TheVariants.{Merged}
 use Rattle.ksm_base.specs.declared.row.Row.{Row}
 use Rattle.ksm_base.specs.declared.row.DupRow.{DupRow}
 use Rattle.ksm_base.specs.declared.command.Command.{Command}
@@ -80,10 +80,8 @@ pub data Refuses (b : BookState) : Command → Fault → Type 0 where
 -- each command that needs one frame, with the node of which it needs it
 pub data Wants (b : BookState) : Command → ℕ → Type 0 where
   for_a_new_page : {page : GuestPage} {node : ℕ} {bytes : List ℕ} → Wants b (Register page node bytes) node
-  for_a_merged_page : {page : GuestPage} {bytes : List ℕ} {r : Row} {number : ℕ} → row_at page b.rows ≡ Some r
-      → r.state ≡ Merged number
-      → Wants b (Store page bytes) r.home
-  for_a_zero_page : {page : GuestPage} {bytes : List ℕ} {r : Row} → row_at page b.rows ≡ Some r → r.state ≡ Zero
+  for_a_shared_page : {page : GuestPage} {bytes : List ℕ} {r : Row} → row_at page b.rows ≡ Some r
+      → shared_state r.state ≡ true
       → Wants b (Store page bytes) r.home
   elsewhere : {page : GuestPage} {node : ℕ} {r : Row} → row_at page b.rows ≡ Some r → r.home ≢ node
       → Wants b (MovePage page node) node

@@ -39,40 +39,65 @@ change_rows test change rows = map (λ r. if test r then change r else r) rows
 abbrev pub change_row : GuestPage → (Row → Row) → List Row → List Row
 change_row page change rows = change_rows (λ r. same_page r.page page) change rows
 
+-- from where a page is mapped: a frame of its own alone, the frame of the dup with a number, or no frame (own)
+pub data Mapping : Type 0 where
+  Alone : Mapping
+  InDup : ℕ → Mapping
+  Nowhere : Mapping
+
+-- a merged page is mapped from its dup's frame (mm/ksm), a Zero one from the kernel's zero page (admin-guide/mm/ksm, use_zero_pages)
+abbrev pub mapping_of : PageState → Mapping
+mapping_of Private = Alone
+mapping_of Waiting = Alone
+mapping_of (Merged d) = InDup d
+mapping_of Zero = Nowhere
+
+-- not from a frame of its own
+abbrev pub is_shared : Mapping → Bool
+is_shared Alone = false
+is_shared mapping = true
+
+-- from the frame of a dup
+abbrev pub is_in_dup : Mapping → Bool
+is_in_dup (InDup d) = true
+is_in_dup mapping = false
+
+-- from the frame of the dup with this number
+abbrev pub is_in : ℕ → Mapping → Bool
+is_in number (InDup d) = d == number
+is_in number mapping = false
+
+-- from no frame
+abbrev pub is_nowhere : Mapping → Bool
+is_nowhere Nowhere = true
+is_nowhere mapping = false
+
 -- mapped from a frame of its own, in neither tree (mm/ksm)
 abbrev pub private_state : PageState → Bool
 private_state Private = true
-private_state Waiting = false
-private_state (Merged d) = false
-private_state Zero = false
+private_state state = false
 
 -- mapped from a frame of its own, in the unstable tree (mm/ksm)
 abbrev pub waiting_state : PageState → Bool
-waiting_state Private = false
 waiting_state Waiting = true
-waiting_state (Merged d) = false
-waiting_state Zero = false
+waiting_state state = false
 
 -- mapped from the page of a stable node (mm/ksm)
 abbrev pub merged_state : PageState → Bool
-merged_state Private = false
-merged_state Waiting = false
-merged_state (Merged d) = true
-merged_state Zero = false
+merged_state state = is_in_dup (mapping_of state)
 
--- mapped from the kernel's zero page, with no frame (admin-guide/mm/ksm, use_zero_pages)
+-- mapped from the kernel's zero page (admin-guide/mm/ksm, use_zero_pages)
 abbrev pub zero_state : PageState → Bool
-zero_state Private = false
-zero_state Waiting = false
-zero_state (Merged d) = false
 zero_state Zero = true
+zero_state state = false
+
+-- mapped from no frame
+abbrev pub unmapped_state : PageState → Bool
+unmapped_state state = is_nowhere (mapping_of state)
 
 -- mapped from a page that others may read too, which is never written: that of a stable node, or the zero page. A store needs a frame
 abbrev pub shared_state : PageState → Bool
-shared_state Private = false
-shared_state Waiting = false
-shared_state (Merged d) = true
-shared_state Zero = true
+shared_state state = is_shared (mapping_of state)
 
 -- each word is zero
 abbrev pub all_zero : List ℕ → Bool
@@ -80,17 +105,12 @@ all_zero words = list_all (λ w. w == 0) words
 
 -- mapped from the page of the dup with this number (mm/ksm)
 abbrev pub merged_into : ℕ → PageState → Bool
-merged_into number Private = false
-merged_into number Waiting = false
-merged_into number (Merged d) = d == number
-merged_into number Zero = false
+merged_into number state = is_in number (mapping_of state)
 
 -- out of the unstable tree (mm/ksm)
 abbrev pub settled_state : PageState → PageState
-settled_state Private = Private
 settled_state Waiting = Private
-settled_state (Merged d) = Merged d
-settled_state Zero = Zero
+settled_state state = state
 
 -- a Waiting row becomes Private, any other stays
 abbrev pub settled : Row → Row
