@@ -3,7 +3,7 @@
 use Rattle.ksm_pages.proofs.Names.{[], All, All-append, All-cons, All-filter, All-map, AllPairs, ap₂, AreAlone, arith, beside, Bool, CanMove, change_held, change_row, comes_before, cond_both}
 use Rattle.ksm_pages.proofs.Names.{count_by, count_by-le-length, count_change_row, count_with_row, count_without_page, DupRow, Entry, false, filter, filter_mapped, find_all, find_mapped, frame_of}
 use Rattle.ksm_pages.proofs.Names.{frame_seen, get_or-map, GuestPage, Held, held_at, held_in, holds, if◌then◌else◌, in_group, InPageOrder, InTree, is_alone, IsMoved, IsTally, Knobs, length}
-use Rattle.ksm_pages.proofs.Names.{length-map, lies_on, List, lodgings_of, map-append, map_mapped, marked, Named, None, one_if, Option, option_map, PageState, Private, refl, Row, row_at, rows_of}
+use Rattle.ksm_pages.proofs.Names.{length-map, lies_on, List, lodgings_of, map-append, map_mapped, mapping_of, marked, Named, None, one_if, Option, option_map, PageState, Private, refl, Row, row_at, rows_of}
 use Rattle.ksm_pages.proofs.Names.{rules, same_page, same_page_eq, same_page_sym, settled, settled_state, shares, Slab, Some, sym, Tally, tree_of, true, true≢false, waiting_state, with_held, with_row}
 use Rattle.ksm_pages.proofs.Names.{without_held, without_page, ℕ, ◌+◌, ◌<◌, ◌^◌, ◌∙◌, ◌∷◌, ◌≡◌, ◌≤◌}
 use Rattle.ksm_pages.proofs.Options.{none_mapped}
@@ -84,7 +84,7 @@ tally_put {rows} row absent alone are = search (rules, count_with_row)
 -- where what is held of a page lies: on a frame, or on none where nothing is held
 abbrev pub seat : (ℕ → Option ℕ) → Option Held → Option ℕ
 seat of_dup None = None
-seat of_dup (Some h) = frame_seen of_dup h.row.state h.frame
+seat of_dup (Some h) = frame_seen of_dup (mapping_of h.row.state) h.frame
 
 -- a page lies where what is held of it says
 pub frame_by : (of_dup : ℕ → Option ℕ) (held : List Held) (page : GuestPage) → frame_of (lodgings_of of_dup held) page ≡ seat of_dup (held_at page held)

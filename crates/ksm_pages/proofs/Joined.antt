@@ -1,6 +1,6 @@
 -- The pages once a page with a frame of its own joined a dup.
 use Rattle.ksm_pages.proofs.Names.{All, altered, ap, arith, change_items, changed, count_by, Dup, dup_of, dup_rows, DupRow, DupsState, each_at_page, Entry, false, find_none, frame_of, frame_seen}
-use Rattle.ksm_pages.proofs.Names.{get_or, GuestPage, has_number, HasRoom, Held, held_at, held_of, InPageOrder, Inside, is_some, length, lies_on, List, lodgings_of, Merged, merged_into}
+use Rattle.ksm_pages.proofs.Names.{get_or, GuestPage, has_number, HasRoom, Held, held_at, held_of, InPageOrder, Inside, is_some, length, lies_on, List, lodgings_of, mapping_of, Merged, merged_into}
 use Rattle.ksm_pages.proofs.Names.{merged_state, MOST_REFERENCES, nat_tests, None, number_found, Option, option_map, PageState, PagesValue, refl, relaid, row_found, rows_items, rows_of, RowsView}
 use Rattle.ksm_pages.proofs.Names.{seen, shared_state, shares, Some, subst, sym, tied_count, tied_joined, true, with_item, ℕ, ◌<◌, ◌==◌, ◌∙◌, ◌≡◌}
 use Rattle.ksm_tree.specs.Dups.{items_of as items_numbered}
@@ -46,7 +46,7 @@ item_lies of held rise number k d lt merged =
     grind (arith, frame_by of held r.page, found_rows r.page held, each_at_page (rows_of held) rise k d lt, merged)
 
 -- a page whose row is not shared lies on the frame of its own, if it has one
-pub seen_own : (of : ℕ → Option ℕ) (state : PageState) (own : Option ℕ) → shared_state state ≡ false → frame_seen of state own ≡ own
+pub seen_own : (of : ℕ → Option ℕ) (state : PageState) (own : Option ℕ) → shared_state state ≡ false → frame_seen of (mapping_of state) own ≡ own
 seen_own of state own alone = grind arith
 
 -- a page with a frame of its own lies on that frame

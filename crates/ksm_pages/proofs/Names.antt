@@ -21,8 +21,8 @@ pub use Rattle.ksm_pages.specs.Paged.{AreAlone, AreKept, at_home_on, changed, el
 pub use Rattle.ksm_pages.specs.Paged.{lies_on, live_at, lodging, lodgings_of, MayPair, NoneHas, of_guest, on_its_own, PagesValue, PagesView, paired, relaid, seen}
 pub use Rattle.ksm_pages.specs.Ordered.{AreAscending, is_of, marked, named_by, visited, with_named, without_named}
 pub use Rattle.ksm_pages.specs.Terms.{after_cursor, AreTied, best_dup, best_of, change_row, change_rows, comes_before, Dup, dup_numbered, dup_rows, DupRow, DupsState, fresh_row, GuestPage, has_item}
-pub use Rattle.ksm_pages.specs.Terms.{in_group, InPageOrder, IsPlace, Item, item_count, items_of, Knobs, let_out, Merged, merged_into, merged_state, MOST_REFERENCES, number_of, page_of, PageState}
-pub use Rattle.ksm_pages.specs.Terms.{partner, place_count, Private, private_state, Row, row_at, same_page, settled, shared_state, stored, tree_of, Waiting, waiting_state, waits_for, with_dup}
+pub use Rattle.ksm_pages.specs.Terms.{in_group, InPageOrder, IsPlace, Item, item_count, items_of, Knobs, let_out, mapping_of, Merged, merged_into, merged_state, MOST_REFERENCES, number_of, page_of}
+pub use Rattle.ksm_pages.specs.Terms.{PageState, partner, place_count, Private, private_state, Row, row_at, same_page, settled, shared_state, stored, tree_of, Waiting, waiting_state, waits_for, with_dup}
 pub use Rattle.ksm_pages.specs.Terms.{with_row, without_page, Zero, zero_state}
 pub use Rattle.ksm_pages.specs.Unstable.{AreLed, digest, holder, is_led, Keeps, KeepsOthers, keys_at, meets, place, stands_as, stands_under}
 pub use Rattle.ksm_pages.specs.declared.named.Named.{Named}

@@ -127,11 +127,11 @@ module _ {s : Inside} {p : PagesValue} {place : ℕ} {first second : GuestPage} 
 
   -- the first of two pages that can pair lies on the frame of its own
   pub lay_first : frame_of p.lodgings first ≡ Some one.at
-  lay_first = grind (arith, lies, own_first)
+  lay_first = sym (lies s are first it.found it.seen_as) ∙ own_first
 
   -- the second of two pages that can pair lies on the frame of its own
   pub lay_second : frame_of p.lodgings second ≡ Some other.at
-  lay_second = grind (arith, lies, own_seat)
+  lay_second = sym (lies s are second it.also it.seen_as) ∙ own_seat _ pass other may.second_alone
 
   module _ {tree : ℕ} (in_tree : (r : Row) → r.home ≡ other.home → tree ≡ tree_of s.knobs r) {later : DupsState}
       (is_made : later ≡ with_pair (record { number = s.dups.next; place = place; tree = tree; bytes = b.row.bytes }) first second s.dups)

@@ -114,8 +114,7 @@ state_of pass e = state_by e.kind e.number (e.number == pass && is_in e.in_tree)
 -- the frame of its own, if the kind has one
 abbrev pub frame_of : Kind → ℕ → Option ℕ
 frame_of kinds.Own at = Some at
-frame_of kinds.Merged at = None
-frame_of kinds.Zero at = None
+frame_of kind at = None
 
 -- the row that an entry stands for in a pass, with its frame
 abbrev pub held_of : ℕ → Entry → Held
@@ -135,8 +134,7 @@ held_of pass e = record {
 -- whether the kind is that of pages with frames of their own
 abbrev pub is_own : Kind → Bool
 is_own kinds.Own = true
-is_own kinds.Merged = false
-is_own kinds.Zero = false
+is_own kind = false
 
 -- a visit may change the entry's row: it is mergeable, and has a frame of its own
 abbrev pub is_restless : Entry → Bool

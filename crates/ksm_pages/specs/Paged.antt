@@ -2,9 +2,9 @@
 -- what is seen of them (own).
 use Rattle.std.specs.Prelude.{All, Bool, Contains, false, find, if◌then◌else◌, is_some, length, List, map, MatchOption, None, not, Option, option_and_then, option_map, slice_get, Some, true, ℕ, ◌&&◌}
 use Rattle.std.specs.Prelude.{◌+◌, ◌-◌, ◌<◌, ◌==◌, ◌^◌, ◌||◌, ◌≡◌, ◌≤◌}
-use Rattle.ksm_pages.specs.Terms.{after_cursor, AreTied, best_dup, change_row, change_rows, Dup, dup_numbered, dup_rows, DupRow, DupsState, every_row, frames_of, GuestPage, has_items, in_group}
-use Rattle.ksm_pages.specs.Terms.{InPageOrder, is_for_zero, is_of, IsShape, item_count, Knobs, let_out, Merged, merged_into, merged_state, MOST_REFERENCES, PageState, partner, Private, Row, row_at}
-use Rattle.ksm_pages.specs.Terms.{same_page, Shape, shared_state, tree_of, Waiting, waits_for, with_dup, Zero}
+use Rattle.ksm_pages.specs.Terms.{after_cursor, Alone, AreTied, best_dup, change_row, change_rows, Dup, dup_numbered, dup_rows, DupRow, DupsState, every_row, frames_of, GuestPage, has_items, in_group, InDup}
+use Rattle.ksm_pages.specs.Terms.{InPageOrder, is_for_zero, is_of, IsShape, item_count, Knobs, let_out, Mapping, mapping_of, Merged, merged_into, merged_state, MOST_REFERENCES, Nowhere, partner, Private, Row}
+use Rattle.ksm_pages.specs.Terms.{row_at, same_page, Shape, shared_state, tree_of, Waiting, waits_for, with_dup}
 use Rattle.ksm_pages.specs.declared.pages.Find.{Find}
 use Rattle.ksm_pages.specs.declared.pages.Find.TheVariants as finds
 use Rattle.ksm_pages.specs.declared.pages.Held.{Held}
@@ -205,16 +205,15 @@ Finds old new page found =
 abbrev pub lodging : List DupRow → List ℕ → ℕ → Option ℕ
 lodging dups frames number = option_and_then (λ d. slice_get frames d.place) (dup_numbered number dups)
 
--- where a row in a state lies: a merged one where its dup does, any other on the frame of its own, if it has one
-abbrev pub frame_seen : (ℕ → Option ℕ) → PageState → Option ℕ → Option ℕ
-frame_seen of_dup Private own = own
-frame_seen of_dup Waiting own = own
-frame_seen of_dup (Merged number) own = of_dup number
-frame_seen of_dup Zero own = None
+-- where a row lies by its mapping: in a dup where that does, alone on the frame of its own, if it has one
+abbrev pub frame_seen : (ℕ → Option ℕ) → Mapping → Option ℕ → Option ℕ
+frame_seen of_dup Alone own = own
+frame_seen of_dup (InDup number) own = of_dup number
+frame_seen of_dup Nowhere own = None
 
 -- where the pages of the rows lie
 abbrev pub lodgings_of : (ℕ → Option ℕ) → List HeldRow → List Lodging
-lodgings_of of_dup held = map (λ h. record { page = h.row.page; frame = frame_seen of_dup h.row.state h.frame }) held
+lodgings_of of_dup held = map (λ h. record { page = h.row.page; frame = frame_seen of_dup (mapping_of h.row.state) h.frame }) held
 
 -- no dup has the tree and bytes
 abbrev pub NoneHas : ℕ → List ℕ → List Dup → Type 0
@@ -239,4 +238,4 @@ pub record AreKept (shape : Shape) (knobs : Knobs) (rows : RowsView) (dups : Dup
 -- the page of a row is no item any more; it lay on this frame, if it did on one
 pub record IsLeft (frames : List ℕ) (old new : DupsState) (lone : Option ℕ) (h : HeldRow) : Type 0 where
   pub dups : new ≡ record old { dups = let_out h.row.state h.row.page old.dups }
-  pub frame : lone ≡ frame_seen (lodging (dup_rows old.dups) frames) h.row.state h.frame
+  pub frame : lone ≡ frame_seen (lodging (dup_rows old.dups) frames) (mapping_of h.row.state) h.frame

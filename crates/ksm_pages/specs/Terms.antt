@@ -5,8 +5,8 @@ pub use Rattle.ksm_base.specs.Counting.{counters_from, mergeable_count, shared_c
 pub use Rattle.ksm_base.specs.Knobs.{default_knobs}
 pub use Rattle.ksm_base.specs.Reading.{items_of, place_of}
 pub use Rattle.ksm_base.specs.Refusals.{is_of}
-pub use Rattle.ksm_base.specs.Rows.{all_zero as has_only_zeroes, change_row, change_rows, comes_before, dup_numbered, has_items, InPageOrder, is_stale, item_count, merged_into, merged_state}
-pub use Rattle.ksm_base.specs.Rows.{private_state, row_at, same_page, settled, settled as as_settled, shared_state, waiting_state, with_dup, with_row, without_page, zero_state}
+pub use Rattle.ksm_base.specs.Rows.{all_zero as has_only_zeroes, Alone, change_row, change_rows, comes_before, dup_numbered, has_items, InDup, InPageOrder, is_stale, item_count, Mapping, mapping_of}
+pub use Rattle.ksm_base.specs.Rows.{merged_into, merged_state, Nowhere, private_state, row_at, same_page, settled, settled as as_settled, shared_state, waiting_state, with_dup, with_row, without_page, zero_state}
 pub use Rattle.ksm_base.specs.State.{place_count, tree_of}
 pub use Rattle.ksm_base.specs.Values.{frames_of, IsShape}
 pub use Rattle.ksm_base.specs.Visit.{after_cursor, best_dup, is_for_zero, new_place as a_new_place, partner, waits_for}

@@ -1,7 +1,7 @@
 //! On which frame the page of a row lies, and how it leaves its dup before its row becomes another.
 
 ghost use Rattle.std.specs.Prelude.{◌≡◌, ⊤, MatchOption, option_and_then, slice_get};
-ghost use Rattle.ksm_pages.specs.Terms.{dup_rows};
+ghost use Rattle.ksm_pages.specs.Terms.{dup_rows, mapping_of};
 ghost use Rattle.ksm_pages.specs.Held.{held_at, held_of};
 ghost use Rattle.ksm_pages.specs.Paged.{IsLeft, frame_seen, lodging};
 
@@ -21,12 +21,11 @@ pub fn frame_at(frames: &[u32], place: Option<u32>) -> Option<u32>
 #[inline(always)]
 pub fn frame_of(dups: &Dups, frames: &[u32], entry: &Entry, pass: u64) -> Option<u32>
     ensures { let held = held_of pass entry.now in
-        result ≡ frame_seen (lodging (dup_rows dups.now.dups) frames.now) held.row.state held.frame }
+        result ≡ frame_seen (lodging (dup_rows dups.now.dups) frames.now) (mapping_of held.row.state) held.frame }
 {
     match entry.kind {
-        Kind::Own => Some(entry.at),
         Kind::Merged => frame_at(frames, dups.place_by(entry.at, entry.number)),
-        Kind::Zero => None,
+        _ => entry.own_frame(),
     }
 }
 
@@ -42,7 +41,6 @@ pub fn leave(dups: &mut Dups, frames: &[u32], rows: &Rows, spot: Spot) -> Option
             let place = dups.leave_at(entry.at, entry.number, entry.page);
             frame_at(frames, place)
         }
-        Kind::Own => Some(entry.at),
-        Kind::Zero => None,
+        _ => entry.own_frame(),
     }
 }

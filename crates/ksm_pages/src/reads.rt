@@ -110,7 +110,7 @@ impl Pages {
                 let other = self.rows.in_tree(tree, &entry.bytes)?;
                 self.waits(other).then_some(other)
             }
-            Kind::Own | Kind::Zero => None,
+            _ => None,
         }
     }
 
@@ -122,7 +122,7 @@ impl Pages {
         let entry = self.rows.find(self.rows.guess(page))?;
         match entry.kind {
             Kind::Merged => self.dups.place_by(entry.at, entry.number),
-            Kind::Own | Kind::Zero => None,
+            _ => None,
         }
     }
 

@@ -122,7 +122,7 @@ impl Entry {
     {
         match self.kind {
             Kind::Own => Some(self.at),
-            Kind::Merged | Kind::Zero => None,
+            _ => None,
         }
     }
 

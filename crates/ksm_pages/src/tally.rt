@@ -29,16 +29,16 @@ impl Tally {
         ensures { IsMoved from to self.old self.new }
     {
         match from {
-            PageState::Private => {}
             PageState::Waiting => self.waiting -= 1,
             PageState::Merged(_) => self.merged -= 1,
             PageState::Zero => self.zero -= 1,
+            _ => {}
         }
         match to {
-            PageState::Private => {}
             PageState::Waiting => self.waiting += 1,
             PageState::Merged(_) => self.merged += 1,
             PageState::Zero => self.zero += 1,
+            _ => {}
         }
     }
 
