@@ -1,7 +1,7 @@
 -- Lawful placement: how rows, dups and the keeper's frames agree (own).
 use Rattle.std.specs.Prelude.{All, cond, count_by, false, is_some, length, List, None, Option, Some, true, ℕ, ◌+◌, ◌/◌, ◌<◌, ◌≡◌, ◌≢◌, ◌≤◌}
-use Rattle.ksm_book.specs.Terms.{DupRow, Filling, frame_at, Frames, frames_of, Free, GenerationFits, KeeperView, Kind, Ledger, Life, Merged, merged_into}
-use Rattle.ksm_book.specs.Terms.{named_at, OwnPage, PAGE_WORDS, PageState, Private, Row, Shape, shared_state, Stable, Waiting, Zero, zero_state}
+use Rattle.ksm_book.specs.Terms.{Alone, DupRow, Filling, frame_at, Frames, frames_of, Free, GenerationFits, InDup, KeeperView, Kind, Ledger, Life, Mapping, mapping_of}
+use Rattle.ksm_book.specs.Terms.{merged_into, named_at, Nowhere, PAGE_WORDS, Private, Row, Shape, shared_state, Stable, unmapped_state}
 use Rattle.ksm_book.specs.Commands.{is_frame}
 
 -- the node on which a frame lies
@@ -16,12 +16,11 @@ uses f frame rows = count_by (λ r. is_frame f (frame r.page)) rows
 abbrev pub in_hand : ℕ → Option ℕ → ℕ
 in_hand f hand = cond (is_frame f hand) 1 0
 
--- the kind of the frame of a page in this state; a Zero page has none
-abbrev pub kind_for : PageState → Kind
-kind_for OwnPage = Private
-kind_for Waiting = Private
-kind_for (Merged d) = Stable
-kind_for Zero = Free
+-- the kind of the frame of a page with this mapping, if it has one
+abbrev pub kind_for : Mapping → Kind
+kind_for Alone = Private
+kind_for (InDup d) = Stable
+kind_for Nowhere = Free
 
 -- what a kind says of the number of the keeper's references
 abbrev pub FitsBase : Kind → ℕ → Type 0
@@ -47,9 +46,9 @@ IsInLife k p = (frame_at k (place_frame k p)).generation ≡ place_life k p
 
 -- frame f serves the row: it holds its bytes, and lies on its home if it is the row's own
 pub record RowFits (sh : Shape) (k : Ledger) (r : Row) (f : ℕ) : Type 0 where
-  pub mapped : zero_state r.state ≡ false
+  pub mapped : unmapped_state r.state ≡ false
   pub frame : f < frames_of sh
-  pub kind : (frame_at k f).kind ≡ kind_for r.state
+  pub kind : (frame_at k f).kind ≡ kind_for (mapping_of r.state)
   pub content : (frame_at k f).content ≡ r.bytes
   pub given : 1 ≤ (frame_at k f).generation
   pub node : shared_state r.state ≡ false → node_of sh f ≡ r.home
@@ -59,9 +58,9 @@ pub record Agrees (k : Ledger) (r : Row) (f : ℕ) (d : DupRow) : Type 0 where
   pub item : merged_into d.number r.state ≡ true → (f ≡ place_frame k d.place) × IsInLife k d.place
   pub back : IsInLife k d.place → f ≡ place_frame k d.place → merged_into d.number r.state ≡ true
 
--- a row lies on its frame beside the dups; a row without one is Zero
+-- a row lies on its frame beside the dups; a row without one is mapped nowhere
 abbrev pub IsServed : Shape → Ledger → List DupRow → Row → Option ℕ → Type 0
-IsServed sh k dups r None = zero_state r.state ≡ true
+IsServed sh k dups r None = unmapped_state r.state ≡ true
 IsServed sh k dups r (Some f) = RowFits sh k r f × All (Agrees k r f) dups
 
 -- the place of a dup names a frame in a life; while that lasts the frame holds the dup's bytes and is never Private

@@ -20,8 +20,8 @@ pub use Rattle.ksm_base.specs.Journal.{Entry, IsLegal, journal_after, last_store
 pub use Rattle.ksm_base.specs.Knobs.{default_knobs, is_in_range, setting, traits, with_value}
 pub use Rattle.ksm_base.specs.Reading.{bytes_of, mappers_of, ticket_of}
 pub use Rattle.ksm_base.specs.Refusals.{is_known, is_of, live_dup_at, setting_refusal}
-pub use Rattle.ksm_base.specs.Rows.{all_zero, change_row, change_rows, comes_before, has_items, InPageOrder, InPlaceOrder, is_stale, item_count, merged_into, merged_state, row_at, same_page, settled}
-pub use Rattle.ksm_base.specs.Rows.{shared_state, waiting_state, with_dup, with_row, without_page, zero_state}
+pub use Rattle.ksm_base.specs.Rows.{all_zero, Alone, change_row, change_rows, comes_before, has_items, InDup, InPageOrder, InPlaceOrder, is_stale, item_count, Mapping, mapping_of, merged_into, merged_state}
+pub use Rattle.ksm_base.specs.Rows.{Nowhere, row_at, same_page, settled, shared_state, unmapped_state, waiting_state, with_dup, with_row, without_page, zero_state}
 pub use Rattle.ksm_base.specs.Sound.{IsDupOf, IsSound}
 pub use Rattle.ksm_base.specs.State.{BookState, opening, pass_ended, place_count, tree_of}
 pub use Rattle.ksm_base.specs.Values.{frames_of, IsShape}
