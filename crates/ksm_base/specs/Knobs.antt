@@ -1,6 +1,6 @@
 -- The knobs by one table, which refusals, effects, soundness, the journal, C's numbers and the language read
 -- (admin-guide/mm/ksm; numbers and upper bounds own).
-use Rattle.std.specs.Prelude.{ℕ, ◌≤◌, Bool, true, false, ◌&&◌, nat_le, List, [], ◌∷◌, slice_get, codes, Option, Some, None}
+use Rattle.std.specs.Prelude.{ℕ, ◌≤◌, Bool, true, false, ◌&&◌, nat_le, List, [], ◌∷◌, find, ◌==◌, codes, Option, Some, None}
 use Rattle.ksm_base.specs.declared.limits.TheConstants.{MOST_REFERENCES}
 use Rattle.ksm_base.specs.declared.command.Command.{Command}
 use Rattle.ksm_base.specs.declared.command.Command.TheVariants.{SetRun, SetPagesToScan, SetAcross, SetLimit, SetZeroPages}
@@ -70,7 +70,7 @@ set_by command = None
 
 -- the knob of a number
 abbrev pub knob_numbered : ℕ → Option Knob
-knob_numbered = slice_get all_knobs
+knob_numbered number = find (λ knob. (traits knob).number == number) all_knobs
 
 -- a value is in the knob's range, both ends included
 abbrev pub is_in_range : Knob → ℕ → Bool
