@@ -4,7 +4,7 @@ use Rattle.ksm_book.specs.declared.state.State.TheInside.{Inside}
 use Rattle.ksm_book.proofs.Names.{absent_parts, All, All-map, Answer, any_found, ap, append-nil, arith, at_home_on, BookState, BookValue, BookView, Bool, change_row, change_rows}
 use Rattle.ksm_book.proofs.Names.{comes_before, Command, count_by-le-length, count_more, Done, Drop, DupRow, Err, false, Fault, filter, filter_passes, find, find_all, find_passes, find_put, FindsNone}
 use Rattle.ksm_book.proofs.Names.{frame_at, frames_of, fresh_row, get_or-append_seam, GuestPage, HasLeft, HasNewFrame, HasRemounted, Held, holding, IfSome, inl, InPageOrder, is_next, is_of}
-use Rattle.ksm_book.proofs.Names.{is_in_range, is_shared_of, is_some, IsCarried, IsHeld, IsLaid, IsReadable, IsSound, IsWritable, KeeperView, Knob, Knobs, leaving, left_by, length, length-append, let_go, lies_on}
+use Rattle.ksm_book.proofs.Names.{is_in_range, is_shared_of, is_some, IsCarried, IsHeld, IsLaid, IsReadable, IsSound, IsWritable, KeeperView, Knob, Knobs, leaving, left_by, length, length-append, let_go, lies_on, mapped_some}
 use Rattle.ksm_book.proofs.Names.{LiesWith, List, list_any, live_dup_at, lying, MakesSteps, map, map_alike, map_fixed, map_mapped, Mapped, MatchOption, MayLeave, MayMove, MayNotLeave, Mergeable}
 use Rattle.ksm_book.proofs.Names.{mergeable_count, MoveDup, MovePage, NoFrame, None, not, of_guest, Ok, Option, option_map, PAGE_WORDS, pages_ordered, PagesView, Provides, puts, refl, Register}
 use Rattle.ksm_book.proofs.Names.{relaid, Resettles, ResettlesEach, Row, row_at, same_page, same_page_refl, same_Some, seen, SetRun, shared_state, slice_get-get_or, slice_get_past, Some, sound_after}
@@ -47,6 +47,16 @@ carried_so same told h = grind (arith, h)
 -- the row of a page is found by the page that was told of it
 pub row_held : {p : PagesView} {page : GuestPage} {held : Held} (h : IsHeld p page held) → row_at held.spot.page p.rows ≡ Some h.row
 row_held h = rw h.spot h.found
+
+-- a page that is known has a row
+pub row_known : (page : GuestPage) (rows : List Row) → is_some (row_at page rows) ≡ true → (row : Row) × (row_at page rows ≡ Some row)
+row_known page rows known =
+    let there = mapped_some (λ (r : Row). true) (row_at page rows) {y = true} (grind (arith, known)) in
+    (there.0, there.1)
+
+-- a page that is neither merged nor Zero lies on the frame that was told as its own
+pub own_lies : {p : PagesView} {page : GuestPage} {held : Held} (h : IsHeld p page held) → held.shared ≡ false → p.frame page ≡ held.own
+own_lies h alone = grind (arith, h.shared, h.own)
 
 -- two changes that make the same of the row of a page change the rows alike
 pub changed_alike : (page : GuestPage) (c d : Row → Row) (rows : List Row) (row : Row) → InPageOrder rows → row_at page rows ≡ Some row → c row ≡ d row

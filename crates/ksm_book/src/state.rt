@@ -108,10 +108,10 @@ impl State {
         ensures frame { (view_of self.new).frame ≡ (view_of self.old).frame }
         ensures loads { LoadsIf ((view_of self.old).frame page) result self.old.keeper self.new.keeper }
     {
-        let held = self.pages.held(page)?;
-        match held.frame {
+        let (spot, frame) = self.pages.located(page)?;
+        match frame {
             Some(frame) => Some(load(&mut self.keeper, table, frame)),
-            None => Some(self.pages.bytes(held.spot)),
+            None => Some(self.pages.bytes(spot)),
         }
     }
 
@@ -173,7 +173,7 @@ impl State {
             return Ok(Reply::Done);
         }
         self.note_store(due, held.spot);
-        let Some(frame) = held.frame else {
+        let Some(frame) = held.own else {
             unreachable!()
         };
         write(&mut self.keeper, table, frame, bytes);

@@ -13,5 +13,5 @@ pub use item::Item;
 pub use leaf::Leaf;
 pub use node::Node;
 pub use part::Part;
-pub use place::{Keyed, is_place, place_near_end, place_of, stands_at};
+pub use place::{Keyed, is_place, place_near_end, place_near_start, place_of, stands_at};
 pub use vector::{insert_at, move_down, move_last};

@@ -82,6 +82,18 @@ pub fn place_near_end<T: Keyed>(items: &[T], key: u64) -> usize
     place_of(items, key)
 }
 
+/// The same, where that is mostly the first element.
+#[inline(always)]
+pub fn place_near_start<T: Keyed>(items: &[T], key: u64) -> usize
+    requires { AreInOrder T.key_of items.now }
+    ensures { IsPlace T.key_of key items.now result }
+{
+    if is_place(items, 0, key) {
+        return 0;
+    }
+    place_of(items, key)
+}
+
 /// Whether an element of a key stands at the index where it would.
 #[inline(always)]
 pub fn stands_at<T: Keyed>(items: &[T], at: usize, key: u64) -> bool

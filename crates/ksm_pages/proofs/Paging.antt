@@ -1,7 +1,7 @@
 -- What is read of the pages: rows and dups found by their pages, places and numbers, and the first page after a cursor.
 use Rattle.ksm_pages.proofs.Names.{after_cursor, All, any_found, ap, AreDups, AreTied, arith, Bool, comes_before, Dup, dup_at, dup_numbered, dup_of, dup_rows, DupRow, DupsState, each_at_page}
 use Rattle.ksm_pages.proofs.Names.{each_has_number, false, false_from_ne_true, filter_passes, find, find-append, find_all, find_none, find_nothing, find_passes, found_parts, found_passing, get_or}
-use Rattle.ksm_pages.proofs.Names.{GuestPage, has_number, Held, IfSome, InPageOrder, InPlaceOrder, Inside, is_live, is_next, is_some, is_stale, IsHeld, items_in, items_of, length, List, list_any}
+use Rattle.ksm_pages.proofs.Names.{GuestPage, has_number, Held, IfSome, InPageOrder, InPlaceOrder, Inside, is_live, is_next, is_some, is_stale, IsHeld, TellsNext, items_in, items_of, length, List, list_any}
 use Rattle.ksm_pages.proofs.Names.{live_at, live_placed, lodging, lodgings_of, MatchOption, merged_into, None, none-some, of_guest, Option, option_and_then, option_map, pages_ordered, PagesValue}
 use Rattle.ksm_pages.proofs.Names.{refl, Row, row_at, rows_of, same_page_eq, seen, slice_get, slice_get-get_or, Some, stale_alike, stands_at, sym, tied_counted, true, unwrap_or, unwrap_or-slice_get}
 use Rattle.ksm_pages.proofs.Names.{ℕ, ◌&&◌, ◌<◌, ◌==◌, ◌∙◌, ◌≡◌, ◌≤◌}
@@ -66,9 +66,8 @@ module _ (p : PagesValue) (guest : Option ℕ) (cursor : Option GuestPage) where
   abbrev next : Row → Bool
   next = is_next guest cursor
 
-  -- what is told of the row that comes next
   abbrev IsNext : Option Told → Type 0
-  IsNext told = MatchOption told (find next p.rows ≡ None) (λ held. IsHeld (seen p) held.spot.page held × (option_map (λ r. r.page) (find next p.rows) ≡ Some held.spot.page))
+  IsNext = TellsNext (seen p) guest cursor
 
   -- what is told of the page that comes next is what comes next
   pub told_next : InPageOrder p.rows → {page : GuestPage} → option_map (λ (r : Row). r.page) (find next p.rows) ≡ Some page → (told : Option Told)

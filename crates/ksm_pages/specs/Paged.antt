@@ -80,14 +80,14 @@ HasRow page rows P = MatchOption (row_at page rows) (true ≡ false) P
 abbrev pub IsAlone : GuestPage → List Row → Type 0
 IsAlone page rows = HasRow page rows (λ r. shared_state r.state ≡ false)
 
--- what is told of the row of a page: its home, whether it is merged or Zero, and where it lies
+-- what is told of the row of a page: its home, whether it is merged or Zero, and its frame where it is neither
 pub record IsHeld (p : PagesView) (page : GuestPage) (held : Held) : Type 0 where
   pub row : Row
   pub found : row_at page p.rows ≡ Some row
   pub spot : held.spot.page ≡ page
   pub home : held.home ≡ row.home
   pub shared : held.shared ≡ shared_state row.state
-  pub frame : held.frame ≡ p.frame page
+  pub own : held.own ≡ (if shared_state row.state then None else p.frame page)
 
 -- the items of the dup with a number lie on the frame
 abbrev pub ItemsLieOn : ℕ → ℕ → PagesView → Type 0
@@ -101,6 +101,12 @@ of_guest (Some guest) = is_of guest
 -- a row of the guest, or any row, after the cursor
 abbrev pub is_next : Option ℕ → Option GuestPage → Row → Bool
 is_next guest cursor r = of_guest guest r && after_cursor cursor r.page
+
+-- this is told of the first such row, if there is one
+abbrev pub TellsNext : PagesView → Option ℕ → Option GuestPage → Option Held → Type 0
+TellsNext p guest cursor told = let next = find (is_next guest cursor) p.rows in
+    MatchOption told (next ≡ None)
+    (λ held. (IsHeld p held.spot.page held) × (option_map (λ r. r.page) next ≡ Some held.spot.page))
 
 -- the page that waits in the tree of a merged row with its bytes, if one does
 abbrev pub page_beside : Knobs → List Row → Option Row → Option GuestPage

@@ -16,14 +16,15 @@ use ksm_tree::{Best, Dups};
 use std::alloc::Global;
 use std::marker::Model;
 
-/// Where a page lies, and where it is at home.
+/// How a page lies, and where it is at home.
 #[derive(Clone, Copy, Debug)]
 pub struct Held {
     pub spot: Spot,
     pub home: u32,
     /// Whether the page is merged or Zero.
     pub shared: bool,
-    pub frame: Option<u32>,
+    /// The frame of its own, where it is neither.
+    pub own: Option<u32>,
 }
 
 /// What a visit finds.

@@ -2,7 +2,7 @@
 
 ghost use Rattle.std.specs.Prelude.{◌≡◌, ◌≤◌, ◌==◌, true, false, None, Some, All, find, is_some, length, option_map, option_and_then, MatchOption, IfSome};
 ghost use Rattle.ksm_pages.specs.Terms.{after_cursor, comes_before, counters_from, mergeable_count, place_of, private_state, Row, row_at, waiting_state};
-ghost use Rattle.ksm_pages.specs.Paged.{IsHeld, IsKnown, is_next, of_guest, page_beside, seen};
+ghost use Rattle.ksm_pages.specs.Paged.{IsHeld, IsKnown, TellsNext, is_next, of_guest, page_beside, seen};
 
 use crate::left::frame_of;
 use crate::pages::{Held, Pages};
@@ -63,12 +63,24 @@ impl Pages {
         self.rows.has(self.rows.guess(page))
     }
 
-    /// Where a page lies, and where it is at home; none where it has no row.
+    /// How a page lies, and where it is at home; none where it has no row.
     #[inline(always)]
     pub fn held(&self, page: GuestPage) -> Option<Held>
         ensures { MatchOption result (row_at page self.now.rows ≡ None) (IsHeld (seen self.now) page) }
     {
         self.told(self.rows.guess(page))
+    }
+
+    /// The frame on which a page lies, if it does on one, with its spot; none where it has no row.
+    #[tactic(auto, using(crate::proofs::Leaving::row_seen))]
+    #[inline(always)]
+    pub fn located(&self, page: GuestPage) -> Option<(Spot, Option<u32>)>
+        ensures { MatchOption result (row_at page self.now.rows ≡ None) (λ at. (at.0.page ≡ page)
+            × IsKnown page self.now.rows × (at.1 ≡ (seen self.now).frame page)) }
+    {
+        let (spot, entry) = self.rows.look_up(self.rows.guess(page))?;
+        let frame = frame_of(&self.dups, &self.frames, entry, self.rows.pass());
+        Some((spot, frame))
     }
 
     /// The bytes of a page that has a row.
@@ -126,17 +138,25 @@ impl Pages {
         }
     }
 
-    /// The first page after the cursor, of the guest where one is given: where it lies, and where it is at home.
+    /// The first page after the cursor, of the guest where one is given: how it lies, and where it is at home.
+    #[inline(always)]
     pub fn next(&self, guest: Option<u16>, cursor: Option<GuestPage>) -> Option<Held>
-        ensures { let next = find (is_next guest cursor) self.now.rows in
-            MatchOption result (next ≡ None) (λ held. (IsHeld (seen self.now) held.spot.page held)
-            × (option_map (λ r. r.page) next ≡ Some held.spot.page)) }
+        ensures { TellsNext (seen self.now) guest cursor result }
     {
         self.lie_in_order();
         // Mostly no number is left out.
-        if let Some(spot) = self.following(guest, cursor) {
-            return self.told(spot);
+        match self.following(guest, cursor) {
+            Some(spot) => self.told(spot),
+            None => self.search_next(guest, cursor),
         }
+    }
+
+    // The same, where no key is guessed.
+    #[inline(never)]
+    fn search_next(&self, guest: Option<u16>, cursor: Option<GuestPage>) -> Option<Held>
+        ensures { TellsNext (seen self.now) guest cursor result }
+    {
+        self.lie_in_order();
         let spot = self.rows.after(start_of(guest, cursor))?;
         match guest {
             Some(guest) if spot.page.guest != guest => None,
@@ -196,7 +216,7 @@ impl Pages {
         self.rows.mergeable() == self.rows.len()
     }
 
-    // Where the page of a spot lies, and where it is at home.
+    // How the page of a spot lies, and where it is at home.
     #[tactic(auto, using(crate::proofs::Leaving::row_seen))]
     #[inline(always)]
     fn told(&self, spot: Spot) -> Option<Held>
@@ -207,7 +227,7 @@ impl Pages {
             spot,
             home: entry.home,
             shared: entry.own_frame().is_none(),
-            frame: frame_of(&self.dups, &self.frames, entry, self.rows.pass()),
+            own: entry.own_frame(),
         })
     }
 }

@@ -8,7 +8,7 @@ ghost use Rattle.ksm_rmap.specs.Keys.{page_of};
 
 use crate::key::{key_of, page_of};
 use ksm_base::{Fault, GuestPage};
-use ksm_order::{move_down, move_last, place_near_end, place_of, stands_at};
+use ksm_order::{move_down, move_last, place_near_end, place_near_start, place_of, stands_at};
 use smallvec::SmallVec;
 use std::alloc::{AllocError, Global};
 use std::marker::Model;
@@ -62,13 +62,14 @@ impl Items {
 
     /// Removes a page, and answers whether it was there.
     #[tactic(auto, using(crate::proofs::Keys::has_by_key))]
+    #[inline(always)]
     pub fn remove(&mut self, page: GuestPage) -> bool
         ensures found { result ≡ has_item page self.old }
         ensures removed { self.new ≡ without_item page self.old }
     {
         let key = key_of(page);
         let keys = self.keys.as_mut_slice();
-        let at = place_of(keys, key);
+        let at = place_near_start(keys, key);
         let found = stands_at(keys, at, key);
         if found {
             let left = keys.len() - 1;

@@ -1,17 +1,17 @@
 use Rattle.ksm_book.proofs.Names.{arith, Done, find_all, length, Ok, PAGE_WORDS, refl, rules, seen, Store, stored, sym, ◌<◌, ◌∙◌, ◌≡◌}
 use Rattle.ksm_book.proofs.Laying.{served_at, may_left, resettled, turned}
-use Rattle.ksm_book.proofs.Singles.{carried_so, Does, own_ready, row_held, lawful, store_copied, store_written}
+use Rattle.ksm_book.proofs.Singles.{carried_so, Does, own_lies, own_ready, row_held, lawful, store_copied, store_written}
 use Rattle.ksm_book.proofs.state.State.store.Goals as goal
 
 pub unreachable-requires : goal.unreachable-requires
 unreachable-requires c =
     let served = served_at c.self.invariant.1.placed _ c.in-Some.ensures.row c.in-Some.ensures.found in
-    grind (arith, c.in-Some.ensures.shared, c.in-Some.ensures.frame, c.if-held.false)
+    grind (arith, c.in-Some.ensures.shared, own_lies c.in-Some.ensures c.if-held.false, c.if-held.false)
 
 pub write-requires : goal.write-requires
 write-requires c =
     let alone = sym c.in-Some.ensures.shared ∙ c.if-held.false in
-    let lies = sym c.in-Some.ensures.frame ∙ c.in-Some-frame.is in
+    let lies = own_lies c.in-Some.ensures c.if-held.false ∙ c.in-Some-own.is in
     grind (arith, own_ready c.self.invariant.1 _ _ c.in-Some.ensures.found alone _ lies)
 
 written : (c : goal.After-store) → Does c.self.inside (seen c.store.new.self)
@@ -20,7 +20,7 @@ written c =
     let wide : length c.args.bytes.now ≡ PAGE_WORDS = search rules in
     store_written {row = c.in-Some.ensures.row} c.self.invariant.1 c.self.invariant.0.rows_rise (row_held c.in-Some.ensures) _
     c.store.ensures (sym c.in-Some.ensures.shared ∙ c.if-held.false)
-    (grind (arith, c.in-Some.ensures.spot, c.in-Some.ensures.frame, c.in-Some-frame.is))
+    (grind (arith, c.in-Some.ensures.spot, own_lies c.in-Some.ensures c.if-held.false, c.in-Some-own.is))
     c.write.ensures.wrote c.write.ensures.ledger wide
 
 pub returns-clause-carried : goal.returns-clause-carried

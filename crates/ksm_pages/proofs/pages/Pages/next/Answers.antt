@@ -1,21 +1,5 @@
-use Rattle.ksm_pages.proofs.Names.{arith, of_guest, Row, true, ◌≡◌}
-use Rattle.ksm_pages.proofs.Paging.{next_none, next_past, next_told, told_next}
+use Rattle.ksm_pages.proofs.Paging.{told_next}
 use Rattle.ksm_pages.proofs.pages.Pages.next.Goals as goal
 
 pub returns-in-Some : goal.returns-in-Some
 returns-in-Some c = told_next _ c.args.guest c.args.cursor c.lie_in_order.ensures.rise c.in-Some.ensures _ c.told.ensures
-
-pub returns-in_err-spot : goal.returns-in_err-spot
-returns-in_err-spot c =
-    next_none _ _ _ c.self.inside c.self.invariant c.self.view_is _ c.start_of.ensures.same c.in_err-spot.ensures c.from_residual.ensures
-
-pub returns-in-Some-guest : goal.returns-in-Some-guest
-returns-in-Some-guest c =
-    next_past _ _ _ c.self.inside c.self.invariant c.self.view_is _ c.start_of.ensures.same
-    _ c.in_ok-spot.ensures c.in-Some-guest.is c.if-spot-guest.true (grind arith)
-
-pub returns-in_default-guest : goal.returns-in_default-guest
-returns-in_default-guest c =
-    let own : (x : Row) → x.page ≡ c.in_ok-spot.spot.page → of_guest c.args.guest x ≡ true = grind arith in
-    next_told _ _ _ c.self.inside c.self.invariant c.self.view_is _ c.start_of.ensures.same
-    _ c.in_ok-spot.ensures own _ c.told-in_default-guest.ensures

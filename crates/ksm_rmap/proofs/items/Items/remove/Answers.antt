@@ -6,11 +6,11 @@ use Rattle.ksm_order.proofs.Places.{remove_here}
 use Rattle.ksm_rmap.proofs.Pages.{pages_ordered, refilled}
 use Rattle.ksm_rmap.proofs.items.Items.remove.Goals as goal
 
-here : (c : goal.After-truncate) → IsHere (λ k. k) c.key_of-key.result c.self.inside.keys.items c.place_of-at.result
+here : (c : goal.After-truncate) → IsHere (λ k. k) c.key_of-key.result c.self.inside.keys.items c.place_near_start-at.result
 here c = rw c.as_mut_slice-keys.ensures.value at (c.if-found.ensures.here refl)
 
 -- the key at its place goes
-gone : (c : goal.After-truncate) → c.truncate.new.self.items ≡ remove c.self.inside.keys.items c.place_of-at.result
+gone : (c : goal.After-truncate) → c.truncate.new.self.items ≡ remove c.self.inside.keys.items c.place_near_start-at.result
 gone c =
     let keys = c.self.inside.keys.items in
     let back : refill (length keys) keys c.move_down.new.items ≡ c.move_down.new.items = grind (arith, refilled keys c.move_down.new.items) in
@@ -24,7 +24,7 @@ pub invariant_of-self : goal.invariant_of-self
 invariant_of-self c = record {
   ascending = rw (removed c) (AllPairs-filter (λ (k l : ℕ). k < l) _ _ c.self.invariant.ascending);
   small = rw (removed c) (All-filter _ (λ (k : ℕ). k < 2 ^ 48) _ c.self.invariant.small);
-  few = omega (arith, ap length (gone c), length-remove c.self.inside.keys.items c.place_of-at.result (here c).within, c.self.invariant.few);
+  few = omega (arith, ap length (gone c), length-remove c.self.inside.keys.items c.place_near_start-at.result (here c).within, c.self.invariant.few);
 }
 
 pub returns-then-found-clause-removed : goal.returns-then-found-clause-removed
