@@ -99,6 +99,7 @@ fn make_mergeable(pages: &mut Pages, guest: u16)
 impl State {
     /// The merged and Zero pages of a guest get frames of their own, in order, until one finds none; the guest's pages
     /// up to there leave the scan.
+    #[inline(never)]
     pub fn unmerge(&mut self, table: &FrameTable, guest: u16) -> Result<Reply, Fault>
         requires own { self.old.keeper.table ≡ table.now }
         ensures { CarriesOut self.old self.new (Command.Unmerge guest) result }
@@ -111,6 +112,7 @@ impl State {
     }
 
     /// All pages of a guest become mergeable.
+    #[inline(never)]
     pub fn mergeable(&mut self, guest: u16) -> Result<Reply, Fault>
         ensures { CarriesOut self.old self.new (Command.Mergeable guest) result }
     {
@@ -123,6 +125,7 @@ impl State {
 
     /// All merged and Zero pages get frames of their own, in order, until one finds none. If none is left so, all pages
     /// are Private and not unchanged, and the next scan begins a pass; else the scan stands.
+    #[inline(never)]
     pub fn unshare(&mut self, table: &FrameTable) -> Result<Reply, Fault>
         requires own { self.old.keeper.table ≡ table.now }
         ensures { CarriesOut self.old self.new (Command.SetRun 2) result }
