@@ -111,7 +111,7 @@ impl State {
         let (spot, frame) = self.pages.located(page)?;
         match frame {
             Some(frame) => Some(load(&mut self.keeper, table, frame)),
-            None => Some(self.pages.bytes(spot)),
+            None => Some(*self.pages.bytes(spot)),
         }
     }
 
@@ -279,7 +279,7 @@ impl State {
         }
         let bytes = self.pages.bytes(held.spot);
         let shape = self.pages.shape();
-        let Some(frame) = take_frame(&mut self.keeper, table, shape, node, &bytes) else {
+        let Some(frame) = take_frame(&mut self.keeper, table, shape, node, bytes) else {
             return Err(Fault::NoFrame(node));
         };
         let left = self.pages.move_on(held.spot, frame, node);

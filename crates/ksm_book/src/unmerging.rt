@@ -40,7 +40,7 @@ fn leave(
     }
     let bytes = pages.bytes(held.spot);
     let shape = pages.shape();
-    let Some(frame) = take_frame(keeper, table, shape, held.home, &bytes) else {
+    let Some(frame) = take_frame(keeper, table, shape, held.home, bytes) else {
         return Err(Fault::NoFrame(held.home));
     };
     let left = if guest.is_some() {

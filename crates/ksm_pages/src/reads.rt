@@ -85,12 +85,13 @@ impl Pages {
 
     /// The bytes of a page that has a row.
     #[tactic(auto, using(crate::proofs::Leaving::row_seen, crate::proofs::Leaving::known_there))]
-    pub fn bytes(&self, spot: Spot) -> PageBytes
+    #[inline(always)]
+    pub fn bytes(&self, spot: Spot) -> &PageBytes
         requires { IsKnown spot.page self.now.rows }
-        ensures { option_map (λ r. r.bytes) (row_at spot.page self.now.rows) ≡ Some result }
+        ensures { option_map (λ r. r.bytes) (row_at spot.page self.now.rows) ≡ Some result.now }
     {
         match self.rows.find(spot) {
-            Some(entry) => entry.bytes,
+            Some(entry) => &entry.bytes,
             None => unreachable!(),
         }
     }
