@@ -4,7 +4,7 @@ ghost use Rattle.std.specs.Prelude.{◌≡◌, true, false, None, Some, Err, All
 ghost use Rattle.ksm_pages.specs.Terms.{as_let_go, as_settled, as_unshared, fresh_row, Memory, row_at, shared_state, stored, with_row, without_page};
 ghost use Rattle.ksm_pages.specs.Paged.{IsAlone, IsKnown, at_home_on, changed, lies_on, on_its_own, relaid, seen};
 
-use crate::left::leave;
+use crate::left::{leave, leave_by};
 use crate::pages::Pages;
 use crate::row::Spot;
 use ksm_base::{Fault, GuestPage, PageBytes};
@@ -128,12 +128,14 @@ impl Pages {
         ensures left { result ≡ (seen self.old).frame spot.page }
         ensures unshared { seen self.new ≡ relaid spot.page as_unshared (Some frame) (seen self.old) }
     {
-        let left = leave(&mut self.dups, &self.frames, &self.rows, spot);
-        self.rows.change(spot, |entry| {
+        let Some(was) = self.rows.change(spot, |entry| {
             entry.take_frame(frame);
             entry.unchanged = false;
-        });
-        left
+        })
+        else {
+            unreachable!()
+        };
+        leave_by(&mut self.dups, &self.frames, &was)
     }
 
     /// A page with a frame of its own waits no more, if it did.

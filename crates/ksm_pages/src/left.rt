@@ -1,6 +1,6 @@
 //! On which frame the page of a row lies, and how it leaves its dup before its row becomes another.
 
-ghost use Rattle.std.specs.Prelude.{◌≡◌, ⊤, MatchOption, option_and_then, slice_get};
+ghost use Rattle.std.specs.Prelude.{◌≡◌, ℕ, ⊤, MatchOption, option_and_then, slice_get};
 ghost use Rattle.ksm_pages.specs.Terms.{dup_rows, mapping_of};
 ghost use Rattle.ksm_pages.specs.Held.{held_at, held_of};
 ghost use Rattle.ksm_pages.specs.Paged.{IsLeft, frame_seen, lodging};
@@ -30,12 +30,19 @@ pub fn frame_of(dups: &Dups, frames: &[u32], entry: &Entry, pass: u64) -> Option
 }
 
 /// Takes the page of a spot out of its dup, if it is merged. Gives the frame on which it lay, if it did on one.
-#[tactic(auto, using(crate::proofs::Paging::place_numbered))]
 #[inline(always)]
 pub fn leave(dups: &mut Dups, frames: &[u32], rows: &Rows, spot: Spot) -> Option<u32>
     ensures { MatchOption (held_at spot.page rows.now.held) ⊤ (IsLeft frames.now dups.old dups.new result) }
 {
-    let entry = rows.find(spot)?;
+    leave_by(dups, frames, rows.find(spot)?)
+}
+
+/// The same, by what is kept of the row, or was before it changed.
+#[tactic(auto, using(crate::proofs::Paging::place_numbered))]
+#[inline(always)]
+pub fn leave_by(dups: &mut Dups, frames: &[u32], entry: &Entry) -> Option<u32>
+    ensures { (pass : ℕ) → IsLeft frames.now dups.old dups.new result (held_of pass entry.now) }
+{
     match entry.kind {
         Kind::Merged => {
             let place = dups.leave_at(entry.at, entry.number, entry.page);

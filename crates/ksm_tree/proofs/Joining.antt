@@ -1,7 +1,7 @@
 -- The best dup to join: a walk over a group, keeping the better of two, ends at the one that the definition chooses of all.
-use Rattle.ksm_tree.proofs.Names.{[], All, All-filter, All-map, ap, ArePlacesToJoin, arith, best_of, Bool, candidate_of, cases_Bool, cond, drop, drop_more, Dup, dup_at, false, filter, filter_map}
-use Rattle.ksm_tree.proofs.Names.{filter_passes, find, get_or, group_places, if◌then◌else◌, in_group, inl, InPlaceOrder, inr, is_no_worse, is_open, items_in, length, List, list_all, Lower, map}
-use Rattle.ksm_tree.proofs.Names.{may_join, nat_le, nat_lt, nat_tests, None, not, Option, pairs_head, pairs_tail, refl, rows_of, Some, suc, sym, true, zero, ℕ, ◌%◌, ◌&&◌, ◌+◌, ◌-◌, ◌<◌, ◌==◌, ◌^◌}
+use Rattle.ksm_tree.proofs.Names.{[], All, All-filter, All-map, ap, ArePlacesToJoin, arith, best_of, Bool, candidate_of, cases_Bool, cond, count_by, drop, drop_more, Dup, dup_at, false, filter, filter_map}
+use Rattle.ksm_tree.proofs.Names.{filter_passes, find, find_nothing, get_or, group_places, if◌then◌else◌, in_group, inl, InPlaceOrder, inr, is_best, is_live, is_no_worse, is_open, items_in, length, List, list_all, Lower, map}
+use Rattle.ksm_tree.proofs.Names.{may_join, nat_le, nat_lt, nat_tests, None, none_counted, not, Option, pairs_head, pairs_tail, refl, rows_of, Some, suc, sym, true, zero, ℕ, ◌%◌, ◌&&◌, ◌+◌, ◌-◌, ◌<◌, ◌==◌, ◌^◌}
 use Rattle.ksm_tree.proofs.Names.{◌||◌, ◌∙◌, ◌∷◌, ◌≡◌, ◌≤◌}
 use Rattle.std.specs.Option.{option_or}
 use Rattle.ksm_tree.proofs.Alike.{filter_mapped, map_mapped}
@@ -57,6 +57,11 @@ module _ (may : Dup → Bool) where
   walk_passing : (test : Dup → Bool) → ((d : Dup) → may d ≡ true → test d ≡ true) → (acc : Option Dup) (dups : List Dup) → walked acc (filter test dups) ≡ walked acc dups
   walk_passing test passes acc [] = refl
   walk_passing test passes acc (d ∷ dups) = grind (arith, passes d, walk_passing test passes (kept acc d) dups)
+
+-- where no dup has an item, none may be joined
+pub none_live : (tree : ℕ) (bytes : List ℕ) (limit : ℕ) (dups : List Dup) → count_by is_live dups ≡ 0 → best_of tree bytes limit dups ≡ None
+none_live tree bytes limit dups none =
+    find_nothing (is_best tree bytes limit dups) dups (λ k d lt. grind (arith, none_counted is_live dups none k d lt))
 
 -- in dups in order, each dup is what is found at its place
 found_self : (dups : List Dup) → InPlaceOrder (rows_of dups) → All (λ d. dup_at d.row.place dups ≡ Some d) dups

@@ -142,6 +142,10 @@ impl Dups {
         if chain.is_empty() {
             return None;
         }
+        // Where all pages were unshared, each dup is stale, and a chain long.
+        if chain.len() > 1 && self.slots.count_live() == 0 {
+            return None;
+        }
         self.best_in(found.content.tree, &found.content.bytes, chain, limit)
     }
 

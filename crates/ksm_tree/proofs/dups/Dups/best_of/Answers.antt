@@ -1,6 +1,6 @@
 use Rattle.ksm_tree.proofs.Names.{[], ap, arith, content_of, found_at, nil_from_length, option_map, sym, true, ◌∙◌}
 use Rattle.ksm_tree.proofs.Chained.{group_found, group_here}
-use Rattle.ksm_tree.proofs.Joining.{walk_best}
+use Rattle.ksm_tree.proofs.Joining.{none_live, walk_best}
 use Rattle.ksm_tree.proofs.Standing.{not_unused}
 use Rattle.ksm_tree.proofs.dups.Dups.best_of.Goals as goal
 
@@ -9,6 +9,11 @@ returns-then-is_empty-clause-best c = rw (← c.self.view_is) (λ tree bytes is.
     let empty = sym (nil_from_length c.as_slice-chain.result.now (grind (arith, c.if-is_empty.ensures))) in
     let none = empty ∙ c.as_slice-chain.ensures ∙ group_here c.self.invariant _ c.in_ok-found.ensures tree bytes is in
     ap (option_map found_at) (walk_best _ _ _ _ [] true none c.self.invariant.lawful.in_place_order))
+
+pub returns-then-count_live-eq0-clause-best : goal.returns-then-count_live-eq0-clause-best
+returns-then-count_live-eq0-clause-best c = rw (← c.self.view_is) (λ tree bytes is.
+    let dups = c.self.inside.slots.dups in
+    sym (ap (option_map found_at) (none_live tree bytes c.args.limit dups (grind (arith, c.count_live.ensures, c.if-count_live-eq0.true)))))
 
 pub best_in-requires : goal.best_in-requires
 best_in-requires c =
