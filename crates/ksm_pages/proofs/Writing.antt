@@ -1,5 +1,6 @@
 -- What each change of one row, found under its key, leaves: rows still, and what is seen of them.
-use Rattle.ksm_pages.proofs.Names.{absent_kept, altered, ap, AreLed, AreListed, arith, Bool, CanMove, change_held, change_none, Entry, false, Fills, find, find_none, get, GuestPage, has_item, Held}
+use Rattle.ksm_pages.proofs.Names.{absent_kept, All, All-cons, altered, ap, AreLed, AreListed, arith, Bool, CanMove, change_held, change_none, count_by, count_more, Entry, false, Fills, find, find_all}
+use Rattle.ksm_pages.proofs.Names.{find_none, get, GuestPage, has_item, Held, merged_state, one_if, Row, same_page, zero_state, [], ◌∷◌, ◌+◌}
 use Rattle.ksm_pages.proofs.Names.{held_at, held_in, held_of, held_under, holds, IfSome, inl, inr, is_of, is_restless, is_some, IsAddedTo, IsInVain, IsMoved, IsRows, IsUnder, key_in, length}
 use Rattle.ksm_pages.proofs.Names.{length-map, List, Listing, marked, Named, named_of, None, pages_ordered, PageState, Private, refl, row_at, rows_of, RowsView, rules, same_page_eq, same_page_refl}
 use Rattle.ksm_pages.proofs.Names.{shared_state, Slab, Some, state_of, StaysBegun, StaysLed, sym, Tally, true, Updates-with_value, with_held, with_named, with_value, without_held, without_named}
@@ -8,7 +9,7 @@ use Rattle.ksm_pages.proofs.Options.{none_mapped}
 use Rattle.ksm_pages.specs.declared.row.Kind.TheVariants as kinds
 use Rattle.ksm_pages.specs.declared.rows.Rows.TheInside.{Inside}
 use Rattle.ksm_pages.proofs.Changing.{can_move, marked_same, row_told, rows_changed, rows_with, rows_without, tally_changed, tally_gone, tally_put}
-use Rattle.ksm_pages.proofs.Filing.{all_filled, all_held, AreRows, filed_marked, filed_put, filed_taken, held_found, held_nowhere, named_under, one_key, put, rows_rise, taken, unmarked, view, view_of}
+use Rattle.ksm_pages.proofs.Filing.{all_filled, all_held, AreRows, filed_marked, filed_put, filed_taken, held_found, held_nowhere, named_under, one_key, put, row_found, rows_rise, taken, unmarked, view, view_of}
 use Rattle.ksm_pages.proofs.Filing.{written}
 use Rattle.ksm_pages.proofs.Leading.{led_less, led_written}
 use Rattle.ksm_pages.proofs.Found.{write_rises}
@@ -174,6 +175,35 @@ module _ (s : Inside) (are : AreRows s) {v : RowsView} (seen_as : view_of s ≡ 
   -- once an entry came under a vacant key with a name, the rows are seen with its row
   pub viewed_put : view s.by_node s.pass later (with_named (named_of key e) s.order) ≡ record v { held = with_held (held_of s.pass e) v.held }
   viewed_put = grind (arith, held_put)
+
+-- where as many rows are merged or Zero as there are, each is
+module _ where
+  abbrev merged_or_zero : List Row → ℕ
+  merged_or_zero rows = count_by (λ r. merged_state r.state) rows + count_by (λ r. zero_state r.state) rows
+
+  shared_more : (r : Row) (rows : List Row) → merged_or_zero (r ∷ rows) ≡ merged_or_zero rows + one_if (shared_state r.state)
+  shared_more r rows = grind (arith, count_more (λ s. merged_state s.state) r rows, count_more (λ s. zero_state s.state) r rows)
+
+  shared_few : (rows : List Row) → merged_or_zero rows ≤ length rows
+  shared_few [] = omega arith
+  shared_few (r ∷ rows) = grind (arith, shared_more r rows, shared_few rows)
+
+  pub all_shared : (rows : List Row) → length rows ≤ merged_or_zero rows → All (λ r. shared_state r.state ≡ true) rows
+  all_shared [] few = λ k d lt. absurd (omega arith)
+  all_shared (r ∷ rows) few =
+      All-cons (λ s. shared_state s.state ≡ true) r rows (grind (arith, shared_more r rows, shared_few rows))
+      (all_shared rows (grind (arith, shared_more r rows)))
+
+-- where each row is shared, rows are lawful under a list of none
+pub none_restless : (s : Inside) → AreRows s → All (λ r. shared_state r.state ≡ true) (rows_of (all_held s)) → {now : Listing} → now.pages ≡ []
+    → IsRows s.entries s.order now s.tally s.pass
+none_restless s are shared {now} none = search (rules, listed)
+  where
+    listed : now.known ≡ true → AreListed s.entries now.pages
+    listed is k e stands may =
+        let found = row_told e.page (all_held s) (row_found s are k e stands) in
+        let state = find_all (λ r. same_page r.page e.page) (λ r. shared_state r.state ≡ true) (rows_of (all_held s)) _ found shared in
+        grind arith
 
 -- rows are lawful under a list that lost only pages that were there in vain
 pub swept_rows : (s : Inside) → AreRows s → {now : Listing} → now.known ≡ s.restless.known

@@ -611,7 +611,9 @@ impl Rows {
     }
 
     // How many rows have frames of their own.
-    fn count_alone(&self) -> usize {
+    fn count_alone(&self) -> usize
+        ensures { result ≡ 0 → All (λ r. shared_state r.state ≡ true) (rows_of self.now.held) }
+    {
         self.order
             .len()
             .saturating_sub(self.tally.merged)
@@ -714,6 +716,10 @@ impl Rows {
     pub fn sweep_restless(&mut self)
         ensures { self.new ≡ self.old }
     {
-        self.restless.sweep(&self.entries, &self.order);
+        if self.count_alone() == 0 {
+            self.restless.clear();
+        } else {
+            self.restless.sweep(&self.entries, &self.order);
+        }
     }
 }
