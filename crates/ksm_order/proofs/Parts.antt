@@ -1,9 +1,11 @@
 -- A list in order that is cut in three, what comes before a key, the part in which the key is or would be, and what comes
 -- behind it: each call answers of the list what it answers of that part. And parts side by side, one of them that of a key.
 use Rattle.ksm_order.proofs.Names.{[], All, All-tail, ap, append-nil, append_assoc, AreAscending, AreBefore, AreBehind, AreParts, arith, begins_behind, Bool, cond, count-append, count_more, drop}
-use Rattle.ksm_order.proofs.Names.{drop_more, false, filter, filter-append, find, find-append, flat_map, flat_map-append, get_or, get_or-append-add, get_or_append_left, is_at, is_from, IsHere}
+use Rattle.ksm_order.proofs.Names.{drop_more, false, filter, filter-append, find, find-append, find_passes, is_some, Option, Some, sym, flat_map, flat_map-append, get_or, get_or-append-add, get_or_append_left, get_or_default, is_at, is_from, IsHere}
 use Rattle.ksm_order.proofs.Names.{IsPartOf, IsPlace, Item, key_at, length, length-append, length-drop, length-take-le, List, many, map-append, marked, nat_lt, nat_tests, None, refl, set, set_split}
 use Rattle.ksm_order.proofs.Names.{slice_get, slice_get-get_or, slice_get_past, suc, take, take-append-drop, true, up_to, with_item, with_mark, zero, ℕ, ◌&&◌, ◌++◌, ◌+◌, ◌-◌, ◌<◌, ◌∷◌, ◌≡◌, ◌≢◌, ◌≤◌}
+use Rattle.ksm_base.proofs.Edits.{find_all}
+use Rattle.std.proofs.Common.{true≢false}
 use Rattle.std.specs.Option.{option_or}
 use Rattle.std.proofs.lemmas.List.Sums.{count_by-le-length, length-filter}
 use Rattle.ksm_order.proofs.Ordered.{absent_parts, numbers_ordered}
@@ -212,3 +214,25 @@ module _ {P : Type 0} {f : P → List Item} {key : ℕ} {parts : List P} {at : �
 
 -- what a part says of all
 pub ruleset steps = (find_in_part, many_front)
+
+-- the part that has the item of a key is the part of the key
+module _ {P : Type 0} {f : P → List Item} {parts : List P} {at : ℕ} {q : P} (are : AreParts f parts) (within : at < length parts) (is : q ≡ get_or parts at q) {key : ℕ} where
+  part_with : (o : Option Item) → find (is_at key) (f q) ≡ o → is_some o ≡ true → IsPartOf f key parts at
+  part_with None found there = absurd (true≢false (sym there))
+  part_with (Some x) found there =
+      let all = halves_rise (front f parts at) (f q ++ rest f parts at) (grind (arith, cut f parts at within is, are.ascending)) in
+      let own = halves_rise (f q) (rest f parts at) all.1 in
+      let key_is = find_passes (is_at key) (f q) x found in
+      record {
+        within = within;
+        ahead = λ k d lt. grind (
+          arith,
+          key_is,
+          find_all (is_at key) (λ y. (get_or (front f parts at) k d).key < y.key) (f q) x found
+              (λ i e less. grind (arith, all.2 k i d lt, get_or_default (f q) i d e, get_or_append_left (f q) (rest f parts at) d i, length-append (f q) (rest f parts at))),
+        );
+        behind = λ k d lt. grind (arith, key_is, find_all (is_at key) (λ y. y.key < (get_or (rest f parts at) k d).key) (f q) x found (λ i e less. grind (arith, own.2 i k d less lt, get_or_default (f q) i d e)));
+      }
+
+  pub part_having : is_some (find (is_at key) (f q)) ≡ true → IsPartOf f key parts at
+  part_having there = part_with _ refl there

@@ -116,6 +116,18 @@ impl Part for Leaf {
         }
     }
 
+    fn mark_next(&mut self, key: u64, mark: bool) -> Option<bool> {
+        let at = self.next;
+        if at >= self.items.len() || self.items[at].key != key {
+            return None;
+        }
+        self.next = at + 1;
+        let was = self.items[at].marked;
+        self.items[at].marked = mark;
+        self.count = self.count - usize::from(was) + usize::from(mark);
+        Some(was)
+    }
+
     fn is_empty(&self) -> bool {
         self.items.is_empty()
     }

@@ -209,6 +209,7 @@ fn take_out<P: Part>(parts: &mut Vec<P>, last: &mut usize, key: u64) -> usize
 }
 
 /// Marks the item of a key in its part, or takes its mark away. Answers how many of that part were marked, and are.
+#[inline(never)]
 fn mark_in<P: Part>(parts: &mut Vec<P>, last: &mut usize, key: u64, mark: bool) -> (usize, usize)
     requires parts { AreParts P.items parts.old.items }
     requires few { length (flat_map P.items parts.old.items) < 2 ^ 64 }
@@ -256,9 +257,23 @@ impl<P: Part> Part for Node<P> {
         self.count -= fewer;
     }
 
+    #[inline(always)]
     fn set_mark(&mut self, key: u64, mark: bool) {
-        let (was, is) = mark_in(&mut self.parts, &mut self.last, key, mark);
-        self.count = self.count - was + is;
+        // Pages are mostly marked in order.
+        if self.mark_next(key, mark).is_none() {
+            let (was, is) = mark_in(&mut self.parts, &mut self.last, key, mark);
+            self.count = self.count - was + is;
+        }
+    }
+
+    fn mark_next(&mut self, key: u64, mark: bool) -> Option<bool> {
+        let at = self.last;
+        if at >= self.parts.len() {
+            return None;
+        }
+        let was = self.parts[at].mark_next(key, mark)?;
+        self.count = self.count - usize::from(was) + usize::from(mark);
+        Some(was)
     }
 
     #[tactic(auto, using(crate::proofs::Changes::nothing_of_parts))]

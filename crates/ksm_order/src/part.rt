@@ -1,6 +1,7 @@
 //! What each height of the tree promises.
-ghost use Rattle.std.specs.Prelude.{◌≡◌, ◌==◌, ◌<◌, ◌^◌, List, [], ◌∷◌, None, IfNone, IfOk, IfSome, OnErr, OnOk, find};
+ghost use Rattle.std.specs.Prelude.{◌≡◌, ◌==◌, ◌<◌, ◌^◌, List, [], ◌∷◌, None, IfNone, IfOk, IfSome, OnErr, OnOk, ◌+◌, ◌≤◌, find, is_some, true};
 ghost use Rattle.std.specs.Prelude.{length};
+ghost use Rattle.std.specs.Int.{from_bool};
 ghost use Rattle.ksm_order.specs.Listed.{IsCut, begins_behind, is_at, is_from, key_at};
 ghost use Rattle.ksm_order.specs.Listed.{many, marked, up_to, with_item, with_mark, without};
 ghost use Rattle.ksm_order.specs.declared.item.Item.{Item as TheItem};
@@ -30,6 +31,15 @@ pub trait Part: Drop {
     fn set_mark(&mut self, key: u64, mark: bool)
         requires few { length (items self.old) < 2 ^ 64 }
         ensures { items self.new ≡ with_mark key mark (items self.old) };
+
+    /// The same where the item is known to be the one behind that which was changed last. Gives its mark then.
+    fn mark_next(&mut self, key: u64, mark: bool) -> Option<bool>
+        requires few { length (items self.old) < 2 ^ 64 }
+        ensures there { IfSome result (λ _. is_some (find (is_at key) (items self.old)) ≡ true) }
+        ensures marked { IfSome result (λ _. items self.new ≡ with_mark key mark (items self.old)) }
+        ensures counted { IfSome result (λ was. (from_bool was ≤ many (items self.old))
+            × (many (items self.new) + from_bool was ≡ many (items self.old) + from_bool mark)) }
+        ensures kept { IfNone result (self.new ≡ self.old) };
 
     /// Whether there is no item.
     fn is_empty(&self) -> bool
