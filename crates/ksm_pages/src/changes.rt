@@ -112,13 +112,15 @@ impl Pages {
         ensures left { result ≡ (seen self.old).frame spot.page }
         ensures gone { seen self.new ≡ relaid spot.page as_let_go (Some frame) (seen self.old) }
     {
-        let left = leave(&mut self.dups, &self.frames, &self.rows, spot);
-        self.rows.change(spot, |entry| {
+        let Some(was) = self.rows.change(spot, |entry| {
             entry.take_frame(frame);
             entry.mergeable = false;
             entry.unchanged = false;
-        });
-        left
+        })
+        else {
+            unreachable!()
+        };
+        leave_by(&mut self.dups, &self.frames, &was)
     }
 
     /// The page gets a frame of its own in the stead of what it had, and is not unchanged. Gives the frame where it
