@@ -145,7 +145,7 @@ impl<P: Part> Order<P> {
 
     /// A scan visits the page from now on, or does not, if it is there.
     #[tactic(auto, using(crate::proofs::Ranked::marked_by))]
-    #[inline(always)]
+    #[inline(never)]
     pub fn mark(&mut self, page: GuestPage, mergeable: bool)
         ensures { self.new ≡ marked page mergeable self.old }
     {
