@@ -28,7 +28,8 @@ pub enum Visited {
 impl State {
     /// Visits a page, if its row is one that a visit may change. Where memory is refused, nothing changes.
     ///
-    /// Of a page that waited in the last pass, or is merged by now, mostly a glance tells all.
+    /// Of a page that waited in the last pass, or is merged by now, mostly a glance tells all. Any other is visited in
+    /// a function of its own, so that what it needs is not laid out before.
     #[inline(always)]
     pub fn visit(&mut self, table: &FrameTable, spot: Spot) -> Result<Visited, Fault>
         requires own { self.old.keeper.table ≡ table.now }
@@ -46,7 +47,7 @@ impl State {
     }
 
     // The same for any page.
-    #[inline(always)]
+    #[inline(never)]
     fn visit_any(&mut self, table: &FrameTable, spot: Spot) -> Result<Visited, Fault>
         requires own { self.old.keeper.table ≡ table.now }
         ensures own { self.new.keeper.table ≡ self.old.keeper.table }
@@ -77,7 +78,6 @@ impl State {
     }
 
     // A page joins the best dup that it may join.
-    #[inline(always)]
     pub(crate) fn join(&mut self, table: &FrameTable, spot: Spot, best: Best) -> Result<(), Fault>
         requires own { self.old.keeper.table ≡ table.now }
         requires found { FindsStill (view_of self.old) spot.page (Find.Dup best) }

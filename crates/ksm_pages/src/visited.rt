@@ -99,7 +99,6 @@ impl Pages {
 
     /// What a visit of a page finds, and what it changes by that alone. Refused for memory alone, it changes nothing.
     #[tactic(auto, using(crate::proofs::Leaving::row_seen, crate::proofs::Spots::restless_as))]
-    #[inline(always)]
     pub fn visit(&mut self, spot: Spot) -> Result<Find, Fault>
         ensures found { IfOk result (Finds (seen self.old) (seen self.new) spot.page) }
         ensures refused { OnErr result (self.new ≡ self.old) }
@@ -145,7 +144,6 @@ impl Pages {
 
     /// A page with a frame of its own joins a dup that has an item, and lies where its items do. Gives the frame that
     /// it leaves. Refused for memory alone, it changes nothing.
-    #[inline(always)]
     pub fn join(&mut self, spot: Spot, best: Best) -> Result<u32, Fault>
         requires alone { IsAlone spot.page self.old.rows }
         requires room { HasRoom self.old.rows self.old.dups best.number }

@@ -150,7 +150,7 @@ impl Dups {
     }
 
     // The dup that a page of a tree and these bytes joins, where the places of their dups are known.
-    #[inline(never)]
+    #[inline(always)]
     fn best_in(&self, tree: u32, bytes: &PageBytes, chain: &[u32], limit: u32) -> Option<Best>
         requires { chain.now ≡ group_places tree bytes.now (rows_of self.now.dups) }
         ensures { result ≡ option_map found_at (best_of tree bytes.now limit self.now.dups) }
