@@ -42,6 +42,7 @@ impl State {
         match self.pages.glance(spot) {
             Glance::Gone => Ok(Visited::Gone),
             Glance::Waits => Ok(Visited::Same),
+            Glance::Changed => Ok(Visited::Changed),
             Glance::Nothing => self.visit_any(table, spot),
         }
     }

@@ -51,6 +51,8 @@ pub enum Glance {
     Gone,
     /// The page waits, from now on.
     Waits,
+    /// The page was not unchanged. It is from now on.
+    Changed,
     /// Neither.
     Nothing,
 }

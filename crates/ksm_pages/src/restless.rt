@@ -8,7 +8,7 @@
 //! where more than half of the list is there in vain.
 
 ghost use Rattle.std.specs.List.Sorted.{IsPermutation};
-ghost use Rattle.std.specs.Prelude.{◌≡◌, ◌≤◌, ◌||◌, [], true, false, length, All, OnOk, IfNone, IfSome, IsTrue};
+ghost use Rattle.std.specs.Prelude.{◌≡◌, ◌≤◌, ◌||◌, ◌++◌, ◌∷◌, [], true, false, length, All, OnErr, OnOk, IfNone, IfSome, IsTrue};
 ghost use Rattle.ksm_pages.specs.Terms.{after_cursor, comes_before, GuestPage, has_item, IsPlace, same_page};
 ghost use Rattle.ksm_pages.specs.Filed.{IsInVain, is_useless as is_of_no_use};
 ghost use Rattle.ksm_pages.specs.Held.{AreInOrder, AreSmall, HasGap, IsAddedTo, IsPutAmong, low_spot};
@@ -139,6 +139,20 @@ fn put_each(listed: &mut Vec<Listed>, guess: &mut usize, added: &[Listed]) -> Re
         if at < *guess {
             *guess = guess.saturating_add(1);
         }
+    }
+    Ok(())
+}
+
+/// Puts a page behind others. Where there is room for it, that is no call.
+#[inline(always)]
+fn push_to(listed: &mut Vec<Listed>, one: Listed) -> Result<(), AllocError>
+    ensures added { OnOk result (listed.new.items ≡ listed.old.items ++ one ∷ []) }
+    ensures kept { OnErr result (listed.new.items ≡ listed.old.items) }
+{
+    if listed.len() < listed.capacity() {
+        listed.push_reserved(one);
+    } else {
+        listed.push(one)?;
     }
     Ok(())
 }
@@ -294,10 +308,10 @@ impl Restless {
             row: spot.key,
         };
         if self.ready && is_place(self.listed.as_slice(), self.listed.len(), listed.page + 1) {
-            self.listed.push(listed)?;
+            push_to(&mut self.listed, listed)?;
         } else {
             self.ready = false;
-            self.added.push(listed)?;
+            push_to(&mut self.added, listed)?;
         }
         Ok(())
     }

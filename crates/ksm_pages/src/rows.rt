@@ -553,6 +553,25 @@ impl Rows {
         self.tally.change(old, PageState::Waiting);
     }
 
+    /// A row with a frame of its own is unchanged from now on, and waits no more. It remembers a guess of the number of
+    /// its group of dups.
+    #[tactic(auto, using(crate::proofs::Writing::nothing, crate::proofs::Writing::own_there))]
+    #[inline(always)]
+    pub fn note_unchanged(&mut self, spot: Spot, group: u32)
+        requires { IfSome (held_at spot.page self.old.held) (λ h. shared_state h.row.state ≡ false) }
+        ensures { self.new ≡ altered spot.page (on_row (λ r. record (settled r) { unchanged = true })) self.old }
+    {
+        let Some(key) = key_of(&self.entries, &self.order, spot) else {
+            return;
+        };
+        let entry = &mut self.entries[key];
+        let old = entry.state_alone(self.pass);
+        entry.unchanged = true;
+        entry.group = group;
+        entry.number = 0;
+        self.tally.change(old, PageState::Private);
+    }
+
     /// Each node has an unstable tree of its own, or all have one; where that is another than before, the tree leads
     /// to no row.
     pub fn set_by_node(&mut self, by_node: bool)
@@ -569,10 +588,10 @@ impl Rows {
 
     // ------------------------------------------------------------ how a page is mapped
 
-    /// The page of a row is mapped from the frame of the dup with a number, at a place that is a guess. Gives the frame
-    /// that it had of its own.
+    /// The page of a row is mapped from the frame of the dup with a number. The dup's place and its group are guesses.
+    /// Gives the frame that the row had of its own.
     #[inline(always)]
-    pub fn merge(&mut self, spot: Spot, number: u64, place: u32) -> Option<u32>
+    pub fn merge(&mut self, spot: Spot, number: u64, place: u32, group: u32) -> Option<u32>
         ensures left { result ≡ option_and_then (λ h. h.frame) (held_at spot.page self.old.held) }
         ensures merged { self.new ≡ altered spot.page (shares (Merged number)) self.old }
     {
@@ -580,6 +599,7 @@ impl Rows {
             entry.kind = Kind::Merged;
             entry.number = number;
             entry.at = place;
+            entry.group = group;
             entry.in_tree = entry.in_tree.beside();
         })?;
         self.restless.let_be();

@@ -69,13 +69,15 @@ fn joins_none(dups: &Dups, entry: &Entry, tree: u32, limit: u32) -> bool
 
 impl Pages {
     /// A first look at a page that is visited. It tells whether a visit may change the row, where that lies where it
-    /// was guessed; and of an unchanged page whether it waits, where the unstable tree leads to it and there is no dup
-    /// that it may join. Then it waits from now on. Where a look tells nothing, nothing changes, and `visit` tells.
+    /// was guessed; of a page that was not unchanged that it is from now on, where no dup has an item; and of an
+    /// unchanged page whether it waits, where the unstable tree leads to it and there is no dup that it may join. Then
+    /// it waits from now on. Where a look tells nothing, nothing changes, and `visit` tells.
     #[tactic(auto, using(crate::proofs::Leaving::row_seen, crate::proofs::Spots::restless_as))]
     #[inline(always)]
     pub fn glance(&mut self, spot: Spot) -> Glance
         ensures gone { result ≡ Glance.Gone → Finds (seen self.old) (seen self.new) spot.page finds.Gone }
         ensures waits { result ≡ Glance.Waits → Finds (seen self.old) (seen self.new) spot.page finds.Waits }
+        ensures changed { result ≡ Glance.Changed → Finds (seen self.old) (seen self.new) spot.page finds.Changed }
         ensures nothing { result ≡ Glance.Nothing → self.new ≡ self.old }
     {
         let Some(entry) = self.rows.at(spot) else {
@@ -84,7 +86,16 @@ impl Pages {
         if !entry.is_restless() {
             return Glance::Gone;
         }
-        if !entry.in_tree.is_in() || !entry.unchanged || is_for_zero(&self.knobs, &entry.bytes) {
+        if !entry.unchanged {
+            // Where all pages were unshared, each first visit ends here.
+            if self.dups.count_shared() != 0 {
+                return Glance::Nothing;
+            }
+            let group = entry.group;
+            self.rows.note_unchanged(spot, group);
+            return Glance::Changed;
+        }
+        if !entry.in_tree.is_in() || is_for_zero(&self.knobs, &entry.bytes) {
             return Glance::Nothing;
         }
         let tree = tree_in(&self.knobs, entry.home);
@@ -118,11 +129,7 @@ impl Pages {
             return Ok(Find::Dup(best));
         }
         if !entry.unchanged {
-            self.rows.change(spot, |entry| {
-                entry.unchanged = true;
-                entry.group = group.unwrap_or(NO_NUMBER);
-                entry.forget_pass();
-            });
+            self.rows.note_unchanged(spot, group.unwrap_or(NO_NUMBER));
             return Ok(Find::Changed);
         }
         if is_for_zero(&self.knobs, &entry.bytes) {
@@ -157,10 +164,11 @@ impl Pages {
         ensures refused { OnErr result (self.new ≡ self.old) }
         ensures fault { OnErr result (result ≡ Err Memory) }
     {
+        let group = self.dups.group_at(best.place);
         let place = self.dups.join_at(best.place, best.number, spot.page)?;
         // Called for its contract alone: a row that is not shared has a frame.
         self.rows.are_lawful();
-        let Some(lone) = self.rows.merge(spot, best.number, place) else {
+        let Some(lone) = self.rows.merge(spot, best.number, place, group) else {
             unreachable!()
         };
         Ok(lone)
@@ -189,8 +197,8 @@ impl Pages {
             .dups
             .found(group, place, tree, &other.bytes, first.page, second.page)?;
         let (frame, lone) = (one.at, other.at);
-        self.rows.merge(first, number, place);
-        self.rows.merge(second, number, place);
+        self.rows.merge(first, number, place, group);
+        self.rows.merge(second, number, place, group);
         self.frames[place as usize] = frame;
         Ok((frame, lone))
     }

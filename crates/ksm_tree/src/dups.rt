@@ -346,6 +346,12 @@ impl Dups {
         Some(place)
     }
 
+    /// A guess of the number of the group of the dup at a place. Nothing is promised of it.
+    #[inline(always)]
+    pub fn group_at(&self, place: u32) -> u32 {
+        self.slots.group_at(place)
+    }
+
     /// The number of the dup at a place.
     pub fn at(&self, place: u32) -> Option<u64>
         ensures number { result ≡ option_map (λ d. d.row.number) (dup_at place self.now.dups) }

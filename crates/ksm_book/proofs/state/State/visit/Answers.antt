@@ -7,6 +7,9 @@ use Rattle.ksm_book.proofs.state.State.visit.Goals.{After-visit_any}
 pub invariant_of-self-in-Waits : goal.invariant_of-self-in-Waits
 invariant_of-self-in-Waits c = found_lawful _ c.self.invariant _ (c.glance.ensures.waits c.in-Waits.is)
 
+pub invariant_of-self-in-Changed : goal.invariant_of-self-in-Changed
+invariant_of-self-in-Changed c = found_lawful _ c.self.invariant _ (c.glance.ensures.changed c.in-Changed.is)
+
 pub returns-in-Waits-clause-visited : goal.returns-in-Waits-clause-visited
 returns-in-Waits-clause-visited c = waits_visited _ _
     (finds_it _ (λ e. cc) c.self.invariant (ap view_of c.self.view_is) _ refl (c.glance.ensures.waits c.in-Waits.is)) refl

@@ -1,8 +1,17 @@
-use Rattle.ksm_pages.proofs.Names.{arith, changed, refl, same_page_refl, seen, Waiting}
+use Rattle.ksm_pages.proofs.Names.{arith, changed, held_of, Private, refl, same_page_refl, seen, tree_of, true, Waiting}
 use Rattle.ksm_pages.proofs.Visiting.{alone_seen, asked, held_led, IsAsked, known, lone_none, partner_by}
+use Rattle.ksm_tree.proofs.Joining.{none_live}
 use Rattle.ksm_pages.proofs.Turning.{Comes, own_left, rested}
 use Rattle.ksm_pages.proofs.pages.Pages.glance.Goals as goal
 use Rattle.ksm_pages.proofs.pages.Pages.glance.Goals.{After-wait}
+
+-- a page that was not unchanged is so, where no dup has an item
+saw : (c : goal.After-note_unchanged) → Comes c.self.inside c.note_unchanged.new.self c.self.inside.dups
+    (changed c.args.spot.page (λ r. record r { unchanged = true; state = Private }) (seen c.args.self.now))
+saw c =
+    let it = asked c.self.inside c.self.invariant c.self.view_is c.in-Some.entry.now c.in-Some.ensures (grind arith) in
+    rested (own_left c.self.invariant c.self.view_is (alone_seen it)) (alone_seen it) _ c.note_unchanged.ensures
+    (λ r. record r { unchanged = true; state = Private }) (λ x. (refl, refl)) (λ r. (refl, refl)) (λ x own. grind (arith, own)) (λ lone. lone)
 
 pub joins_none-requires : goal.joins_none-requires
 joins_none-requires c =
@@ -18,7 +27,23 @@ waits c =
     (λ x. (refl, refl)) (λ r. (refl, refl)) (λ x _. refl) (λ lone. lone)
 
 pub invariant_of-self : goal.invariant_of-self
-invariant_of-self c = (waits (goal.at.invariant_of-self c).After-wait).lawful
+invariant_of-self c = (saw c).lawful
+
+pub invariant_of-self-2 : goal.invariant_of-self-2
+invariant_of-self-2 c = (waits (goal.at.invariant_of-self-2 c).After-wait).lawful
+
+pub returns-then-not-entry-clause-changed : goal.returns-then-not-entry-clause-changed
+returns-then-not-entry-clause-changed c _ =
+    let s = c.self.inside in
+    let it = asked s c.self.invariant c.self.view_is c.in-Some.entry.now c.in-Some.ensures (grind arith) in
+    let row = (held_of s.rows.pass c.in-Some.entry.now).row in
+    grind (
+      arith,
+      known it {tree = tree_of s.knobs row} (λ r same. grind (arith, same)),
+      (saw c).told_as,
+      none_live (tree_of s.knobs row) row.bytes s.knobs.max_page_sharing s.dups.dups,
+      c.count_shared.ensures,
+    )
 
 pub returns-clause-waits : goal.returns-clause-waits
 returns-clause-waits c _ =

@@ -1,4 +1,4 @@
-use Rattle.ksm_pages.proofs.Names.{ap, arith, changed, held_of, inl, inr, on_err, on_row, Private, refl, Row, rows_of, rules, same_page_eq, same_page_refl, seen, settled, Some, sym, true, ◌∙◌, ◌≡◌}
+use Rattle.ksm_pages.proofs.Names.{ap, arith, changed, held_of, inl, inr, on_err, Private, refl, Row, rows_of, same_page_eq, same_page_refl, seen, Some, sym, true, ◌∙◌, ◌≡◌}
 use Rattle.ksm_pages.proofs.Visiting.{alone, alone_seen, asked, entered, entered_lone, free_but, free_by, known, lone_none, MayEnter, partner_by, still_asked, waits_page}
 use Rattle.ksm_pages.proofs.Leaving.{tree_is}
 use Rattle.ksm_pages.proofs.Turning.{Comes, own_left, rested}
@@ -18,12 +18,15 @@ returns-in-Some-best-clause-found c =
 abbrev found : Row → Row
 found r = record r { unchanged = true; state = Private }
 
+pub note_unchanged-requires : goal.note_unchanged-requires
+note_unchanged-requires c =
+    rw c.in-Some.ensures (alone (asked c.self.inside c.self.invariant c.self.view_is c.in-Some.entry.now c.in-Some.ensures (grind arith)))
+
 -- the page of a row that was not unchanged rests, and is unchanged
-went : (c : goal.After-change) → Comes c.self.inside c.change.new.self c.self.inside.dups (changed c.args.spot.page found (seen c.args.self.now))
+went : (c : goal.After-note_unchanged) → Comes c.self.inside c.note_unchanged.new.self c.self.inside.dups (changed c.args.spot.page found (seen c.args.self.now))
 went c =
     let it = asked c.self.inside c.self.invariant c.self.view_is c.in-Some.entry.now c.in-Some.ensures (grind arith) in
-    rested (own_left c.self.invariant c.self.view_is (alone_seen it)) (alone_seen it) _ (c.change.ensures.made (on_row (λ r. record (settled r) { unchanged = true })) (search rules))
-    found (λ x. (refl, refl)) (λ r. (refl, refl)) (λ x own. grind (arith, own)) (λ lone. lone)
+    rested (own_left c.self.invariant c.self.view_is (alone_seen it)) (alone_seen it) _ c.note_unchanged.ensures found (λ x. (refl, refl)) (λ r. (refl, refl)) (λ x own. grind (arith, own)) (λ lone. lone)
 
 pub invariant_of-self-then-not-entry : goal.invariant_of-self-then-not-entry
 invariant_of-self-then-not-entry c = rw c.group_with_best-group.ensures.kept (went c).lawful
