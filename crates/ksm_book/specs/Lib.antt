@@ -7,7 +7,6 @@ pub mod Laid
 pub mod Whole
 pub mod Carried
 pub mod Promised
-pub mod Worked
 pub mod Folded
 pub mod Due
 pub mod Scanned

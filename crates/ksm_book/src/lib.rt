@@ -14,8 +14,6 @@ mod stale;
 mod state;
 mod unmerging;
 mod visiting;
-mod worked;
 
 pub use book::Book;
 pub use ksm_journal::Journal;
-pub use worked::{nodes_of_a_page, nodes_of_dups, steps_of_leaving, steps_of_visits};

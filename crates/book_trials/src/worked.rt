@@ -4,7 +4,7 @@
 ghost use Rattle.std.specs.Prelude.{◌≡◌, [], ◌∷◌, None, Some, Ok, Err};
 ghost use Rattle.ksm_book.specs.Terms.{Add, Done, lies_on, MoveDup, MovePage, NoFrame, nowhere, Publish, Register, Scan, Scanned, SetRun, Store, Sub, Unmerge, Unmerged, Withdraw};
 ghost use Rattle.ksm_book.specs.Whole.{nodes_got};
-ghost use Rattle.ksm_book.specs.Worked.{alone, apart, full, merged, page, stale, three, together};
+ghost use Rattle.book_trials.specs.Worked.{alone, apart, full, merged, page, stale, three, together};
 ghost use Rattle.ksm_book.specs.Carried.{scanning};
 ghost use Rattle.ksm_book.specs.Commands.{emptying, pruning};
 
