@@ -1,6 +1,6 @@
 -- Rows that change at one page: what becomes of what holds of each row, and of how many lie on a frame.
 use Rattle.ksm_book.proofs.Names.{All, arith, change_row, count_alike, count_mapped, count_with_row, count_without_page, counts_one, eq-eqb, false, filter_passes, find_all, find_none, find_passes}
-use Rattle.ksm_book.proofs.Names.{Frames, GuestPage, if◌then◌else◌, in_hand, InPageOrder, is_frame, lies_on, List, map, None, not, not-true, one_of_each_page, Option, Row, row_at, same_page}
+use Rattle.ksm_book.proofs.Names.{Frames, GuestPage, if◌then◌else◌, in_hand, InPageOrder, is_frame, lies_on, List, map, MatchOption, None, not, not-true, one_of_each_page, Option, Row, row_at, same_page}
 use Rattle.ksm_book.proofs.Names.{same_page_eq, same_page_refl, Some, true, uses, with_row, without_page, ℕ, ◌+◌, ◌≡◌, ◌≤◌}
 
 -- frames that are equal at each page are equal
@@ -57,3 +57,7 @@ uses_come f o frame row rows absent =
 -- a frame on which a row lies is used
 pub uses_some : (f : ℕ) (frame : Frames) (rows : List Row) → All (λ r. frame r.page ≡ Some f → 1 ≤ uses f frame rows) rows
 uses_some f frame rows = grind (arith, counts_one, eq-eqb)
+
+-- where something is told of what an option holds, it holds something, of which that is so
+pub filled_by : {X : Type 0} (P : X → Type 0) {o : Option X} → MatchOption o (true ≡ false) P → (x : X) × (o ≡ Some x) × P x
+filled_by P told = grind arith

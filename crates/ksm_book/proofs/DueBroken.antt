@@ -6,8 +6,7 @@ use Rattle.ksm_book.proofs.Names.{IsAnswerOrMemory, IsCarried, IsDupOf, IsSound,
 use Rattle.ksm_book.proofs.Names.{refl, Reply, Row, row_at, same_page, same_page_refl, same_page_sym, shared_state, Some, stored, tree_of, true, waiting_state, waits_for, waits_on, with_row}
 use Rattle.ksm_book.proofs.Names.{without_page, ℕ, ◌&&◌, ◌==◌, ◌||◌, ◌≡◌}
 use Rattle.ksm_book.proofs.DueKept.{count_kept, more_due, on_still, one_waits, own_due, WaitsElse}
-use Rattle.ksm_book.proofs.ByPage.{found_page, row_of_page}
-use Rattle.ksm_book.proofs.RowVisits.{filled_by}
+use Rattle.ksm_book.proofs.ByPage.{filled_by, found_page, row_of_page}
 
 module _ (b : BookState) (sound : IsSound b) (page : GuestPage) (row : Row) (found : row_at page b.rows ≡ Some row) where
   -- the page that waits in the tree of the row with its bytes, if the row is merged

@@ -6,10 +6,10 @@ use Rattle.ksm_book.proofs.Names.{own_not_merged, OwnPage, page_visited, PagesVi
 use Rattle.ksm_book.proofs.Names.{Some, state_of, StaysBefore, subst, sym, takes_over, TakesOver, true, view_of, visits, VisitsPage, waits_for, waits_tells, WaitsFor, with_rows, ℕ, ◌&&◌, ◌||◌, ◌∙◌}
 use Rattle.ksm_book.proofs.Names.{◌∷◌, ◌≡◌}
 use Rattle.ksm_book.proofs.DueKept.{calm_stays, calm_undue, freed_found, freed_sound, IsDueNoMore, narrowed_over, own_due, row_undue}
-use Rattle.ksm_book.proofs.RowVisits.{filled_by, finds_it, Meets, page_is, restless_own, shared_visited, there_is, waits_visited}
+use Rattle.ksm_book.proofs.RowVisits.{finds_it, Meets, page_is, restless_own, shared_visited, there_is, waits_visited}
 use Rattle.ksm_book.proofs.Singles.{book}
 use Rattle.ksm_pages.specs.declared.pages.Find.TheVariants as finds
-use Rattle.ksm_book.proofs.ByPage.{found_page}
+use Rattle.ksm_book.proofs.ByPage.{filled_by, found_page}
 use Rattle.ksm_book.proofs.Folded.{changed_comes, comes_by, comes_to}
 
 -- by what was found of a page, this was done then, where the page takes over from none and is due no longer

@@ -35,7 +35,7 @@ pub use Rattle.ksm_book.specs.Terms.{Add, added, after_cursor, Ahead, Answer, ar
 pub use Rattle.ksm_book.specs.Terms.{Command, count_in, default_knobs, Did, did, Done, Drop, dup_of_row, DupRow, Dying, effect, elsewhere, empty_from, EndsAt, every_row, Fault, filled, Find, FindsAt}
 pub use Rattle.ksm_book.specs.Terms.{FindsNext, FindsRow, first_ledger, frame_at, Frames, frames_of, Free, Freeze, fresh_row, frozen, GenerationFits, GuestPage, handled, has_item, has_items, HasRoom}
 pub use Rattle.ksm_book.specs.Terms.{HasRow, InPageOrder, InPlaceOrder, InUse, is_before, is_best, is_for_zero, is_next, is_no_rival, is_no_worse, is_of, is_restless, is_stale, IsAlone}
-pub use Rattle.ksm_book.specs.Terms.{IsAnswerOrMemory, IsDupOf, IsHeld, IsLoose, IsReadable, IsScanned, IsShape, IsSound, IsVacant, IsWritable, item_count, items_on, ItemsLieOn, KeeperStep}
+pub use Rattle.ksm_book.specs.Terms.{unmapped_state, IsAnswerOrMemory, IsDupOf, IsHeld, IsLoose, IsReadable, IsScanned, IsShape, IsSound, IsVacant, IsWritable, item_count, items_on, ItemsLieOn, KeeperStep}
 pub use Rattle.ksm_book.specs.Terms.{KeeperView, Kind, Ledger, ledger_after, let_go, lies_on, live_dup_at, made_dup, Marks, May, may_join, MayPair, Memory, Mergeable, mergeable_count, mergeable_pages}
 pub use Rattle.ksm_book.specs.Terms.{Merged, merged_into, merged_state, MOST_FRAMES, MOST_LIVES, MOST_REFERENCES, MoveDup, MovePage, named_anew, named_at, new_place, next_row, NoFrame, Note, nowhere}
 pub use Rattle.ksm_book.specs.Terms.{of_guest, on_its_own, Open, opened, OwnPage, page_beside, PAGE_WORDS, PageState, PagesView, paired, partner, pass_begun, pass_ended, pass_ended_at_last}

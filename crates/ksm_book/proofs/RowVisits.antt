@@ -3,11 +3,11 @@ use Rattle.ksm_book.proofs.Names.{Add, All, All-contains_itself, are_paired, ari
 use Rattle.ksm_book.proofs.Names.{Contains-append_right, count_none, Did, did, Dup, dup_of_row, DupRow, each_at_page, eq-eqb, false, Find, find_all, find_changed, find_changed_other, find_passes}
 use Rattle.ksm_book.proofs.Names.{FindsAt, FindsRow, FindsStill, Frames, frames_of, GuestPage, HasRoom, HasRow, HasVisited, idle, IfSome, if◌then◌else◌, InPageOrder, is_best, is_restless, IsFree}
 use Rattle.ksm_book.proofs.Names.{IsJoined, IsLaid, IsSound, IsVacant, item_count, ItemsLieOn, joined_count, KeeperStep, KeeperView, leaving, lies_on, LiesWith, list_any, lying, MakesSteps, map}
-use Rattle.ksm_book.proofs.Names.{map_mapped, MatchOption, May, MayLeave, MayPair, Merged, merged_into, merged_state, MOST_REFERENCES, new_place, new_place_free, next_is_new, None, Option}
+use Rattle.ksm_book.proofs.Names.{map_mapped, May, MayLeave, MayPair, Merged, merged_into, merged_state, MOST_REFERENCES, new_place, new_place_free, next_is_new, None, Option}
 use Rattle.ksm_book.proofs.Names.{ordered_change, OwnPage, page_visited, PagesView, Partner, partner, Performs, place_count, Publish, refl, relaid, Row, row_at, row_changed, row_visited, row_visiting}
 use Rattle.ksm_book.proofs.Names.{settled, shared_state, Some, sound_row_visited, state_of, Sub, subst, sym, true, view_of, VisitsPage, Waiting, waits_for, waits_tells, WaitsFor, with_dup, Withdraw}
 use Rattle.ksm_book.proofs.Names.{withdrawing, Zero, [], ℕ, ◌+◌, ◌-◌, ◌<◌, ◌==◌, ◌∙◌, ◌∷◌, ◌≡◌, ◌≤◌}
-use Rattle.ksm_book.proofs.ByPage.{found_page, row_of_page}
+use Rattle.ksm_book.proofs.ByPage.{filled_by, found_page, row_of_page}
 use Rattle.ksm_book.proofs.Made.{made_one, made_then}
 use Rattle.ksm_book.proofs.Sharing.{laid_found, laid_joined, Lives, lives, may_found, may_join as join_may, may_part, spent_most, vacant_loose}
 use Rattle.ksm_book.proofs.Moves.{found_in}
@@ -17,10 +17,6 @@ use Rattle.ksm_book.proofs.Singles.{book}
 use Rattle.ksm_pages.specs.declared.pages.Find.TheVariants as finds
 use Rattle.ksm_book.proofs.Folded.{then_idle}
 use Rattle.ksm_book.proofs.Laying.{laid_changed, laid_left, lies_changed, LodgesAs, may_leave}
-
--- where something is told of what an option holds, it holds something, of which that is so
-pub filled_by : {X : Type 0} (P : X → Type 0) {o : Option X} → MatchOption o (true ≡ false) P → (x : X) × (o ≡ Some x) × P x
-filled_by P told = grind arith
 
 -- a row that a visit may change has a frame of its own
 pub restless_own : (row : Row) → is_restless row ≡ true → shared_state row.state ≡ false

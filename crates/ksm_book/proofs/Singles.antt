@@ -10,7 +10,10 @@ use Rattle.ksm_book.proofs.Names.{mergeable_count, MoveDup, MovePage, NoFrame, N
 use Rattle.ksm_book.proofs.Names.{relaid, Resettles, ResettlesEach, Row, row_at, same_page, same_page_refl, same_Some, seen, SetRun, shared_state, slice_get-get_or, slice_get_past, Some, sound_after}
 use Rattle.ksm_book.proofs.Names.{sound_set, state_of, stepped, Store, stored, take-append_seam, traits, true, UnknownPage, Unmerge, Unmerged, unshare_stopped, unshared, Unshares, view_of, with_frame}
 use Rattle.ksm_book.proofs.Names.{with_row, with_value, without_between, without_page, [], ℕ, ◌++◌, ◌+◌, ◌<◌, ◌==◌, ◌∙◌, ◌∷◌, ◌≡◌, ◌≤◌}
-use Rattle.ksm_book.proofs.ByPage.{found_page, lies_again, lies_still, row_of_page}
+use Rattle.ksm_book.specs.Terms.{LooksSo, private_state}
+use Rattle.ksm_pages.specs.declared.pages.Look.TheVariants as looks
+use Rattle.ksm_pages.specs.declared.row.Spot.{Spot}
+use Rattle.ksm_book.proofs.ByPage.{filled_by, found_page, lies_again, lies_still, row_of_page}
 use Rattle.ksm_book.proofs.Laying.{come_there, laid_changed, laid_left, laid_mapped, laid_rows, may_leave, resettled, retuned, serves_at, turned}
 use Rattle.ksm_book.proofs.Made.{spent_kept}
 use Rattle.ksm_book.proofs.Moves.{removed, written_in}
@@ -53,6 +56,11 @@ pub row_known : (page : GuestPage) (rows : List Row) → is_some (row_at page ro
 row_known page rows known =
     let there = mapped_some (λ (r : Row). true) (row_at page rows) {y = true} (grind (arith, known)) in
     (there.0, there.1)
+
+-- a page that was looked at and is private has a row that says so, and lies on the frame that is told
+pub private_told : (p : PagesView) (page : GuestPage) (spot : Spot) (frame : ℕ) → LooksSo p page (looks.Private spot frame) → (spot.page ≡ page)
+    × ((row : Row) × (row_at spot.page p.rows ≡ Some row) × (private_state row.state ≡ true)) × (p.frame spot.page ≡ Some frame)
+private_told p page spot frame told = (told.0, filled_by (λ r. private_state r.state ≡ true) (rw told.0 told.1), rw told.0 told.2)
 
 -- a page that is neither merged nor Zero lies on the frame that was told as its own
 pub own_lies : {p : PagesView} {page : GuestPage} {held : Held} (h : IsHeld p page held) → held.shared ≡ false → p.frame page ≡ held.own

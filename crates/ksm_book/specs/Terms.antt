@@ -20,7 +20,7 @@ pub use Rattle.ksm_base.specs.Journal.{Entry, IsLegal, journal_after, last_store
 pub use Rattle.ksm_base.specs.Knobs.{default_knobs, is_in_range, setting, traits, with_value}
 pub use Rattle.ksm_base.specs.Reading.{bytes_of, mappers_of, ticket_of}
 pub use Rattle.ksm_base.specs.Refusals.{is_known, is_of, live_dup_at, setting_refusal}
-pub use Rattle.ksm_base.specs.Rows.{all_zero, Alone, change_row, change_rows, comes_before, has_items, InDup, InPageOrder, InPlaceOrder, is_stale, item_count, Mapping, mapping_of, merged_into, merged_state}
+pub use Rattle.ksm_base.specs.Rows.{all_zero, Alone, change_row, change_rows, comes_before, has_items, InDup, InPageOrder, InPlaceOrder, is_stale, item_count, Mapping, mapping_of, merged_into, merged_state, private_state}
 pub use Rattle.ksm_base.specs.Rows.{Nowhere, row_at, same_page, settled, shared_state, unmapped_state, waiting_state, with_dup, with_row, without_page, zero_state}
 pub use Rattle.ksm_base.specs.Sound.{IsDupOf, IsSound}
 pub use Rattle.ksm_base.specs.State.{BookState, opening, pass_ended, place_count, tree_of}
@@ -42,7 +42,7 @@ pub use Rattle.ksm_base.specs.declared.row.PageState.TheVariants.{Merged, Privat
 pub use Rattle.ksm_base.specs.declared.row.Row.{Row}
 pub use Rattle.ksm_base.specs.declared.shape.Shape.{Shape}
 pub use Rattle.ksm_pages.specs.Ahead.{EndsAt, FindsNext, mergeable_pages, pages_behind, pages_between}
-pub use Rattle.ksm_pages.specs.Paged.{at_home_on, changed as row_changed, dup_of_row, elsewhere, Finds as FindsRow, FindsAt, frame_of, Frames, HasRoom, HasRow, is_next, is_restless, IsAlone, IsHeld}
+pub use Rattle.ksm_pages.specs.Paged.{at_home_on, changed as row_changed, dup_of_row, elsewhere, Finds as FindsRow, FindsAt, frame_of, Frames, HasRoom, HasRow, is_next, is_restless, IsAlone, IsHeld, LooksSo}
 pub use Rattle.ksm_pages.specs.Paged.{IsKnown, IsVacant, items_on, ItemsLieOn, lies_on, Lodging, MayPair, nowhere, of_guest, on_its_own, page_beside, PagesView, paired as are_paired, relaid, seen}
 pub use Rattle.ksm_pages.specs.declared.ahead.Ahead.{Ahead}
 pub use Rattle.ksm_pages.specs.declared.ahead.Ahead.TheVariants.{At, End}

@@ -1,7 +1,7 @@
 //! The book of page sharing: its commands, the pages as they are read, the counters and the journal. Each command is
 //! carried out on the `State`, and then entered in the journal, whose memory was taken before the first step.
 
-ghost use Rattle.std.specs.Prelude.{◌≡◌, ◌≤◌, [], Some, IfOk, IfErr, IfSome, IsSome, option_map};
+ghost use Rattle.std.specs.Prelude.{false, ◌≡◌, ◌≤◌, [], Some, IfOk, IfErr, IfSome, IsSome, option_map};
 ghost use Rattle.ksm_book.specs.Terms.{after, bytes_of, counters_of, first_ledger, is_known, IsAnswerOrMemory, IsLegal, IsShape, IsSound, journal_after, last_stored, mappers_of, nowhere, opening};
 ghost use Rattle.ksm_book.specs.Terms.{ReadsLastStored, ticket_of};
 ghost use Rattle.ksm_book.specs.Carried.{CarriedOut, CarriesOut, unjournaled};
@@ -195,6 +195,15 @@ impl Book {
     }
 }
 
+/// The answer to a command behind which it is not known which pages are due.
+#[inline(always)]
+fn forgets(due: &mut Due, answer: Result<Reply, Fault>) -> Result<Reply, Fault>
+    ensures { (result ≡ answer) × (due.new.known ≡ false) }
+{
+    due.forget();
+    answer
+}
+
 /// Carries a command out on the state. Of most it is not known then which pages are due.
 #[inline(always)]
 fn carry_out(
@@ -208,18 +217,6 @@ fn carry_out(
     ensures carried { CarriesOut state.old state.new command.now result }
     ensures due { TellsDue due.new state.new.state }
 {
-    if !matches!(
-        command,
-        Command::Register { .. }
-            | Command::Drop { .. }
-            | Command::Store { .. }
-            | Command::Scan { .. }
-            | Command::Prune
-            | Command::MoveDup { .. }
-            | Command::SetPagesToScan(_)
-    ) {
-        due.forget();
-    }
     match command {
         Command::Register { page, node, bytes } => {
             let page = *page;
@@ -235,14 +232,14 @@ fn carry_out(
         Command::Store { page, bytes } => state.store(table, due, *page, bytes),
         Command::Scan { visits } => state.scan(table, due, *visits),
         Command::Prune => state.prune(table),
-        Command::Unmerge { guest } => state.unmerge(table, *guest),
-        Command::Mergeable { guest } => state.mergeable(*guest),
-        Command::MovePage { page, node } => state.move_page(table, *page, *node),
+        Command::Unmerge { guest } => forgets(due, state.unmerge(table, *guest)),
+        Command::Mergeable { guest } => forgets(due, state.mergeable(*guest)),
+        Command::MovePage { page, node } => forgets(due, state.move_page(table, *page, *node)),
         Command::MoveDup { place, node } => state.move_dup(table, *place, *node),
-        Command::SetRun(run) => state.set_run(table, *run),
+        Command::SetRun(run) => forgets(due, state.set_run(table, *run)),
         Command::SetPagesToScan(pages) => state.set(Knob::PagesToScan, *pages),
-        Command::SetAcross(across) => state.set_across(table, *across),
-        Command::SetLimit(limit) => state.set_limit(table, *limit),
-        Command::SetZeroPages(zero_pages) => state.set(Knob::UseZeroPages, *zero_pages),
+        Command::SetAcross(across) => forgets(due, state.set_across(table, *across)),
+        Command::SetLimit(limit) => forgets(due, state.set_limit(table, *limit)),
+        Command::SetZeroPages(value) => forgets(due, state.set(Knob::UseZeroPages, *value)),
     }
 }

@@ -61,6 +61,7 @@ pub fn is_used_up(keeper: &FrameKeeper, shape: Shape, node: u32) -> bool
 }
 
 /// Stores the bytes to a frame, word by word.
+#[inline(always)]
 pub fn write(keeper: &mut FrameKeeper, table: &FrameTable, frame: u32, bytes: &PageBytes)
     requires own { keeper.old.table ≡ table.now }
     requires inside { frame < frames_of keeper.old.table.shape }

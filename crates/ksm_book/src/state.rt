@@ -16,7 +16,7 @@ use crate::frames::{is_used_up, load, release_if, take_frame, write};
 use crate::stale::drop_stale;
 use frame_table::{FrameTable, Keeper};
 use ksm_base::{Command, Counters, Fault, GuestPage, PageBytes, Reply, Shape};
-use ksm_pages::{Pages, Spot};
+use ksm_pages::{Look, Pages, Spot};
 use std::alloc::Global;
 use std::marker::Model;
 
@@ -159,8 +159,14 @@ impl State {
         ensures carried { CarriesOut self.old self.new (Command.Store page bytes.now) result }
         ensures due { TellsDue due.new self.new.state }
     {
-        let Some(held) = self.pages.held(page) else {
-            return Err(Fault::UnknownPage);
+        let held = match self.pages.look(page) {
+            Some(Look::Private(spot, frame)) => {
+                self.pages.store(spot, bytes);
+                write(&mut self.keeper, table, frame, bytes);
+                return Ok(Reply::Done);
+            }
+            Some(Look::Other(held)) => held,
+            None => return Err(Fault::UnknownPage),
         };
         if held.shared {
             self.note_break(due, held.spot);
@@ -199,6 +205,7 @@ impl State {
     }
 
     // Bytes are about to be stored to a page that is merged or Zero. It is due from now on, with what may join its dup.
+    #[inline(always)]
     fn note_break(&self, due: &mut Due, spot: Spot)
         requires known { IsKnown spot.page self.now.state.rows }
         requires due { TellsDue due.old self.now.state }
@@ -207,6 +214,9 @@ impl State {
           rows = change_row spot.page (stored bytes) self.now.state.rows;
         }) }
     {
+        if !due.is_known() {
+            return;
+        }
         self.lies_lawfully();
         self.note_leaving(due, spot);
         due.add(spot);

@@ -2,6 +2,7 @@
 use Rattle.ksm_pages.proofs.Names.{altered, ap, AreAlone, AreKept, AreTied, arith, Bool, change_row, Dup, dup_rows, DupsState, false, find_passes, frame_of, Frames, GuestPage, Held, held_at}
 use Rattle.ksm_pages.proofs.Names.{InPageOrder, Inside, is_some, IsAlone, IsKnown, Knobs, lies_on, List, lodging, lodgings_of, MatchOption, None, not, Option, option_map, ordered_change, PagesValue}
 use Rattle.ksm_pages.proofs.Names.{PagesView, relaid, Row, row_at, rows_of, RowsView, same_page_eq, seen, shared_state, Some, subst, sym, tree_by, tree_of, true, ℕ, ◌==◌, ◌∙◌, ◌≡◌}
+use Rattle.ksm_pages.proofs.Names.{Entry, held_of, IsHeld, refl, Spot, told_by}
 use Rattle.ksm_pages.proofs.Changing.{frame_by, held_rise, IsLone, lodged_changed, lone_changed, page_of, row_told, rows_changed, seat}
 use Rattle.ksm_pages.proofs.Found.{change_one}
 
@@ -84,6 +85,18 @@ module _ (s : Inside) {p : PagesValue} (seen_as : view_of s ≡ p) (page : Guest
   -- the row of a page that is seen is the row of what is held of the page
   pub row_seen : {o : Option Held} → held_at page s.rows.held ≡ o → row_at page p.rows ≡ option_map (λ g. g.row) o
   row_seen is = grind (arith, ap (λ (v : PagesValue). v.rows) seen_as, row_told)
+
+  -- how a page lies is told by what is kept of its row
+  pub held_so : (spot : Spot) → spot.page ≡ page → (e : Entry) → held_at page s.rows.held ≡ Some (held_of s.rows.pass e)
+      → IsHeld (seen p) page (told_by spot e)
+  held_so spot of e found = rw (← seen_as) (record {
+    row = (held_of s.rows.pass e).row;
+    found = row_told page _ found;
+    spot = of;
+    home = refl;
+    shared = grind arith;
+    own = grind (arith, frame_by);
+  })
 
   -- a page that has a row among those seen is held
   pub known_there : held_at page s.rows.held ≡ None → IsKnown page p.rows → true ≡ false

@@ -17,7 +17,7 @@ pub use Rattle.ksm_pages.specs.Filed.{StaysLed}
 pub use Rattle.ksm_pages.specs.Held.{altered, AreInOrder, AreInTree, AreSmall, AreWaitersLed, beside, change_held, forgotten, has_content, HasGap, Held, held_at, held_of, holds, in_tree_by, is_alone}
 pub use Rattle.ksm_pages.specs.Held.{is_in, is_restless, IsAddedTo, IsFree, IsPutAmong, Listing, low_spot, on_row, out_of_tree, page_in_tree, pages_of, rows_of, RowsView, shares, state_of, tree_by}
 pub use Rattle.ksm_pages.specs.Held.{waiting_in, with_held, without_held, written}
-pub use Rattle.ksm_pages.specs.Paged.{AreAlone, AreKept, at_home_on, changed, elsewhere, frame_of, frame_seen, Frames, HasRoom, is_item, is_next, IsAlone, IsHeld, IsKnown, IsLeft, IsVacant, items_on, TellsNext}
+pub use Rattle.ksm_pages.specs.Paged.{AreAlone, AreKept, at_home_on, changed, elsewhere, frame_of, frame_seen, Frames, HasRoom, is_item, is_next, IsAlone, IsHeld, IsKnown, IsLeft, IsVacant, items_on, TellsNext, told_by, LooksSo}
 pub use Rattle.ksm_pages.specs.Paged.{lies_on, live_at, lodging, lodgings_of, MayPair, NoneHas, of_guest, on_its_own, PagesValue, PagesView, paired, relaid, seen}
 pub use Rattle.ksm_pages.specs.Ordered.{AreAscending, is_of, marked, named_by, visited, with_named, without_named}
 pub use Rattle.ksm_pages.specs.Terms.{after_cursor, AreTied, best_dup, best_of, change_row, change_rows, comes_before, Dup, dup_numbered, dup_rows, DupRow, DupsState, fresh_row, GuestPage, has_item}

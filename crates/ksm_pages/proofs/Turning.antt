@@ -1,6 +1,6 @@
 -- The pages once a call changed the row of one page, or gave it one: they are lawful, and what is seen of them changed so.
 use Rattle.ksm_pages.proofs.Names.{[], All, All-filter, All-map, altered, ap, AreAlone, AreTied, arith, Bool, change_held, changed, cond_both, dup_rows, DupsState, Err, false, frame_of, get_or}
-use Rattle.ksm_pages.proofs.Names.{Entry, GuestPage, Held, held_at, held_of, if◌then◌else◌, inl, InPageOrder, inr, Inside, is_alone, IsAlone, IsKnown, IsLeft, Knobs, let_out, lies_on, List, lodgings_of, map}
+use Rattle.ksm_pages.proofs.Names.{GuestPage, Held, held_at, if◌then◌else◌, inl, InPageOrder, inr, Inside, is_alone, IsAlone, IsKnown, IsLeft, Knobs, let_out, lies_on, List, lodgings_of, map}
 use Rattle.ksm_pages.proofs.Names.{map_fixed, map_mapped, MatchOption, merged_state, None, not, Ok, on_row, OnErr, OnOk, Option, option_and_then, ordered_map, ordered_with, ordered_without}
 use Rattle.ksm_pages.proofs.Names.{out_of_tree, PagesValue, PagesView, Private, refl, relaid, Result, Row, row_at, rows_of, rows_out, RowsView, rules, same_page, seen, settled, settled_state}
 use Rattle.ksm_pages.proofs.Names.{shared_state, Some, subst, sym, tied_dropped, tied_inserted, tied_left, tied_mapped, true≢false, waiting_state, with_held, with_row, without_held, without_page, ℕ}
@@ -24,11 +24,6 @@ module _ {s : Inside} {p : PagesValue} {page : GuestPage} {later : DupsState} {f
   pub known_left : AreLawful s → view_of s ≡ p → IsKnown page p.rows
       → MatchOption (held_at page s.rows.held) ⊤ (IsLeft frames s.dups later lone) → HasLeft s p page later frames lone
   known_left are seen_as known left = grind (arith, known_there, seen_as)
-
-  -- so has one that was let out by its row as it was
-  pub known_left_by : AreLawful s → view_of s ≡ p → IsKnown page p.rows → (was : Entry) → held_at page s.rows.held ≡ Some (held_of s.rows.pass was)
-      → ((pass : ℕ) → IsLeft frames s.dups later lone (held_of pass was)) → HasLeft s p page later frames lone
-  known_left_by are seen_as known was found left = known_left are seen_as known (rw found (left s.rows.pass))
 
   module _ (it : HasLeft s p page later frames lone) where
     at : it.held.row.page ≡ page

@@ -176,23 +176,23 @@ module _ (s : Inside) (are : AreRows s) {v : RowsView} (seen_as : view_of s ≡ 
   pub viewed_put : view s.by_node s.pass later (with_named (named_of key e) s.order) ≡ record v { held = with_held (held_of s.pass e) v.held }
   viewed_put = grind (arith, held_put)
 
--- where as many rows are merged or Zero as there are, each is
-module _ where
-  abbrev merged_or_zero : List Row → ℕ
-  merged_or_zero rows = count_by (λ r. merged_state r.state) rows + count_by (λ r. zero_state r.state) rows
+-- how many rows are merged or Zero
+abbrev merged_or_zero : List Row → ℕ
+merged_or_zero rows = count_by (λ r. merged_state r.state) rows + count_by (λ r. zero_state r.state) rows
 
-  shared_more : (r : Row) (rows : List Row) → merged_or_zero (r ∷ rows) ≡ merged_or_zero rows + one_if (shared_state r.state)
-  shared_more r rows = grind (arith, count_more (λ s. merged_state s.state) r rows, count_more (λ s. zero_state s.state) r rows)
+shared_more : (r : Row) (rows : List Row) → merged_or_zero (r ∷ rows) ≡ merged_or_zero rows + one_if (shared_state r.state)
+shared_more r rows = grind (arith, count_more (λ s. merged_state s.state) r rows, count_more (λ s. zero_state s.state) r rows)
 
-  shared_few : (rows : List Row) → merged_or_zero rows ≤ length rows
-  shared_few [] = omega arith
-  shared_few (r ∷ rows) = grind (arith, shared_more r rows, shared_few rows)
+shared_few : (rows : List Row) → merged_or_zero rows ≤ length rows
+shared_few [] = omega arith
+shared_few (r ∷ rows) = grind (arith, shared_more r rows, shared_few rows)
 
-  pub all_shared : (rows : List Row) → length rows ≤ merged_or_zero rows → All (λ r. shared_state r.state ≡ true) rows
-  all_shared [] few = λ k d lt. absurd (omega arith)
-  all_shared (r ∷ rows) few =
-      All-cons (λ s. shared_state s.state ≡ true) r rows (grind (arith, shared_more r rows, shared_few rows))
-      (all_shared rows (grind (arith, shared_more r rows)))
+-- where as many are as there are, each is
+pub all_shared : (rows : List Row) → length rows ≤ merged_or_zero rows → All (λ r. shared_state r.state ≡ true) rows
+all_shared [] few = λ k d lt. absurd (omega arith)
+all_shared (r ∷ rows) few =
+    All-cons (λ s. shared_state s.state ≡ true) r rows (grind (arith, shared_more r rows, shared_few rows))
+    (all_shared rows (grind (arith, shared_more r rows)))
 
 -- where each row is shared, rows are lawful under a list of none
 pub none_restless : (s : Inside) → AreRows s → All (λ r. shared_state r.state ≡ true) (rows_of (all_held s)) → {now : Listing} → now.pages ≡ []

@@ -1,5 +1,5 @@
 -- Entries in a slab, with the order of their pages, the pages that a visit may change, and a tally. (own)
-use Rattle.std.specs.Prelude.{◌≡◌, ◌↔◌, ℕ, ◌+◌, ◌≤◌, ◌<◌, ◌^◌, Bool, true, false, not, List, [], count_by, find, is_none, map, option_map, Option, None, Some, if◌then◌else◌}
+use Rattle.std.specs.Prelude.{◌≡◌, ◌↔◌, ℕ, ◌+◌, ◌≤◌, ◌<◌, ◌^◌, Bool, true, false, not, List, [], count_by, find, is_none, map, option_map, MatchOption, Option, None, Some, if◌then◌else◌}
 use Rattle.ksm_pages.specs.Terms.{GuestPage, has_item, merged_state, PageState, Private, Row, same_page, waiting_state, zero_state}
 use Rattle.slab.specs.Slab.{Slab, get}
 use Rattle.ksm_pages.specs.declared.named.Named.{Named}
@@ -8,7 +8,7 @@ use Rattle.ksm_pages.specs.declared.row.Entry.{Entry}
 use Rattle.ksm_pages.specs.declared.row.InTree.TheVariants.{Not}
 use Rattle.ksm_pages.specs.declared.row.Spot.{Spot}
 use Rattle.ksm_pages.specs.declared.tally.Tally.{Tally}
-use Rattle.ksm_pages.specs.Held.{Held, Listing, RowsView, altered, held_of, is_in, is_restless, rows_of}
+use Rattle.ksm_pages.specs.Held.{Held, Listing, RowsView, altered, held_at, held_of, is_in, is_restless, rows_of}
 use Rattle.ksm_pages.specs.Ordered.{AreAscending, is_of}
 
 -- ---------------------------------------------------------------- tallies
@@ -105,6 +105,11 @@ StaysLed e later = is_in later.in_tree ≡ true → (is_in e.in_tree ≡ true) �
 -- what becomes of an entry keeps its page, is of no pass to come, and stands in the unstable tree only as it did
 abbrev pub KeepsPage : ℕ → (Entry → Entry → Type 0) → Type 0
 KeepsPage pass R = (e later : Entry) → R e later → (later.page ≡ e.page) × StaysBegun pass e later × StaysLed e later
+
+-- this was kept of the row of a page, if it had one
+abbrev pub WasKept : RowsView → GuestPage → Option Entry → Type 0
+WasKept rows page was =
+    MatchOption was (held_at page rows.held ≡ None) (λ e. held_at page rows.held ≡ Some (held_of rows.pass e))
 
 -- the row of a page was changed as its entry was
 abbrev pub IsMade : (Entry → Entry → Type 0) → GuestPage → RowsView → RowsView → Type 0

@@ -3,12 +3,16 @@
 use Rattle.std.specs.Prelude.{All, Bool, Contains, false, find, if◌then◌else◌, is_some, length, List, map, MatchOption, None, not, Option, option_and_then, option_map, slice_get, Some, true, ℕ, ◌&&◌}
 use Rattle.std.specs.Prelude.{◌+◌, ◌-◌, ◌<◌, ◌==◌, ◌^◌, ◌||◌, ◌≡◌, ◌≤◌}
 use Rattle.ksm_pages.specs.Terms.{after_cursor, Alone, AreTied, best_dup, change_row, change_rows, Dup, dup_numbered, dup_rows, DupRow, DupsState, every_row, frames_of, GuestPage, has_items, in_group, InDup}
-use Rattle.ksm_pages.specs.Terms.{InPageOrder, is_for_zero, is_of, IsShape, item_count, Knobs, let_out, Mapping, mapping_of, Merged, merged_into, merged_state, MOST_REFERENCES, Nowhere, partner, Private, Row}
+use Rattle.ksm_pages.specs.Terms.{InPageOrder, is_for_zero, is_of, IsShape, item_count, Knobs, let_out, Mapping, mapping_of, Merged, merged_into, merged_state, MOST_REFERENCES, Nowhere, partner, Private, private_state, Row}
 use Rattle.ksm_pages.specs.Terms.{row_at, same_page, Shape, shared_state, tree_of, Waiting, waits_for, with_dup}
 use Rattle.ksm_pages.specs.declared.pages.Find.{Find}
 use Rattle.ksm_pages.specs.declared.pages.Find.TheVariants as finds
 use Rattle.ksm_pages.specs.declared.pages.Held.{Held}
-use Rattle.ksm_pages.specs.Held.{Held as HeldRow, is_alone, rows_of, RowsView}
+use Rattle.ksm_pages.specs.declared.pages.Look.{Look}
+use Rattle.ksm_pages.specs.declared.pages.Look.TheVariants as looks
+use Rattle.ksm_pages.specs.declared.row.Entry.{Entry}
+use Rattle.ksm_pages.specs.declared.row.Spot.{Spot}
+use Rattle.ksm_pages.specs.Held.{Held as HeldRow, frame_of as kept_on, is_alone, rows_of, RowsView}
 
 -- the frame of each page, if it has one
 abbrev pub Frames : Type 0
@@ -88,6 +92,17 @@ pub record IsHeld (p : PagesView) (page : GuestPage) (held : Held) : Type 0 wher
   pub home : held.home ≡ row.home
   pub shared : held.shared ≡ shared_state row.state
   pub own : held.own ≡ (if shared_state row.state then None else p.frame page)
+
+-- the same, by what is kept of its row
+abbrev pub told_by : Spot → Entry → Held
+told_by spot e =
+    let own = kept_on e.kind e.at in record { spot = spot; home = e.home; shared = not (is_some own); own = own }
+
+-- how a page lies that is about to change: on a frame of its own, where it does not wait, or as is told of its row
+abbrev pub LooksSo : PagesView → GuestPage → Look → Type 0
+LooksSo p page (looks.Private spot frame) =
+    (spot.page ≡ page) × HasRow page p.rows (λ r. private_state r.state ≡ true) × (p.frame page ≡ Some frame)
+LooksSo p page (looks.Other held) = IsHeld p page held
 
 -- the items of the dup with a number lie on the frame
 abbrev pub ItemsLieOn : ℕ → ℕ → PagesView → Type 0

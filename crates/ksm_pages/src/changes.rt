@@ -4,7 +4,7 @@ ghost use Rattle.std.specs.Prelude.{◌≡◌, true, false, None, Some, Err, All
 ghost use Rattle.ksm_pages.specs.Terms.{as_let_go, as_settled, as_unshared, fresh_row, Memory, row_at, shared_state, stored, with_row, without_page};
 ghost use Rattle.ksm_pages.specs.Paged.{IsAlone, IsKnown, at_home_on, changed, lies_on, on_its_own, relaid, seen};
 
-use crate::left::{leave, leave_by};
+use crate::left::leave;
 use crate::pages::Pages;
 use crate::row::Spot;
 use ksm_base::{Fault, GuestPage, PageBytes};
@@ -37,9 +37,8 @@ impl Pages {
         ensures left { result ≡ (seen self.old).frame spot.page }
         ensures stored { seen self.new ≡ relaid spot.page (stored bytes.now) (Some frame) (seen self.old) }
     {
-        let left = leave(&mut self.dups, &self.frames, &self.rows, spot);
-        self.rows.store_on(spot, frame, bytes);
-        left
+        let was = self.rows.store_on(spot, frame, bytes);
+        leave(&mut self.dups, &self.frames, was)
     }
 
     /// The page gets a frame of its own in the stead of what it had, and is at home on another node. Gives the frame
@@ -49,9 +48,8 @@ impl Pages {
         ensures left { result ≡ (seen self.old).frame spot.page }
         ensures moved { seen self.new ≡ relaid spot.page (at_home_on node) (Some frame) (seen self.old) }
     {
-        let left = leave(&mut self.dups, &self.frames, &self.rows, spot);
-        self.rows.move_on(spot, frame, node);
-        left
+        let was = self.rows.move_on(spot, frame, node);
+        leave(&mut self.dups, &self.frames, was)
     }
 
     /// A page with a frame of its own lies on this one from now on.
@@ -75,9 +73,8 @@ impl Pages {
           frame = lies_on spot.page None (seen self.old).frame;
         } }
     {
-        let left = leave(&mut self.dups, &self.frames, &self.rows, spot);
-        self.rows.remove(spot);
-        left
+        let was = self.rows.remove(spot);
+        leave(&mut self.dups, &self.frames, was)
     }
 
     /// A page with a frame of its own gets these bytes.
@@ -112,15 +109,12 @@ impl Pages {
         ensures left { result ≡ (seen self.old).frame spot.page }
         ensures gone { seen self.new ≡ relaid spot.page as_let_go (Some frame) (seen self.old) }
     {
-        let Some(was) = self.rows.change(spot, |entry| {
+        let was = self.rows.change(spot, |entry| {
             entry.take_frame(frame);
             entry.mergeable = false;
             entry.unchanged = false;
-        })
-        else {
-            unreachable!()
-        };
-        leave_by(&mut self.dups, &self.frames, &was)
+        });
+        leave(&mut self.dups, &self.frames, was)
     }
 
     /// The page gets a frame of its own in the stead of what it had, and is not unchanged. Gives the frame where it
@@ -130,14 +124,11 @@ impl Pages {
         ensures left { result ≡ (seen self.old).frame spot.page }
         ensures unshared { seen self.new ≡ relaid spot.page as_unshared (Some frame) (seen self.old) }
     {
-        let Some(was) = self.rows.change(spot, |entry| {
+        let was = self.rows.change(spot, |entry| {
             entry.take_frame(frame);
             entry.unchanged = false;
-        })
-        else {
-            unreachable!()
-        };
-        leave_by(&mut self.dups, &self.frames, &was)
+        });
+        leave(&mut self.dups, &self.frames, was)
     }
 
     /// A page with a frame of its own waits no more, if it did.

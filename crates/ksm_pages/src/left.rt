@@ -1,12 +1,12 @@
 //! On which frame the page of a row lies, and how it leaves its dup before its row becomes another.
 
 ghost use Rattle.std.specs.Prelude.{◌≡◌, ℕ, ⊤, MatchOption, option_and_then, slice_get};
-ghost use Rattle.ksm_pages.specs.Terms.{dup_rows, mapping_of};
-ghost use Rattle.ksm_pages.specs.Held.{held_at, held_of};
+ghost use Rattle.ksm_pages.specs.Terms.{dup_rows, GuestPage, mapping_of};
+ghost use Rattle.ksm_pages.specs.Filed.{WasKept};
+ghost use Rattle.ksm_pages.specs.Held.{held_at, held_of, RowsView};
 ghost use Rattle.ksm_pages.specs.Paged.{IsLeft, frame_seen, lodging};
 
-use crate::row::{Entry, Kind, Spot};
-use crate::rows::Rows;
+use crate::row::{Entry, Kind};
 use ksm_tree::Dups;
 
 /// The frame that is kept at a place, if there is one.
@@ -29,25 +29,20 @@ pub fn frame_of(dups: &Dups, frames: &[u32], entry: &Entry, pass: u64) -> Option
     }
 }
 
-/// Takes the page of a spot out of its dup, if it is merged. Gives the frame on which it lay, if it did on one.
-#[inline(always)]
-pub fn leave(dups: &mut Dups, frames: &[u32], rows: &Rows, spot: Spot) -> Option<u32>
-    ensures { MatchOption (held_at spot.page rows.now.held) ⊤ (IsLeft frames.now dups.old dups.new result) }
-{
-    leave_by(dups, frames, rows.find(spot)?)
-}
-
-/// The same, by what is kept of the row, or was before it changed.
+/// Takes a page out of its dup, if it was merged, by what was kept of its row before that changed, if it had one. Gives
+/// the frame on which it lay, if it did on one.
 #[tactic(auto, using(crate::proofs::Paging::place_numbered))]
 #[inline(always)]
-pub fn leave_by(dups: &mut Dups, frames: &[u32], entry: &Entry) -> Option<u32>
-    ensures { (pass : ℕ) → IsLeft frames.now dups.old dups.new result (held_of pass entry.now) }
+pub fn leave(dups: &mut Dups, frames: &[u32], was: Option<Entry>) -> Option<u32>
+    ensures { (rows : RowsView) (page : GuestPage) → WasKept rows page was
+        → MatchOption (held_at page rows.held) ⊤ (IsLeft frames.now dups.old dups.new result) }
 {
-    match entry.kind {
+    let was = was?;
+    match was.kind {
         Kind::Merged => {
-            let place = dups.leave_at(entry.at, entry.number, entry.page);
+            let place = dups.leave_at(was.at, was.number, was.page);
             frame_at(frames, place)
         }
-        _ => entry.own_frame(),
+        _ => was.own_frame(),
     }
 }

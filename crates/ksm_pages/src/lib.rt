@@ -20,7 +20,7 @@ mod visited;
 pub use ahead::Ahead;
 pub use named::Named;
 pub use order::{Order, ShortOrder};
-pub use pages::{Find, Glance, Held, Pages};
+pub use pages::{Find, Glance, Held, Look, Pages};
 pub use restless::Restless;
 pub use row::Spot;
 pub use rows::Rows;

@@ -27,6 +27,15 @@ pub struct Held {
     pub own: Option<u32>,
 }
 
+/// How a page lies that is about to change.
+#[derive(Clone, Copy, Debug)]
+pub enum Look {
+    /// Its row lies where that was guessed. It has this frame of its own, and waits for nothing.
+    Private(Spot, u32),
+    /// In any way.
+    Other(Held),
+}
+
 /// What a visit finds.
 #[derive(Clone, Copy, Debug)]
 pub enum Find {

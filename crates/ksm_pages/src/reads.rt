@@ -2,11 +2,11 @@
 
 ghost use Rattle.std.specs.Prelude.{◌≡◌, ◌≤◌, ◌==◌, true, false, None, Some, All, find, is_some, length, option_map, option_and_then, MatchOption, IfSome};
 ghost use Rattle.ksm_pages.specs.Terms.{after_cursor, comes_before, counters_from, mergeable_count, place_of, private_state, Row, row_at, waiting_state};
-ghost use Rattle.ksm_pages.specs.Paged.{IsHeld, IsKnown, TellsNext, is_next, of_guest, page_beside, seen};
+ghost use Rattle.ksm_pages.specs.Paged.{IsHeld, IsKnown, LooksSo, TellsNext, is_next, of_guest, page_beside, seen, told_by};
 
 use crate::left::frame_of;
-use crate::pages::{Held, Pages};
-use crate::row::{Kind, Spot};
+use crate::pages::{Held, Look, Pages};
+use crate::row::{Entry, Kind, Spot};
 use crate::unstable::tree_in;
 use ksm_base::{Counters, GuestPage, PageBytes, PageState};
 
@@ -54,6 +54,19 @@ fn least_next(guest: Option<u16>, cursor: Option<GuestPage>) -> Option<GuestPage
     }
 }
 
+/// How the page of a row lies, by what is kept of it.
+#[inline(always)]
+fn held_by(spot: Spot, entry: &Entry) -> Held
+    ensures { result ≡ told_by spot entry.now }
+{
+    Held {
+        spot,
+        home: entry.home,
+        shared: entry.own_frame().is_none(),
+        own: entry.own_frame(),
+    }
+}
+
 impl Pages {
     /// Whether a page has a row.
     #[tactic(auto, using(crate::proofs::Options::some_mapped, crate::proofs::Changing::row_found))]
@@ -69,6 +82,24 @@ impl Pages {
         ensures { MatchOption result (row_at page self.now.rows ≡ None) (IsHeld (seen self.now) page) }
     {
         self.told(self.rows.guess(page))
+    }
+
+    /// How a page lies that is about to change; none where it has no row. Most have a frame of their own, and wait for
+    /// nothing: that is told apart where the row lies where it is guessed, so that a change of it needs no second look.
+    #[tactic(auto, using(crate::proofs::Leaving::row_seen, crate::proofs::Leaving::held_so))]
+    #[inline(always)]
+    pub fn look(&self, page: GuestPage) -> Option<Look>
+        ensures { MatchOption result (row_at page self.now.rows ≡ None) (LooksSo (seen self.now) page) }
+    {
+        let spot = self.rows.guess(page);
+        if let Some(entry) = self.rows.at(spot) {
+            if matches!(entry.kind, Kind::Own) && !entry.in_tree.is_in() {
+                return Some(Look::Private(spot, entry.at));
+            }
+            return Some(Look::Other(held_by(spot, entry)));
+        }
+        let (spot, entry) = self.rows.look_up_anew(page)?;
+        Some(Look::Other(held_by(spot, entry)))
     }
 
     /// The frame on which a page lies, if it does on one, with its spot; none where it has no row.
@@ -218,17 +249,12 @@ impl Pages {
     }
 
     // How the page of a spot lies, and where it is at home.
-    #[tactic(auto, using(crate::proofs::Leaving::row_seen))]
+    #[tactic(auto, using(crate::proofs::Leaving::row_seen, crate::proofs::Leaving::held_so))]
     #[inline(always)]
     fn told(&self, spot: Spot) -> Option<Held>
         ensures { MatchOption result (row_at spot.page self.now.rows ≡ None) (IsHeld (seen self.now) spot.page) }
     {
         let (spot, entry) = self.rows.look_up(spot)?;
-        Some(Held {
-            spot,
-            home: entry.home,
-            shared: entry.own_frame().is_none(),
-            own: entry.own_frame(),
-        })
+        Some(held_by(spot, entry))
     }
 }

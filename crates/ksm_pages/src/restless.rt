@@ -149,11 +149,10 @@ fn push_to(listed: &mut Vec<Listed>, one: Listed) -> Result<(), AllocError>
     ensures added { OnOk result (listed.new.items ≡ listed.old.items ++ one ∷ []) }
     ensures kept { OnErr result (listed.new.items ≡ listed.old.items) }
 {
-    if listed.len() < listed.capacity() {
-        listed.push_reserved(one);
-    } else {
-        listed.push(one)?;
+    if listed.len() == listed.capacity() {
+        listed.reserve(1)?;
     }
+    listed.push_reserved(one);
     Ok(())
 }
 

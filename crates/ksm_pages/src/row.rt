@@ -8,7 +8,7 @@ ghost use Rattle.std.specs.Prelude.{◌≡◌, ◌&&◌, bytes_eq};
 ghost use Rattle.ksm_pages.specs.Held.{beside as no_longer_alone, forgotten, frame_of, held_of, is_in as is_in_tree, is_restless as is_a_restless, state_of};
 
 use ksm_base::{GuestPage, PageBytes, PageState, Row};
-use ksm_tree::{NO_NUMBER, same_bytes};
+use ksm_tree::same_bytes;
 
 /// A page with a guess of the key under which its row is kept. A call compares the guess before it believes it, so a
 /// wrong one costs a search and changes nothing else. The key has 64 bits, so that a list of spots moves two words at
@@ -136,20 +136,16 @@ impl Entry {
         self.number = 0;
     }
 
-    /// The entry has these bytes. Where they are others than before, it is not unchanged, and its group is not known.
+    /// The entry has these bytes. Where they are others than before, it is not unchanged.
     #[inline(always)]
     pub fn take_bytes(&mut self, bytes: &PageBytes)
         ensures { self.new ≡ record self.old {
           bytes = bytes.now;
           unchanged = self.old.unchanged && bytes_eq self.old.bytes bytes.now;
-          group = self.new.group;
         } }
     {
-        if !same_bytes(&self.bytes, bytes) {
-            self.bytes = *bytes;
-            self.unchanged = false;
-            self.group = NO_NUMBER;
-        }
+        self.unchanged = self.unchanged && same_bytes(&self.bytes, bytes);
+        self.bytes = *bytes;
     }
 
     /// An entry with a frame of its own says no longer in which pass it came to wait.

@@ -10,7 +10,7 @@ ghost use Rattle.std.specs.Prelude.{option_and_then, option_map};
 ghost use Rattle.std.specs.Fn.{FnOnceReturnsAtMut};
 ghost use Rattle.ksm_pages.specs.Terms.{after_cursor, fresh_row, GuestPage, InPageOrder, Merged, MOST_FRAMES, settled, shared_state, stored, Waiting, Zero};
 ghost use Rattle.ksm_pages.specs.Ahead.{EndsAt, FindsNext, last_of, mergeable_pages, pages_behind, pages_between};
-ghost use Rattle.ksm_pages.specs.Filed.{AreFiled, AreListed, IsMade, IsTally, IsUnder, KeepsPage, key_in};
+ghost use Rattle.ksm_pages.specs.Filed.{AreFiled, AreListed, IsMade, IsTally, IsUnder, KeepsPage, WasKept, key_in};
 ghost use Rattle.ksm_pages.specs.Held.{AreInTree, AreWaitersLed, IsFree, altered, held_at, held_of, is_in, on_row, out_of_tree, in_tree_by, page_in_tree, laid_on, rows_of, shares};
 ghost use Rattle.ksm_pages.specs.Held.{waiting_in, with_held, without_held, written};
 ghost use Rattle.ksm_pages.specs.Ordered.{AreAscending};
@@ -223,10 +223,10 @@ impl Rows {
         }
     }
 
-    // The same, without a guess.
+    /// The same, without a guess.
     #[tactic(auto, using(crate::proofs::Filing::held_nowhere))]
     #[inline(never)]
-    fn look_up_anew(&self, page: GuestPage) -> Option<(Spot, &Entry)>
+    pub fn look_up_anew(&self, page: GuestPage) -> Option<(Spot, &Entry)>
         ensures { MatchOption result (held_at page self.now.held ≡ None) (λ found.
             (found.0.page ≡ page) × (held_at page self.now.held ≡ Some (held_of self.now.pass found.1.now))) }
     {
@@ -357,19 +357,21 @@ impl Rows {
         Ok(spot)
     }
 
-    /// The row of a page goes, if it has one.
-    #[tactic(auto, using(crate::proofs::Options::some_mapped, crate::proofs::Writing::nothing_gone, crate::proofs::Writing::viewed_gone))]
-    pub fn remove(&mut self, spot: Spot)
-        ensures { self.new ≡ record self.old { held = without_held spot.page self.old.held } }
+    /// The row of a page goes, if it has one. Gives what was kept of it.
+    #[tactic(auto, using(crate::proofs::Options::some_mapped, crate::proofs::Writing::nothing_gone, crate::proofs::Writing::viewed_gone, crate::proofs::Writing::row_there, crate::proofs::Filing::held_nowhere))]
+    pub fn remove(&mut self, spot: Spot) -> Option<Entry>
+        ensures before { WasKept self.old spot.page result }
+        ensures gone { self.new ≡ record self.old { held = without_held spot.page self.old.held } }
     {
         let Some(key) = key_of(&self.entries, &self.order, spot) else {
-            return;
+            return None;
         };
         let gone = self.entries.remove(key);
         self.tally.change(gone.state(self.pass), PageState::Private);
         self.order.remove(spot.page);
         self.restless.lose_row();
         self.forget(key, &gone);
+        Some(gone)
     }
 
     // ------------------------------------------------------------ rows that change
@@ -381,8 +383,7 @@ impl Rows {
         requires callable { F.IsAlwaysCallable make }
         requires kept { KeepsPage self.old.pass (λ old new. FnOnceReturnsAtMut F.FnOnce make old tt new) }
         ensures made { IsMade (λ old new. FnOnceReturnsAtMut F.FnOnce make old tt new) spot.page self.old self.new }
-        ensures before { MatchOption result (held_at spot.page self.old.held ≡ None)
-            (λ was. held_at spot.page self.old.held ≡ Some (held_of self.old.pass was)) }
+        ensures before { WasKept self.old spot.page result }
     {
         let Some(key) = key_of(&self.entries, &self.order, spot) else {
             return None;
@@ -428,76 +429,84 @@ impl Rows {
             return;
         };
         if self.entries[key].in_tree.is_in() {
-            self.change_in_tree(Spot { key, ..spot }, |entry| {
-                entry.in_tree = InTree::Not;
-                entry.take_bytes(bytes);
-            });
+            self.store_waiting(Spot { key, ..spot }, bytes);
         } else {
             self.entries[key].take_bytes(bytes);
         }
     }
 
-    /// The row has a frame of its own in the stead of what it had, and these bytes. Where its bytes were others, it is
-    /// not unchanged.
-    #[inline(always)]
-    pub fn store_on(&mut self, spot: Spot, frame: u32, bytes: &PageBytes)
-        ensures { self.new ≡ altered spot.page (laid_on frame (stored bytes.now)) self.old }
+    // The same where the unstable tree led to the row.
+    #[inline(never)]
+    fn store_waiting(&mut self, spot: Spot, bytes: &PageBytes)
+        ensures { self.new ≡ altered spot.page (written bytes.now) self.old }
     {
-        self.change_out_of_tree(spot, |entry| {
+        let _ = self.change_out_of_tree(spot, |entry| {
             entry.in_tree = InTree::Not;
-            entry.take_frame(frame);
             entry.take_bytes(bytes);
         });
     }
 
-    /// The row has a frame of its own in the stead of what it had, and is at home on another node.
-    pub fn move_on(&mut self, spot: Spot, frame: u32, home: u32)
-        ensures { self.new ≡ altered spot.page (laid_on frame (at_home_on home)) self.old }
+    /// The row has a frame of its own in the stead of what it had, and these bytes. Where its bytes were others, it is
+    /// not unchanged. Its group is not known any more. Gives what was kept of it.
+    #[inline(always)]
+    pub fn store_on(&mut self, spot: Spot, frame: u32, bytes: &PageBytes) -> Option<Entry>
+        ensures before { WasKept self.old spot.page result }
+        ensures stored { self.new ≡ altered spot.page (laid_on frame (stored bytes.now)) self.old }
+    {
+        self.change_out_of_tree(spot, move |entry| {
+            entry.in_tree = InTree::Not;
+            entry.take_frame(frame);
+            entry.take_bytes(bytes);
+            entry.group = NO_NUMBER;
+        })
+    }
+
+    /// The row has a frame of its own in the stead of what it had, and is at home on another node. Gives what was kept
+    /// of it.
+    pub fn move_on(&mut self, spot: Spot, frame: u32, home: u32) -> Option<Entry>
+        ensures before { WasKept self.old spot.page result }
+        ensures moved { self.new ≡ altered spot.page (laid_on frame (at_home_on home)) self.old }
     {
         self.change_out_of_tree(spot, |entry| {
             entry.in_tree = InTree::Not;
             entry.take_frame(frame);
             entry.home = home;
-        });
+        })
     }
 
     /// The unstable tree does not lead to the row, so that waits no more.
     pub fn leave_tree(&mut self, spot: Spot)
         ensures { self.new ≡ altered spot.page out_of_tree self.old }
     {
-        self.change_out_of_tree(spot, |entry| entry.in_tree = InTree::Not);
+        let _ = self.change_out_of_tree(spot, |entry| entry.in_tree = InTree::Not);
     }
 
-    // The entry of a page becomes what is made of it, to which the unstable tree does not lead.
+    // The entry of a page becomes what is made of it, to which the unstable tree does not lead. Gives what it was before.
     #[inline(always)]
-    fn change_out_of_tree<F: FnOnce(&mut Entry)>(&mut self, spot: Spot, make: F)
+    fn change_out_of_tree<F: FnOnce(&mut Entry)>(&mut self, spot: Spot, make: F) -> Option<Entry>
         requires callable { F.IsAlwaysCallable make }
         requires kept { KeepsPage self.old.pass (λ old new. FnOnceReturnsAtMut F.FnOnce make old tt new) }
-        ensures { IsMade (λ old new. FnOnceReturnsAtMut F.FnOnce make old tt new) spot.page self.old self.new }
+        ensures made { IsMade (λ old new. FnOnceReturnsAtMut F.FnOnce make old tt new) spot.page self.old self.new }
+        ensures before { WasKept self.old spot.page result }
     {
-        match key_of(&self.entries, &self.order, spot) {
-            Some(key) if self.entries[key].in_tree.is_in() => {
-                self.change_in_tree(Spot { key, ..spot }, make);
-            }
-            _ => {
-                self.change(spot, make);
-            }
+        let was = self.change(spot, make)?;
+        if was.in_tree.is_in() {
+            self.forget_row(spot, was);
         }
-    }
-
-    // The same where the unstable tree led to it, which forgets the key of the spot.
-    #[inline(never)]
-    fn change_in_tree<F: FnOnce(&mut Entry)>(&mut self, spot: Spot, make: F)
-        requires callable { F.IsAlwaysCallable make }
-        requires kept { KeepsPage self.old.pass (λ old new. FnOnceReturnsAtMut F.FnOnce make old tt new) }
-        ensures { IsMade (λ old new. FnOnceReturnsAtMut F.FnOnce make old tt new) spot.page self.old self.new }
-    {
-        if let Some(was) = self.change(spot, make) {
-            self.forget(spot.key, &was);
-        }
+        Some(was)
     }
 
     // ------------------------------------------------------------ the unstable tree
+
+    // The unstable tree forgets the row of a page, if it was in it.
+    #[inline(never)]
+    fn forget_row(&mut self, spot: Spot, was: Entry)
+        ensures { self.new ≡ self.old }
+    {
+        if let Some(key) = key_of(&self.entries, &self.order, spot) {
+            self.forget(key, &was);
+        }
+    }
 
     // The unstable tree forgets the key of a row that was in it, and is not any more.
     fn forget(&mut self, key: usize, was: &Entry)
@@ -732,7 +741,7 @@ impl Rows {
         }
     }
 
-    /// Of the listed pages those that no visit may change are listed no more, once they may be many.
+    /// Of the listed pages those that no visit may change are listed no more, once they may be many, or all.
     pub fn sweep_restless(&mut self)
         ensures { self.new ≡ self.old }
     {

@@ -87,7 +87,6 @@ impl Pages {
             return Glance::Gone;
         }
         if !entry.unchanged {
-            // Where all pages were unshared, each first visit ends here.
             if self.dups.count_shared() != 0 {
                 return Glance::Nothing;
             }

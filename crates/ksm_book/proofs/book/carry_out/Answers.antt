@@ -3,11 +3,11 @@ use Rattle.ksm_book.proofs.DueKept.{more_due}
 use Rattle.ksm_book.proofs.Names.{AreDue, arith, Drop, MoveDup, Prune, Register, Row, row_at, SetPagesToScan, Some, ◌≡◌}
 use Rattle.ksm_book.proofs.book.carry_out.Goals as goal
 
-pub returns-in-Register-command-clause-due : goal.returns-in-Register-command-clause-due
-returns-in-Register-command-clause-due c = λ known.
+pub returns-in-Register-clause-due : goal.returns-in-Register-clause-due
+returns-in-Register-clause-due c = λ known.
     let b = c.args.state.now.state in
     let added = c.add.ensures known in
-    let due : AreDue b c.if-not-matches.due.pages = grind (arith, added.0) in
+    let due : AreDue b c.args.due.now.pages = grind (arith, added.0) in
     stays_due _ _ (Register _ _ _) _ _ (λ _ is. added_come b _ _ _ added.1 due (grind arith) _ _)
     (added_due b _ _ _ added.1 due) c.register.ensures
 
@@ -15,7 +15,7 @@ pub returns-in-Drop-clause-due : goal.returns-in-Drop-clause-due
 returns-in-Drop-clause-due c = λ known.
     let b = c.args.state.now.state in
     let left = c.note_leaving.ensures known in
-    let due : AreDue b c.if-not-matches.due.pages = grind (arith, left.0) in
+    let due : AreDue b c.args.due.now.pages = grind (arith, left.0) in
     stays_due _ _ (Drop _) _ _ (λ _ is.
     let at : (row : Row) × (row_at c.in-Drop.page b.rows ≡ Some row) = grind arith in
     left_dropped _ _ _ _ due left.1 c.lies_lawfully.ensures.sound at.0 at.1)

@@ -2,10 +2,10 @@ use Rattle.ksm_pages.proofs.Names.{at_home_on, refl, relaid, seen, Some}
 use Rattle.ksm_pages.proofs.Turning.{Comes, known_left, relaid_on}
 use Rattle.ksm_pages.proofs.pages.Pages.move_on.Goals as goal
 
-came : (c : goal.After-move_on)
-    → Comes c.self.inside c.move_on.new.self c.leave-left.new.dups (relaid c.args.spot.page (at_home_on c.args.node) (Some c.args.frame) (seen c.args.self.now))
+came : (c : goal.After-leave)
+    → Comes c.self.inside c.move_on-was.new.self c.leave.new.dups (relaid c.args.spot.page (at_home_on c.args.node) (Some c.args.frame) (seen c.args.self.now))
 came c =
-    relaid_on (known_left {s = c.self.inside} c.self.invariant c.self.view_is c.requires c.leave-left.ensures) _ c.move_on.ensures (at_home_on c.args.node) (λ x. (refl, refl)) (λ r. (refl, refl))
+    relaid_on (known_left {s = c.self.inside} c.self.invariant c.self.view_is c.requires (c.leave.ensures c.self.inside.rows c.args.spot.page c.move_on-was.ensures.before)) _ c.move_on-was.ensures.moved (at_home_on c.args.node) (λ x. (refl, refl)) (λ r. (refl, refl))
     (λ _ is. cc)
 
 pub invariant_of-self : goal.invariant_of-self
