@@ -7,7 +7,7 @@ use Rattle.std.proofs.lemmas.List.{get_or-map}
 use Rattle.std.specs.Int.{from_bool}
 use Rattle.std.proofs.lemmas.Grind.{take-set_at}
 use Rattle.std.proofs.lemmas.List.Sums.{sum_by-remove}
-use Rattle.ksm_order.proofs.Places.{with_rises}
+use Rattle.ksm_order.proofs.Places.{with_ascends}
 use Rattle.ksm_order.proofs.Parts.{ahead_of, behind_of, cut, front, halves_rise, mark_between, rest, with_between}
 use Rattle.ksm_order.proofs.Ordered.{numbers_ordered, without_between}
 
@@ -80,7 +80,7 @@ pub local_none : (key : ℕ) → IsLocal key (λ xs. xs)
 local_none key = record { between = λ xs run ys ahead after. refl; rises = λ xs rise. rise }
 
 pub local_with : (x : Item) → IsLocal x.key (with_item x)
-local_with x = record { between = with_between x; rises = with_rises (λ y. y.key) x }
+local_with x = record { between = with_between x; rises = with_ascends (λ y. y.key) x }
 
 pub local_mark : (key : ℕ) (mark : Bool) → IsLocal key (with_mark key mark)
 local_mark key mark =

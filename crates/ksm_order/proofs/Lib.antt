@@ -3,3 +3,8 @@ pub mod Parts
 pub mod Changes
 pub mod Ordered
 pub mod Places
+pub use Changes.*
+pub use Names.*
+pub use Ordered.*
+pub use Parts.*
+pub use Places.*

@@ -5,7 +5,7 @@ use Rattle.ksm_order.proofs.Names.{filter-append, filter_all, filter_none, find,
 use Rattle.ksm_order.proofs.Names.{length-append, length-drop, length-take-le, List, list_any, list_any_at, list_any_none, ltb-true, nat_lt, nat_tests, not, refl, remove, set, set_at, Some, sym, take}
 use Rattle.ksm_order.proofs.Names.{take-append-drop, take-append-le, take-append_seam, take-suc, ℕ, ◌++◌, ◌+◌, ◌-◌, ◌<◌, ◌==◌, ◌∙◌, ◌∷◌, ◌≡◌, ◌≤◌}
 use Rattle.std.proofs.lemmas.Bool.{cases_Bool}
-use Rattle.ksm_order.proofs.Ordered.{numbers_ordered, with_rises as with_rises_by, without_between}
+use Rattle.ksm_order.proofs.Ordered.{numbers_ordered, with_rises, without_between}
 
 -- whether an element comes before a key, comes behind it, or is of it
 abbrev pub low : {X : Type 0} → (X → ℕ) → ℕ → X → Bool
@@ -92,10 +92,10 @@ module _ {X : Type 0} {key_of : X → ℕ} {key : ℕ} {xs : List X} {at : ℕ} 
     )
 
 -- a list whose keys ascend keeps them so with an element at its place
-pub with_rises : {X : Type 0} (key_of : X → ℕ) (x : X) (xs : List X) → AllPairs (λ y z. key_of y < key_of z) xs
+pub with_ascends : {X : Type 0} (key_of : X → ℕ) (x : X) (xs : List X) → AllPairs (λ y z. key_of y < key_of z) xs
     → AllPairs (λ y z. key_of y < key_of z) (filter (low key_of (key_of x)) xs ++ x ∷ filter (high key_of (key_of x)) xs)
-with_rises key_of x xs rise i j d less lt =
-    ltb-true _ _ (with_rises_by numbers_ordered key_of (key_of x) x xs refl (λ k l e lower le. grind (arith, nat_tests, rise k l e)) i j d less lt)
+with_ascends key_of x xs rise i j d less lt =
+    ltb-true _ _ (with_rises numbers_ordered key_of (key_of x) x xs refl (λ k l e lower le. grind (arith, nat_tests, rise k l e)) i j d less lt)
 
 -- one more behind a list, the elements from an index on moved up by one, and that one written there: it is put in
 pub moved_up : {X : Type 0} (xs : List X) (at : ℕ) (x : X) → at ≤ length xs → set (copy_within (xs ++ x ∷ []) at (length xs) (at + 1)) at x ≡ insert xs at x

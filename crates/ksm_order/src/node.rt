@@ -210,7 +210,6 @@ fn take_out<P: Part>(parts: &mut Vec<P>, last: &mut usize, key: u64) -> usize
 
 /// Marks the item of a key in its part, or takes its mark away. Answers how many of that part were marked, and are.
 #[inline(never)]
-#[inline(never)]
 fn mark_in<P: Part>(parts: &mut Vec<P>, last: &mut usize, key: u64, mark: bool) -> (usize, usize)
     requires parts { AreParts P.items parts.old.items }
     requires few { length (flat_map P.items parts.old.items) < 2 ^ 64 }

@@ -9,7 +9,7 @@ pub use Rattle.ksm_base.proofs.Orders.{all_with_dup, dups_parted, dups_with, fil
 pub use Rattle.ksm_base.proofs.RowCounts.{each_at_page, filter_all}
 pub use Rattle.ksm_base.specs.Rows.{change_row, comes_before, has_items, InPageOrder, merged_into, merged_state, row_at, same_group, with_dup, with_row, without_page}
 pub use Rattle.ksm_order.proofs.Ordered.{absent_kept, absent_parts, found_parts, none_found, numbers_ordered, with_found}
-pub use Rattle.ksm_order.proofs.Places.{insert_here, remove_here, with_rises}
+pub use Rattle.ksm_order.proofs.Places.{insert_here, remove_here, with_ascends}
 pub use Rattle.ksm_rmap.proofs.Pages.{pages_ordered}
 pub use Rattle.ksm_tree.specs.Bridge.{AreCounted, AreTied, let_out, place_in}
 pub use Rattle.ksm_tree.specs.Chains.{AreChained, dups_seen, group_places, in_group}

@@ -1,4 +1,4 @@
-use Rattle.ksm_order.proofs.Names.{drop, flat_map, many, ◌+◌, ◌≡◌}
+use Rattle.ksm_order.proofs.{drop, flat_map, many, ◌+◌, ◌≡◌}
 use Rattle.ksm_order.proofs.node.count_marked.Given as goal
 
 -- those counted and those of the parts ahead are all

@@ -1,5 +1,4 @@
-use Rattle.ksm_order.proofs.Names.{AreParts, arith, IsPartOf}
-use Rattle.ksm_order.proofs.Changes.{into_first, into_second, same_part, split}
+use Rattle.ksm_order.proofs.{AreParts, arith, into_first, into_second, IsPartOf, same_part, split}
 use Rattle.ksm_order.proofs.node.make_room.Goals.{After-spill}
 use Rattle.ksm_order.proofs.node.make_room.Goals as goal
 

@@ -1,6 +1,4 @@
-use Rattle.ksm_order.proofs.Names.{ap, arith, get_or-set_same, get_or_default, length, length-map, nil_from_length}
-use Rattle.ksm_order.proofs.Changes.{local_mark, set_part}
-use Rattle.ksm_order.proofs.Parts.{few_in_part}
+use Rattle.ksm_order.proofs.{ap, arith, few_in_part, get_or-set_same, get_or_default, length, length-map, local_mark, nil_from_length, set_part}
 use Rattle.ksm_order.proofs.node.mark_in.Goals as goal
 
 pub set_mark-requires : goal.set_mark-requires

@@ -1,5 +1,4 @@
-use Rattle.ksm_order.proofs.Names.{ap, arith, length, length-append}
-use Rattle.ksm_order.proofs.Changes.{local_with, same_part, set_part}
+use Rattle.ksm_order.proofs.{ap, arith, length, length-append, local_with, same_part, set_part}
 use Rattle.ksm_order.proofs.node.put.Goals as goal
 
 pub returns-in_err-insert : goal.returns-in_err-insert

@@ -1,5 +1,4 @@
-use Rattle.ksm_order.proofs.Names.{arith, drop_all}
-use Rattle.ksm_order.proofs.Parts.{ahead_of, behind_later, behind_of}
+use Rattle.ksm_order.proofs.{ahead_of, arith, behind_later, behind_of, drop_all}
 use Rattle.ksm_order.proofs.node.search.Goals as goal
 
 pub loop-low-preserved-then-begins_behind : goal.loop-low-preserved-then-begins_behind

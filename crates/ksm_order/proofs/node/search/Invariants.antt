@@ -1,4 +1,4 @@
-use Rattle.ksm_order.proofs.Names.{AreBefore, AreBehind, drop, flat_map, Item, length, List, take, ℕ, ◌-◌, ◌≤◌}
+use Rattle.ksm_order.proofs.{AreBefore, AreBehind, drop, flat_map, Item, length, List, take, ℕ, ◌-◌, ◌≤◌}
 use Rattle.ksm_order.proofs.node.search.Given as goal
 
 -- the parts in front of the last below `low` come before the key, and those from `high` on come behind it

@@ -1,5 +1,4 @@
-use Rattle.ksm_order.proofs.Names.{[], arith, drop-set-lt, get_or-set_same, nat_tests, nil_from_length, sym, take-set, ◌∙◌}
-use Rattle.ksm_order.proofs.Changes.{local_without, replaced, set_part}
+use Rattle.ksm_order.proofs.{[], arith, drop-set-lt, get_or-set_same, local_without, nat_tests, nil_from_length, replaced, set_part, sym, take-set, ◌∙◌}
 use Rattle.ksm_order.proofs.node.take_out.Goals as goal
 
 pub returns-then-not-is_empty : goal.returns-then-not-is_empty

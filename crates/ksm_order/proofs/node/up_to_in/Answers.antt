@@ -1,5 +1,4 @@
-use Rattle.ksm_order.proofs.Names.{arith, flat_map}
-use Rattle.ksm_order.proofs.Parts.{up_to_few, up_to_in_part}
+use Rattle.ksm_order.proofs.{arith, flat_map, up_to_few, up_to_in_part}
 use Rattle.ksm_order.proofs.node.up_to_in.Goals as goal
 
 pub overflow_add-result : goal.overflow_add-result

@@ -1,4 +1,4 @@
-use Rattle.ksm_order.proofs.Names.{arith, get_or_default, ℕ, ◌-◌}
+use Rattle.ksm_order.proofs.{arith, get_or_default, ℕ, ◌-◌}
 use Rattle.ksm_order.proofs.place.is_place.Goals as goal
 
 pub returns-then-at-items-2-clause-place : goal.returns-then-at-items-2-clause-place

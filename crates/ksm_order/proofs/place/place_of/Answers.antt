@@ -1,4 +1,4 @@
-use Rattle.ksm_order.proofs.Names.{arith, nat_lt, nat_tests, rules}
+use Rattle.ksm_order.proofs.{arith, nat_lt, nat_tests, rules}
 use Rattle.std.specs.List.Sorted.{IsPartitionedBy}
 use Rattle.std.proofs.lemmas.List.Sorted.{IsPartitionPoint-from_clause}
 use Rattle.ksm_order.proofs.place.place_of.Goals as goal

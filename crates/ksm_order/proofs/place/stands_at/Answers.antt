@@ -1,5 +1,4 @@
-use Rattle.ksm_order.proofs.Names.{arith, list_any_none, ◌==◌}
-use Rattle.ksm_order.proofs.Places.{none_there, told_there}
+use Rattle.ksm_order.proofs.{arith, list_any_none, none_there, told_there, ◌==◌}
 use Rattle.ksm_order.proofs.place.stands_at.Goals as goal
 
 pub returns-then-at-items-clause-found : goal.returns-then-at-items-clause-found

@@ -1,5 +1,4 @@
-use Rattle.ksm_order.proofs.Names.{[], arith, get_or-append_seam, length-append, ◌∷◌}
-use Rattle.ksm_order.proofs.Places.{moved_up}
+use Rattle.ksm_order.proofs.{[], arith, get_or-append_seam, length-append, moved_up, ◌∷◌}
 use Rattle.ksm_order.proofs.vector.move_last.Goals as goal
 
 pub returns-then-at-last : goal.returns-then-at-last

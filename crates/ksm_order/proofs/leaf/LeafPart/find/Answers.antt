@@ -1,5 +1,4 @@
-use Rattle.ksm_order.proofs.Names.{arith}
-use Rattle.ksm_order.proofs.Places.{find_here}
+use Rattle.ksm_order.proofs.{arith, find_here}
 use Rattle.ksm_order.proofs.leaf.LeafPart.find.Goals as goal
 
 pub returns-in-Some : goal.returns-in-Some

@@ -1,5 +1,4 @@
-use Rattle.ksm_order.proofs.Names.{arith, slice_get_past}
-use Rattle.ksm_order.proofs.Parts.{from_place}
+use Rattle.ksm_order.proofs.{arith, from_place, slice_get_past}
 use Rattle.ksm_order.proofs.leaf.LeafPart.first_from.Goals as goal
 
 pub returns-else-at-items : goal.returns-else-at-items

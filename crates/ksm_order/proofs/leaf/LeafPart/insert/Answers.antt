@@ -1,7 +1,4 @@
-use Rattle.ksm_order.proofs.Names.{arith, find_none, is_at, with_item, ◌≡◌}
-use Rattle.ksm_order.proofs.Parts.{many_with}
-use Rattle.ksm_order.proofs.Places.{insert_here, with_rises}
-use Rattle.ksm_order.proofs.Changes.{byte_of}
+use Rattle.ksm_order.proofs.{arith, byte_of, find_none, insert_here, is_at, many_with, with_ascends, with_item, ◌≡◌}
 use Rattle.ksm_order.proofs.leaf.LeafPart.insert.Goals as goal
 
 -- the item is put in behind those before its key
@@ -11,7 +8,7 @@ added c =
 
 pub invariant_of-self-2 : goal.invariant_of-self-2
 invariant_of-self-2 c =
-    grind (arith, added c, with_rises (λ y. y.key) c.args.item _ c.self.invariant.ascending, many_with c.args.item c.self.inside.items.items c.self.invariant.ascending, byte_of)
+    grind (arith, added c, with_ascends (λ y. y.key) c.args.item _ c.self.invariant.ascending, many_with c.args.item c.self.inside.items.items c.self.invariant.ascending, byte_of)
 
 pub returns-clause-added : goal.returns-clause-added
 returns-clause-added c = rw (← c.self.view_is) (added c)

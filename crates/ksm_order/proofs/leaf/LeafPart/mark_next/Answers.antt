@@ -1,5 +1,4 @@
-use Rattle.ksm_order.proofs.Names.{arith, get_or_default, IsHere}
-use Rattle.ksm_order.proofs.Places.{find_here}
+use Rattle.ksm_order.proofs.{arith, find_here, get_or_default, IsHere}
 use Rattle.ksm_order.proofs.leaf.LeafPart.mark_next.Goals as goal
 
 pub returns-clause-there : goal.returns-clause-there

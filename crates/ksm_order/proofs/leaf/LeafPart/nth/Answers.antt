@@ -1,4 +1,4 @@
-use Rattle.ksm_order.proofs.Names.{arith, Item, rules, tests}
+use Rattle.ksm_order.proofs.{arith, Item, rules, tests}
 use Rattle.std.proofs.lemmas.Iterator.{YieldsList-from_slice}
 use Rattle.std.proofs.lemmas.Iterator.Consumers.{nth_from_yields_List, YieldsList-from_filter}
 use Rattle.ksm_order.proofs.leaf.LeafPart.nth.Goals as goal

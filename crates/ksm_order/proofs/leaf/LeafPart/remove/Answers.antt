@@ -1,7 +1,4 @@
-use Rattle.ksm_order.proofs.Names.{AllPairs-filter, arith, Item, without, ◌<◌, ◌∙◌, ◌≡◌}
-use Rattle.ksm_order.proofs.Changes.{removed_counted}
-use Rattle.ksm_order.proofs.Ordered.{absent_kept, numbers_ordered}
-use Rattle.ksm_order.proofs.Places.{remove_here}
+use Rattle.ksm_order.proofs.{absent_kept, AllPairs-filter, arith, Item, numbers_ordered, remove_here, removed_counted, without, ◌<◌, ◌∙◌, ◌≡◌}
 use Rattle.ksm_order.proofs.leaf.LeafPart.remove.Goals.{After-remove-gone}
 use Rattle.ksm_order.proofs.leaf.LeafPart.remove.Goals as goal
 

@@ -1,5 +1,4 @@
-use Rattle.ksm_order.proofs.Names.{arith}
-use Rattle.ksm_order.proofs.Changes.{counted_cut}
+use Rattle.ksm_order.proofs.{arith, counted_cut}
 use Rattle.ksm_order.proofs.leaf.LeafPart.spill.Goals as goal
 
 pub overflow_sub-self : goal.overflow_sub-self

@@ -1,5 +1,4 @@
-use Rattle.ksm_order.proofs.Names.{arith}
-use Rattle.ksm_order.proofs.Parts.{all_in_front, up_to_cut}
+use Rattle.ksm_order.proofs.{all_in_front, arith, up_to_cut}
 use Rattle.ksm_order.proofs.leaf.LeafPart.up_to.Goals as goal
 
 pub returns-then-self-items : goal.returns-then-self-items

@@ -1,5 +1,4 @@
-use Rattle.ksm_order.proofs.Names.{arith, drop_all}
-use Rattle.ksm_order.proofs.Parts.{from_in_next, from_in_part}
+use Rattle.ksm_order.proofs.{arith, drop_all, from_in_next, from_in_part}
 use Rattle.ksm_order.proofs.node.NodePart.first_from.Goals as goal
 
 pub returns-in-Some : goal.returns-in-Some

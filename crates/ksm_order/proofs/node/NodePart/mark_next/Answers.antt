@@ -1,10 +1,9 @@
-use Rattle.ksm_order.proofs.Names.{ap, AreParts, arith, flat_map, IsPartOf, Item, length, length-append, length-map, many, nil_from_length, set, with_mark, ◌+◌, ◌∙◌, ◌≡◌, ◌≤◌}
+use Rattle.ksm_order.proofs.{ap, AreParts, arith, cut, few_in_part, find_in_part, flat_map, IsPartOf, Item, length, length-append, length-map, local_mark, many, nil_from_length, part_having, set}
+use Rattle.ksm_order.proofs.{set_part, with_mark, ◌+◌, ◌∙◌, ◌≡◌, ◌≤◌}
 use Rattle.std.proofs.lemmas.List.Sums.{count_by-le-length}
 use Rattle.std.specs.Int.{from_bool}
-use Rattle.ksm_order.proofs.Changes.{local_mark, set_part}
-use Rattle.ksm_order.proofs.Parts.{cut, few_in_part, find_in_part, part_having}
-use Rattle.ksm_order.proofs.node.NodePart.mark_next.Goals as goal
 use Rattle.ksm_order.proofs.node.NodePart.mark_next.Goals.{In_ok-was}
+use Rattle.ksm_order.proofs.node.NodePart.mark_next.Goals as goal
 
 place : (g : _) (c : In_ok-was g) → IsPartOf g.P.Part.items c.args.key c.self.inside.parts.items c.self.inside.last
 place g c = part_having c.self.invariant.0 (omega arith) c.index_mut.ensures.value c.in_ok-was.ensures.there

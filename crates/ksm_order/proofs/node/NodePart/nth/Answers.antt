@@ -1,5 +1,4 @@
-use Rattle.ksm_order.proofs.Names.{arith, nat_tests}
-use Rattle.ksm_order.proofs.Parts.{nth_cut}
+use Rattle.ksm_order.proofs.{arith, nat_tests, nth_cut}
 use Rattle.ksm_order.proofs.node.NodePart.nth.Goals as goal
 
 pub loop-part-preserved : goal.loop-part-preserved

@@ -1,4 +1,4 @@
-use Rattle.ksm_order.proofs.Names.{drop, flat_map, key_at, marked, ◌≡◌}
+use Rattle.ksm_order.proofs.{drop, flat_map, key_at, marked, ◌≡◌}
 use Rattle.ksm_order.proofs.node.NodePart.nth.Given as goal
 
 -- the one looked for stands among the parts ahead at the place that is left

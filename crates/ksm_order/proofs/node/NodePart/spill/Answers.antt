@@ -1,5 +1,4 @@
-use Rattle.ksm_order.proofs.Names.{arith}
-use Rattle.ksm_order.proofs.Changes.{items_cut, parts_cut}
+use Rattle.ksm_order.proofs.{arith, items_cut, parts_cut}
 use Rattle.ksm_order.proofs.node.NodePart.spill.Goals as goal
 
 pub count_marked-count-requires : goal.count_marked-count-requires

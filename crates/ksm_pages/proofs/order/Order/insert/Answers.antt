@@ -1,6 +1,6 @@
 use Rattle.ksm_pages.proofs.Names.{All-append, All-cons, All-filter, ap, arith, Item, length, map, Named, named_by, true, with_named, ◌+◌, ◌<◌, ◌^◌, ◌≡◌}
 use Rattle.ksm_order.specs.Listed.{with_item}
-use Rattle.ksm_order.proofs.Places.{with_rises}
+use Rattle.ksm_order.proofs.Places.{with_ascends}
 use Rattle.ksm_pages.proofs.Ranked.{longer_by, put_its}
 use Rattle.ksm_pages.proofs.order.Order.insert.Goals as goal
 
@@ -15,7 +15,7 @@ invariant_of-self-2 g c =
     let one_more : c.in-Some.len ≡ c.self.inside.len + 1 = grind arith in
     let Small : Item → Type 0 = λ y. y.key < 2 ^ 48 in
     record {
-      ascending = rw come (with_rises (λ y. y.key) x _ rise);
+      ascending = rw come (with_ascends (λ y. y.key) x _ rise);
       long = omega (arith, one_more, c.self.invariant.long, ap length come, longer_by n x c.self.inside.pages rise (grind arith) put);
       small = rw come (All-append Small _ _ (All-filter _ Small _ c.self.invariant.small)
           (All-cons Small x _ c.key_of.ensures.small (All-filter _ Small _ c.self.invariant.small)));

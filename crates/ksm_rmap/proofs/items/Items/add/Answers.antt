@@ -2,7 +2,7 @@ use Rattle.ksm_order.proofs.Names.{All-append, All-cons, All-filter, arith, find
 use Rattle.ksm_rmap.specs.Keys.{with_key}
 use Rattle.ksm_rmap.proofs.Keys.{has_by_key, with_by_key}
 use Rattle.ksm_order.proofs.Ordered.{none_found}
-use Rattle.ksm_order.proofs.Places.{insert_here, with_rises}
+use Rattle.ksm_order.proofs.Places.{insert_here, with_ascends}
 use Rattle.ksm_rmap.proofs.Pages.{refilled}
 use Rattle.ksm_rmap.proofs.items.Items.add.Goals as goal
 
@@ -30,7 +30,7 @@ invariant_of-self-2 c =
     let Small : ℕ → Type 0 = λ k. k < 2 ^ 48 in
     let key = c.key_of-key.result in
     record {
-      ascending = rw (added c) (with_rises (λ k. k) key _ c.self.invariant.ascending);
+      ascending = rw (added c) (with_ascends (λ k. k) key _ c.self.invariant.ascending);
       small = rw (added c) (All-append Small _ _ (All-filter _ Small _ c.self.invariant.small)
           (All-cons Small key _ c.key_of-key.ensures.small (All-filter _ Small _ c.self.invariant.small)));
       few = grind (arith, refilled c.push.new.self.items c.move_last.new.items (long c), long c, c.in_ok-push.ensures.len, length-map, c.requires.fewer);

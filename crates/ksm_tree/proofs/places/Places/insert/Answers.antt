@@ -1,4 +1,4 @@
-use Rattle.ksm_tree.proofs.Names.{arith, find_none, insert_here, IsPlace, nat_tests, none_found, numbers_ordered, with_found, with_place, with_rises, ◌==◌, ◌≡◌}
+use Rattle.ksm_tree.proofs.Names.{arith, find_none, insert_here, IsPlace, nat_tests, none_found, numbers_ordered, with_found, with_place, with_ascends, ◌==◌, ◌≡◌}
 use Rattle.ksm_tree.proofs.places.Places.insert.Goals.{After-insert-there_is_room}
 use Rattle.ksm_tree.proofs.places.Places.insert.Goals as goal
 
@@ -12,7 +12,7 @@ inserted c =
 
 pub invariant_of-self : goal.invariant_of-self
 invariant_of-self c =
-    grind (arith, inserted (goal.at.invariant_of-self c).After-insert-there_is_room, with_rises (λ p. p) c.args.place _ c.args.self.now.ascending)
+    grind (arith, inserted (goal.at.invariant_of-self c).After-insert-there_is_room, with_ascends (λ p. p) c.args.place _ c.args.self.now.ascending)
 
 pub returns-then-not-stands_at-clause-with : goal.returns-then-not-stands_at-clause-with
 returns-then-not-stands_at-clause-with c = grind (arith, inserted)
