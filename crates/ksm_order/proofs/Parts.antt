@@ -108,12 +108,7 @@ up_to_few key (x ∷ xs) = grind (arith, nat_tests, many-cons x xs, up_to-cons k
 -- of a list in order, both halves are in order, and each item of the first comes before each of the second
 pub halves_rise : (xs ys : List Item) → AreAscending (xs ++ ys)
     → AreAscending xs × AreAscending ys × ((i j : ℕ) (d : Item) → i < length xs → j < length ys → (get_or xs i d).key < (get_or ys j d).key)
-halves_rise xs ys rise =
-    let n = length xs in (
-      λ i j d less lt. grind (arith, rise i j d, get_or_append_left xs ys d, length-append xs ys),
-      λ i j d less lt. grind (arith, rise (n + i) (n + j) d, get_or-append-add xs ys, length-append xs ys),
-      λ i j d lt le. grind (arith, rise i (n + j) d, get_or_append_left xs ys d i, get_or-append-add xs ys j d, length-append xs ys),
-    )
+halves_rise xs ys rise = grind (arith, get_or_append_left, length-append, get_or-append-add)
 
 -- the key at a place in two lists in a row
 key_append : (xs ys : List Item) (n : ℕ)

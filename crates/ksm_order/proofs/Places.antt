@@ -1,10 +1,9 @@
 -- The place of a key in a list whose keys do not fall: what stands in front of it and behind, what an insert and a removal there
 -- leave, and how the others move for these.
 use Rattle.ksm_order.proofs.Names.{[], add-one, All, AllPairs, ap, append-nil, append_assoc, AreInOrder, arith, Bool, copy_within, drop, drop-drop, drop-take, drop_all, drop_more, false, filter}
-use Rattle.ksm_order.proofs.Names.{filter-append, filter_all, filter_none, find, find-append, find_nothing, get_or, get_or-drop, get_or-take, get_or_default, inl, inr, insert, IsHere, IsPlace, length}
+use Rattle.ksm_order.proofs.Names.{filter-append, filter_all, filter_none, find, find-append, find_nothing, get_or, get_or-drop, get_or-take, get_or_default, insert, IsHere, IsPlace, length}
 use Rattle.ksm_order.proofs.Names.{length-append, length-drop, length-take-le, List, list_any, list_any_at, list_any_none, ltb-true, nat_lt, nat_tests, not, refl, remove, set, set_at, Some, sym, take}
 use Rattle.ksm_order.proofs.Names.{take-append-drop, take-append-le, take-append_seam, take-suc, ℕ, ◌++◌, ◌+◌, ◌-◌, ◌<◌, ◌==◌, ◌∙◌, ◌∷◌, ◌≡◌, ◌≤◌}
-use Rattle.std.proofs.lemmas.Bool.{cases_Bool}
 use Rattle.ksm_order.proofs.Ordered.{numbers_ordered, with_rises, without_between}
 
 -- whether an element comes before a key, comes behind it, or is of it
@@ -33,10 +32,7 @@ module _ {X : Type 0} {key_of : X → ℕ} {key : ℕ} {xs : List X} {at : ℕ} 
 
     -- the element there tells whether there is one of the key
     pub told_there : AreInOrder key_of xs → (d : X) → at < length xs → is_it key_of key (get_or xs at d) ≡ list_any (is_it key_of key) xs
-    told_there rise d within = elim (cases_Bool (is_it key_of key (get_or xs at d))) [
-      | inl here ↦ here ∙ sym (list_any_at (is_it key_of key) xs at d within here)
-      | inr other ↦ other ∙ sym (list_any_none (is_it key_of key) xs (none_there rise (λ e lt. grind (arith, other, get_or_default xs at d e lt))))
-    ]
+    told_there rise d within = grind (arith, list_any_at, list_any_none, none_there, get_or_default)
 
     -- an element of a key that is not there is put in between those that come before the key and those that come behind it
     pub insert_here : (x : X) → All (λ y. is_it key_of key y ≡ false) xs → insert xs at x ≡ filter (low key_of key) xs ++ x ∷ filter (high key_of key) xs
@@ -72,14 +68,7 @@ module _ {X : Type 0} {key_of : X → ℕ} {key : ℕ} {xs : List X} {at : ℕ} 
 
     -- it is found, and taken out, there
     pub find_here : find (is_it key_of key) xs ≡ Some it
-    find_here = grind (
-      arith,
-      nat_tests,
-      here.is d,
-      ap (find (is_it key_of key)) cut_here,
-      find-append,
-      find_nothing (is_it key_of key) (take at xs) (λ k e lt. grind (arith, nat_tests, before_here k e)),
-    )
+    find_here = grind (arith, nat_tests, cut_here, find-append, find_nothing, before_here)
 
     pub remove_here : remove xs at ≡ filter (λ y. not (is_it key_of key y)) xs
     remove_here = grind (

@@ -199,10 +199,6 @@ impl Part for Leaf {
             let mut marked = items.iter().filter(|item| item.marked);
             return marked.nth(place).map(|item| item.key);
         }
-        if place < items.len() {
-            Some(items[place].key)
-        } else {
-            None
-        }
+        items.get(place).map(|item| item.key)
     }
 }

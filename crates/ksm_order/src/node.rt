@@ -1,10 +1,8 @@
 //! The heights above: parts side by side, each a tree of the height below.
 #![tactic(auto, using(crate::proofs::Parts::steps))]
 
-ghost use Rattle.std.specs.Prelude.{◌≡◌, ◌+◌, ◌^◌, ◌<◌, ◌≤◌, [], None, IfOk, IsTrue, OnErr, OnOk, drop, find};
-ghost use Rattle.std.specs.Prelude.{flat_map, length, take};
-ghost use Rattle.ksm_order.specs.Listed.{AreBefore, AreBehind, AreParts, IsPartOf, is_at, key_at, many, marked, up_to};
-ghost use Rattle.ksm_order.specs.Listed.{with_item, with_mark, without};
+ghost use Rattle.std.specs.Prelude.{◌≡◌, ◌+◌, ◌^◌, ◌<◌, ◌≤◌, [], None, IfOk, IsTrue, OnErr, OnOk, drop, find, flat_map, length, take};
+ghost use Rattle.ksm_order.specs.Listed.{AreBefore, AreBehind, AreParts, IsPartOf, is_at, key_at, many, marked, up_to, with_item, with_mark, without};
 
 use crate::item::Item;
 use crate::part::Part;

@@ -1,9 +1,7 @@
 //! What each height of the tree promises.
-ghost use Rattle.std.specs.Prelude.{◌≡◌, ◌==◌, ◌<◌, ◌^◌, List, [], ◌∷◌, None, IfNone, IfOk, IfSome, OnErr, OnOk, ◌+◌, ◌≤◌, find, is_some, true};
-ghost use Rattle.std.specs.Prelude.{length};
+ghost use Rattle.std.specs.Prelude.{◌≡◌, ◌==◌, ◌<◌, ◌^◌, List, [], ◌∷◌, None, IfNone, IfOk, IfSome, OnErr, OnOk, ◌+◌, ◌≤◌, find, is_some, length, true};
 ghost use Rattle.std.specs.Int.{from_bool};
-ghost use Rattle.ksm_order.specs.Listed.{IsCut, begins_behind, is_at, is_from, key_at};
-ghost use Rattle.ksm_order.specs.Listed.{many, marked, up_to, with_item, with_mark, without};
+ghost use Rattle.ksm_order.specs.Listed.{IsCut, begins_behind, is_at, is_from, key_at, many, marked, up_to, with_item, with_mark, without};
 ghost use Rattle.ksm_order.specs.declared.item.Item.{Item as TheItem};
 
 use crate::item::Item;

@@ -1,4 +1,4 @@
-use Rattle.ksm_order.proofs.{ahead_of, arith, behind_later, behind_of, drop_all}
+use Rattle.ksm_order.proofs.{ahead_of, arith, behind_later, behind_of}
 use Rattle.ksm_order.proofs.node.search.Goals as goal
 
 pub loop-low-preserved-then-begins_behind : goal.loop-low-preserved-then-begins_behind
@@ -11,6 +11,3 @@ loop-low-preserved g c =
 
 pub returns : goal.returns
 returns g c = grind (arith, behind_later g.P.Part.items c.args.key c.args.parts.now c.loop-low.low)
-
-pub returns-then-reaches_back : goal.returns-then-reaches_back
-returns-then-reaches_back g c = grind (arith, drop_all)

@@ -7,10 +7,6 @@ gone : (c : After-remove-gone) → c.remove-gone.new.self.items ≡ without c.ar
 gone c =
     c.remove-gone.ensures.items ∙ remove_here c.self.invariant.ascending (rw c.as_slice.ensures.value at c.in-Some.ensures.here) c.remove-gone.result
 
-pub overflow_sub-self : goal.overflow_sub-self
-overflow_sub-self c =
-    grind (arith, removed_counted c.self.invariant c.in-Some.at (grind arith) c.remove-gone.ensures.value)
-
 pub invariant_of-self : goal.invariant_of-self
 invariant_of-self c =
     record {
