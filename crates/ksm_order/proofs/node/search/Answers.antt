@@ -2,8 +2,7 @@ use Rattle.ksm_order.proofs.{ahead_of, arith, behind_later, behind_of}
 use Rattle.ksm_order.proofs.node.search.Goals as goal
 
 pub loop-low-preserved-then-begins_behind : goal.loop-low-preserved-then-begins_behind
-loop-low-preserved-then-begins_behind g c =
-    grind (arith, behind_of _ c.args.parts.now _ (omega arith) c.index-parts-mid.is c.args.key c.requires.parts)
+loop-low-preserved-then-begins_behind g c = grind (arith, behind_of, c.index-parts-mid.is)
 
 pub loop-low-preserved : goal.loop-low-preserved
 loop-low-preserved g c =

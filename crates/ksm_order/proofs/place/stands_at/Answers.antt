@@ -1,9 +1,8 @@
-use Rattle.ksm_order.proofs.{arith, list_any_none, none_there, told_there, ◌==◌}
+use Rattle.ksm_order.proofs.{arith, list_any_none, none_there, told_there}
 use Rattle.ksm_order.proofs.place.stands_at.Goals as goal
 
 pub returns-then-at-items-clause-found : goal.returns-then-at-items-clause-found
 returns-then-at-items-clause-found g c = grind (arith, told_there c.requires.place c.requires.order c.index-items-at.result)
 
 pub returns-else-at-items-clause-found : goal.returns-else-at-items-clause-found
-returns-else-at-items-clause-found g c =
-    grind (arith, list_any_none (λ x. g.T.Keyed.key_of x == c.args.key) c.args.items.now (none_there c.requires.place c.requires.order (λ d lt. absurd (omega arith))))
+returns-else-at-items-clause-found g c = grind (arith, list_any_none, none_there)

@@ -38,9 +38,7 @@ pub overflow_add-self : goal.overflow_add-self
 overflow_add-self g c = grind (arith, counted g (goal.at.overflow_add-self g c).In_ok-was)
 
 pub invariant_of-self-2 : goal.invariant_of-self-2
-invariant_of-self-2 g c =
-    let s = (goal.at.invariant_of-self-2 g c).In_ok-was in
-    grind (arith, there g s, counted g s)
+invariant_of-self-2 g c = grind (arith, there, counted)
 
 pub returns-clause-there : goal.returns-clause-there
 returns-clause-there g c =
@@ -51,6 +49,4 @@ pub returns-clause-marked : goal.returns-clause-marked
 returns-clause-marked g c = rw (← c.self.view_is) (there g (goal.at.returns-clause-marked g c).In_ok-was).1
 
 pub returns-clause-counted : goal.returns-clause-counted
-returns-clause-counted g c =
-    let all = counted g (goal.at.returns-clause-counted g c).In_ok-was in
-    rw (← c.self.view_is) (all.0, all.1)
+returns-clause-counted g c = grind (arith, counted, c.self.view_is)
