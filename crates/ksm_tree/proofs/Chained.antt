@@ -200,9 +200,7 @@ module _ (q : ℕ) {p : ℕ} {s : SlotsState} {next : ℕ} {groups : Groups} {se
 
   -- a change of the items at that place is seen as a change of the number's items
   pub told_changed : (f : List GuestPage → List GuestPage) (ready : Bool) → dups_seen (with_dups s (change_at p f s.dups) ready) next groups ≡ record seen { dups = change_items q f seen.dups }
-  told_changed f ready =
-      rw (← view) (ap (λ dups. dups_seen (with_dups s dups ready) next groups)
-      (map_alike _ _ s.dups (λ k d lt. grind (arith, each_same k d lt))))
+  told_changed f ready = grind (arith, map_alike, each_same)
 
 module _ {s : SlotsState} {next : ℕ} {groups : Groups} (h : AreChained s next groups) (number : ℕ) {g : Group} (at : Some g ≡ get groups.groups number) where
   -- the group under the number of a tree and bytes lists the places of the dups of that tree and bytes
@@ -267,6 +265,4 @@ kept_by test p apart (d ∷ dups) = grind (arith, apart d, kept_by test p apart 
 
 -- a dup at a place comes in the stead of one that stood there, whether that went before or not
 pub new_again : (dup : Dup) (dups : List Dup) → with_new dup (without_place dup.row.place dups) ≡ with_new dup dups
-new_again dup dups =
-    let p = dup.row.place in
-    grind (arith, kept_by (λ d. nat_lt d.row.place p) p (λ d less. grind (arith, nat_tests)) dups, kept_by (λ d. nat_lt p d.row.place) p (λ d more. grind (arith, nat_tests)) dups)
+new_again dup dups = grind (arith, kept_by, nat_tests)

@@ -1,6 +1,6 @@
 -- The best dup to join: a walk over a group, keeping the better of two, ends at the one that the definition chooses of all.
-use Rattle.ksm_tree.proofs.Names.{[], All, All-filter, All-map, ap, ArePlacesToJoin, arith, best_of, Bool, candidate_of, cases_Bool, cond, count_by, drop, drop_more, Dup, dup_at, false, filter, filter_map}
-use Rattle.ksm_tree.proofs.Names.{filter_passes, find, find_nothing, get_or, group_places, if◌then◌else◌, in_group, inl, InPlaceOrder, inr, is_best, is_live, is_no_worse, is_open, items_in, length, List, list_all, Lower, map}
+use Rattle.ksm_tree.proofs.Names.{[], All, All-filter, All-map, ap, ArePlacesToJoin, arith, best_of, Bool, candidate_of, cases_Bool, count_by, drop, drop_more, Dup, dup_at, false, filter, filter_map}
+use Rattle.ksm_tree.proofs.Names.{filter_passes, find, find_nothing, get_or, group_places, if◌then◌else◌, in_group, inl, InPlaceOrder, inr, is_live, is_no_worse, is_open, items_in, length, List, list_all, Lower, map}
 use Rattle.ksm_tree.proofs.Names.{may_join, nat_le, nat_lt, nat_tests, None, none_counted, not, Option, pairs_head, pairs_tail, refl, rows_of, Some, suc, sym, true, zero, ℕ, ◌%◌, ◌&&◌, ◌+◌, ◌-◌, ◌<◌, ◌==◌, ◌^◌}
 use Rattle.ksm_tree.proofs.Names.{◌||◌, ◌∙◌, ◌∷◌, ◌≡◌, ◌≤◌}
 use Rattle.std.specs.Option.{option_or}
@@ -46,12 +46,7 @@ module _ (may : Dup → Bool) where
   -- a walk that keeps the better of two dups ends at the first that may be joined and to which none is better
   walk_top : (dups : List Dup) → walked None dups ≡ find (top dups) dups
   walk_top [] = refl
-  walk_top (d ∷ dups) =
-      elim (cases_Bool (may d)) [
-        | inl passes ↦ ap (λ b. walked (cond b (Some d) None) dups) passes ∙ walk_from d _ passes
-        | inr fails ↦
-            grind (arith, walk_top dups) ∙ (λ i. find (λ e. cond (sym fails i) (top (d ∷ dups) e) (top dups e)) dups) ∙ grind arith
-      ]
+  walk_top (d ∷ dups) = grind (arith, walk_from, walk_top dups)
 
   -- dups that fail the test change nothing of the walk
   walk_passing : (test : Dup → Bool) → ((d : Dup) → may d ≡ true → test d ≡ true) → (acc : Option Dup) (dups : List Dup) → walked acc (filter test dups) ≡ walked acc dups
@@ -60,8 +55,7 @@ module _ (may : Dup → Bool) where
 
 -- where no dup has an item, none may be joined
 pub none_live : (tree : ℕ) (bytes : List ℕ) (limit : ℕ) (dups : List Dup) → count_by is_live dups ≡ 0 → best_of tree bytes limit dups ≡ None
-none_live tree bytes limit dups none =
-    find_nothing (is_best tree bytes limit dups) dups (λ k d lt. grind (arith, none_counted is_live dups none k d lt))
+none_live tree bytes limit dups none = grind (arith, find_nothing, none_counted)
 
 -- in dups in order, each dup is what is found at its place
 found_self : (dups : List Dup) → InPlaceOrder (rows_of dups) → All (λ d. dup_at d.row.place dups ≡ Some d) dups
@@ -100,8 +94,7 @@ module _ (t : ℕ) (b : List ℕ) (limit : ℕ) (dups : List Dup) where
   pub stepped : (acc : Option Dup) (places : List ℕ) (i : ℕ) {items least : ℕ} → i < length places → items ≡ length (items_in (dup_at (get_or places i 0) dups)) → least ≡ least_of acc → 1 ≤ least
       → walked_at (if nat_le least items && nat_lt items limit then option_or (candidate_of t b (if items == least then acc else None) false (dup_at (get_or places i 0) dups)) acc else acc) (drop (i + 1) places)
       ≡ walked_at acc (drop i places)
-  stepped acc places i within has is one =
-      grind (arith, drop_more places i 0)
+  stepped acc places i within has is one = grind (arith, drop_more)
 
   -- the dups at whose places the walk looks: those of the group, or all that are open
   abbrev tried : Bool → Dup → Bool

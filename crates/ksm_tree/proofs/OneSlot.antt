@@ -39,8 +39,7 @@ slot_found k p (suc i) (s ∷ slots) is placed =
 pub slot_put : (k p i : ℕ) (slots : Slots) (dup : Dup) → p ≡ k + i → dup.row.place ≡ p → i < length slots
     → ArePlaced k slots → present (set slots i (Some dup)) ≡ with_new dup (present slots)
 slot_put k p i [] dup is at within placed = absurd (omega arith)
-slot_put k p zero (s ∷ slots) dup is at within placed =
-    let rest = placed.1 in grind (arith, placed_above, filter_none, filter_all)
+slot_put k p zero (s ∷ slots) dup is at within placed = grind (arith, placed_above, filter_none, filter_all)
 slot_put k p (suc i) (s ∷ slots) dup is at within placed =
     grind (arith, slot_put (suc k) p i slots dup (omega arith) at (omega arith) placed.1)
 
@@ -90,8 +89,7 @@ empty_before j k (s ∷ slots) before placed =
 empty_first : (k i : ℕ) (slots : Slots) → ArePlaced k slots → NoneBefore is_none slots i → i ≤ length slots → is_none (get_or slots i None) ≡ true
     → empty_from k (rows_of (present slots)) ≡ k + i
 empty_first k i [] placed before within here = omega arith
-empty_first k zero (s ∷ slots) placed before within here =
-    grind (arith, empty_before k (suc k) slots (omega arith) placed.1)
+empty_first k zero (s ∷ slots) placed before within here = grind (arith, empty_before)
 empty_first k (suc i) (s ∷ slots) placed before within here =
     grind (arith, before 0 (omega arith), empty_first (suc k) i slots placed.1 (λ j less. before (suc j) (omega arith)) (omega arith) here)
 
@@ -105,10 +103,8 @@ module _ {slots : Slots} {counts : List ℕ} {empty stale : CountedSet} (h : Are
 
   -- the least place in the set of the empty ones is the least that no dup has
   pub first_empty : (found : Option ℕ) → FindsLeast empty.set 0 (length slots) found → found ≡ empty_place (length slots) (rows_of (present slots))
-  first_empty None none =
-      grind (arith, get_or_past, empty_first 0 (length slots) slots h.placed (before h.empties (omega arith) none))
-  first_empty (Some p) least =
-      grind (arith, least.there, empty_first 0 p slots h.placed (before h.empties (omega (arith, least.high_is)) least.least))
+  first_empty None none = grind (arith, get_or_past, empty_first)
+  first_empty (Some p) least = grind (arith, empty_first)
 
   -- the least place in the set of the stale ones is that of the first stale dup
   pub first_stale : (found : Option ℕ) → FindsLeast stale.set 0 (length slots) found → found ≡ place_of (find is_stale (present slots))

@@ -19,9 +19,7 @@ module _ (p : ℕ) (keys : List ℕ) (dups : Slab Kept) {s : ShelfState} (view :
   many = sym (length-map-range_with_len (held keys dups) 0 (length keys)) ∙ ap (λ t. length t.slots) view
 
   reads : (q : ℕ) → q < length keys → held keys dups q ≡ get_or s.slots q None
-  reads q within =
-      sym (get_or-map-range_with_len (held keys dups) 0 (length keys) q q None within (omega arith))
-      ∙ ap (λ t. get_or t.slots q None) view
+  reads q within = grind (arith, get_or-map-range_with_len)
 
   -- what a place holds is read by its key
   pub seen_by : {key : ℕ} → p < length keys → key ≡ get_or keys p 0 → kept_at p (get dups key) ≡ get_or s.slots p None
