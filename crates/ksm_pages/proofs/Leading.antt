@@ -52,14 +52,12 @@ module _ (old : UnstableTree) (at : ℕ) (keys : List ℕ) (i key : ℕ)
   -- in each place are the keys from before, but for that one
   keys_set : (t : ℕ) (b : List ℕ)
       → keys_at new t b ≡ (if at == place (length old.places.items) t b then Some (set keys i key) else keys_at old t b)
-  keys_set t b =
-      grind (arith, get_set old.places.items at (place (length old.places.items) t b) (set keys i key), length-set, slice_get_within old.places.items at keys there)
+  keys_set t b = grind (arith, get_set, length-set, slice_get_within)
 
   -- where the one was none to which the tree leads, nor is the other, a search comes to each key as before
   pub put_keeps : (slab : Slab Entry) → (key == NO_KEY) ≡ false → is_led slab (get_or keys i 0) ≡ false
       → (by_node : Bool) → Keeps by_node slab old new
-  put_keeps slab taken free by_node t b k stands met =
-      grind (arith, nat_tests, keys_set t b, there, free, taken, stands, met, any_set (λ j. j == k) keys i key, any_set (λ j. j == NO_KEY) keys i key)
+  put_keeps slab taken free by_node t b k stands met = grind (arith, nat_tests, keys_set, any_set)
 
   -- and from the tree and bytes of the place a search comes to the other
   pub put_meets : (tree : ℕ) (bytes : List ℕ) → at ≡ place (length old.places.items) tree bytes → i < length keys
@@ -79,13 +77,7 @@ module _ (old new : UnstableTree) (same : new.places.items ≡ old.places.items)
       → ((k : ℕ) → stands_under by_node slab tree bytes k ≡ true → number_of tree bytes old.others.entries ≡ Some k
       → number_of tree bytes new.others.entries ≡ Some k)
       → Keeps by_node slab old new
-  beside_keeps slab by_node stays t b k stands met = elim (cases_Bool (t == tree && bytes_eq b bytes)) [
-    | inl is ↦
-        let one : t ≡ tree = grind arith in
-        let bytes_one : b ≡ bytes = grind (arith, (bytes_eq-Decides b bytes).0) in
-        grind (arith, nat_tests, keys_same t b, one, bytes_one, stays k)
-    | inr apart ↦ grind (arith, keys_same t b, others t b apart)
-  ]
+  beside_keeps slab by_node stays t b k stands met = grind (arith, bytes_eq, bytes_eq-Decides, nat_tests, keys_same)
 
   -- from a content that has the number, and whose place is full, a search comes to that
   pub beside_meets : (slab : Slab Entry) (key : ℕ)
@@ -98,10 +90,7 @@ module _ {by_node : Bool} {slab : Slab Entry} {u : UnstableTree} (led : AreLed b
   pub led_less : {later : Slab Entry}
       → ((t : ℕ) (b : List ℕ) (k : ℕ) → stands_as by_node t b (get later k) ≡ true → stands_as by_node t b (get slab k) ≡ true)
       → AreLed by_node later u
-  led_less less = record {
-    at = λ t b k stands.
-        let was = led.at t b k (less t b k stands) in (was.0, was.1, λ l also. was.2 l (less t b l also));
-  }
+  led_less less = grind (arith)
 
   -- so it is where one entry is written anew that is in the tree only as before
   pub led_written : {later : Slab Entry} {key : ℕ} {d e : Entry} → Fills slab later key (Some e) → get slab key ≡ Some d → StaysLed d e
@@ -153,9 +142,7 @@ module _ (by_node : Bool) (slab : Slab Entry) (u : UnstableTree) (t : ℕ) (b : 
 
   -- where it finds none, there is no such entry
   pub holder_none : AreLed by_node slab u → holder by_node slab u t b ≡ None → (k : ℕ) → stands_as by_node t b (get slab k) ≡ false
-  holder_none led none k = false_from_ne_true _ (λ is.
-      let at = led.at t b k is in
-      grind (arith, nat_tests, at.0, at.1, is, none, found_any (stands_under by_node slab t b) {key = k}))
+  holder_none led none k = grind (arith, false_from_ne_true, nat_tests, found_any)
 
 module _ (s : Inside) (are : AreRows s) where
   -- a row that waits is in the tree

@@ -1,6 +1,6 @@
 -- What a visit finds of a row that it may change: the row to which the unstable tree leads from its content, the partner;
 -- and the pages once the row waits.
-use Rattle.ksm_pages.proofs.Names.{All, All-map, all_rows, altered, ap₂, AreInTree, AreWaitersLed, arith, best_dup, best_found, best_of, Bool, bytes_eq-Decides, changed, cond_both, Dup, DupRow}
+use Rattle.ksm_pages.proofs.Names.{All, All-map, all_rows, altered, AreInTree, AreWaitersLed, arith, best_dup, best_found, best_of, Bool, bytes_eq-Decides, changed, cond_both, Dup, DupRow}
 use Rattle.ksm_pages.proofs.Names.{DupsState, each_at_page, Entry, false, find_all, find_none, find_nothing, find_passes, get_or, GuestPage, has_content, Held, held_at, held_of, holds, IfNone}
 use Rattle.ksm_pages.proofs.Names.{if◌then◌else◌, in_group, in_tree_by, InPageOrder, Inside, is_in, IsAlone, IsFree, Knobs, List, map_mapped, MatchOption, nat_tests, None, NoneHas, not, Option}
 use Rattle.ksm_pages.proofs.Names.{option_and_then, option_map, out_of_tree, page_in_tree, PagesValue, partner, refl, Row, row_at, rows_of, RowsView, rules, same_page, same_page_eq, same_page_refl}
@@ -28,19 +28,13 @@ waits_at rows own page =
 pub waits_page : (rows : List Row) (own page : GuestPage) (b : Bool)
     → MatchOption (row_at page rows) (b ≡ false) (λ r. b ≡ waiting_state r.state) → (same_page page own ≡ true → b ≡ false)
     → option_map (λ w. w.page) (waits_at rows own page) ≡ (if b then Some page else None)
-waits_page rows own page b told apart =
-    let of_page = λ (w : Row) (at : row_at page rows ≡ Some w). same_page_eq w.page page (find_passes (λ r. same_page r.page page) rows w at) in
-    grind (arith, of_page)
+waits_page rows own page b told apart = grind (arith, same_page_eq, find_passes)
 
 module _ (v : RowsView) (found : AreInTree v) where
   -- each row in the tree with a tree and bytes is found by these
   pub each_led : (tree : ℕ) (bytes : List ℕ)
       → All (λ h. has_content v.by_node tree bytes h ≡ true → page_in_tree v tree bytes ≡ Some h.row.page) v.held
-  each_led tree bytes k d lt has =
-      let h = get_or v.held k d in
-      let content : (tree_by v.by_node h.row.home ≡ tree) × (h.row.bytes ≡ bytes) =
-      grind (arith, nat_tests, bytes_eq-Decides h.row.bytes bytes) in
-      sym (ap₂ (page_in_tree v) content.0 content.1) ∙ found k d lt (grind arith)
+  each_led tree bytes k d lt has = grind (arith, nat_tests, bytes_eq-Decides)
 
   module _ (page : GuestPage) (h : Held) {tree : ℕ} (of_home : tree_by v.by_node h.row.home ≡ tree) where
     -- where the tree leads from the content of a page's row to none, or to that page, it leads to no other row
