@@ -192,8 +192,7 @@ module _ (s : Inside) (are : AreRows s) where
 
   -- an entry is found as the row of its page
   pub row_found : (key : ℕ) (e : Entry) → get s.entries key ≡ Some e → held_at e.page (all_held s) ≡ Some (held_of s.pass e)
-  row_found key e stands =
-      grind (arith, held_found s.entries _ are.ascending are.filed s.pass e.page, named_under s.entries _ are.filed key e stands)
+  row_found key e stands = grind (arith, held_found, named_under)
 
   -- a page that has no key in the order has no row
   pub held_nowhere : (page : GuestPage) → None ≡ key_in s.order page → held_at page (all_held s) ≡ None

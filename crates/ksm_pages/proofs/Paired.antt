@@ -4,7 +4,7 @@ use Rattle.ksm_pages.proofs.Names.{change_rows, cond_both, dup_numbered, dup_row
 use Rattle.ksm_pages.proofs.Names.{frame_of, Frames, get_or, GuestPage, Held, held_at, held_of, holds, in_group, InPageOrder, InPlaceOrder, Inside, is_in, is_live, length, length-set, lies_on, List}
 use Rattle.ksm_pages.proofs.Names.{lodging, lodgings_of, map_mapped, MatchOption, MayPair, Merged, merged_into, nat_tests, None, not, Option, option_and_then, option_map, ordered_change, page_in_tree}
 use Rattle.ksm_pages.proofs.Names.{PagesValue, paired, refl, Row, row_at, rows_new, rows_of, RowsView, rules, same_page, same_page_eq, same_page_refl, seen, set, shares, slice_get, Some, stands_at}
-use Rattle.ksm_pages.proofs.Names.{subst, sym, tied_made, tree_of, true, waiting_state, with_dup, with_item, with_new, ℕ, ◌&&◌, ◌+◌, ◌<◌, ◌==◌, ◌||◌, ◌∙◌, ◌∷◌, ◌≡◌}
+use Rattle.ksm_pages.proofs.Names.{sym, tied_made, tree_of, true, waiting_state, with_dup, with_item, with_new, ℕ, ◌&&◌, ◌+◌, ◌<◌, ◌==◌, ◌||◌, ◌∙◌, ◌∷◌, ◌≡◌}
 use Rattle.std.specs.Vec.{with_item as with_frame}
 use Rattle.ksm_base.proofs.Orders.{elsewhere}
 use Rattle.ksm_pages.proofs.Changing.{frame_by, IsLone, lodged_changed, lone_changed, row_told, rows_changed, seat, shared_lone}
@@ -55,9 +55,7 @@ module _ (s : Inside) {p : PagesValue} (seen_as : view_of s ≡ p) (place : ℕ)
   -- what is held of two pages that may pair has rows that may become items
   pub may_both : {o q : Option Held} → held_at first s.rows.held ≡ o → held_at second s.rows.held ≡ q
       → IsOfBoth (MayPair (seen (view_of s)) place) (option_map (λ h. h.row) o) (option_map (λ h. h.row) q)
-  may_both {o} {q} found also =
-      subst (λ (v : PagesValue). IsOfBoth (MayPair (seen v) place) (option_map (λ h. h.row) o) (option_map (λ h. h.row) q)) (sym seen_as)
-      (rw (← row_seen s seen_as first found, ← row_seen s seen_as second also) may)
+  may_both {o} {q} found also = grind (arith, row_seen)
 
 -- the dups with a new one of two pages
 abbrev with_pair : DupRow → GuestPage → GuestPage → DupsState → DupsState

@@ -191,8 +191,7 @@ shared_few (r ∷ rows) = grind (arith, shared_more r rows, shared_few rows)
 pub all_shared : (rows : List Row) → length rows ≤ merged_or_zero rows → All (λ r. shared_state r.state ≡ true) rows
 all_shared [] few = λ k d lt. absurd (omega arith)
 all_shared (r ∷ rows) few =
-    All-cons (λ s. shared_state s.state ≡ true) r rows (grind (arith, shared_more r rows, shared_few rows))
-    (all_shared rows (grind (arith, shared_more r rows)))
+    grind (arith, All-cons, shared_more, shared_few, all_shared rows (grind (arith, shared_more r rows)))
 
 -- where each row is shared, rows are lawful under a list of none
 pub none_restless : (s : Inside) → AreRows s → All (λ r. shared_state r.state ≡ true) (rows_of (all_held s)) → {now : Listing} → now.pages ≡ []
@@ -209,9 +208,4 @@ none_restless s are shared {now} none = search (rules, listed)
 pub swept_rows : (s : Inside) → AreRows s → {now : Listing} → now.known ≡ s.restless.known
     → ((page : GuestPage) → has_item page s.restless.pages ≡ true → has_item page now.pages ≡ false → IsInVain s.entries s.order page)
     → IsRows s.entries s.order now s.tally s.pass
-swept_rows s are {now} known kept = search (rules, listed)
-  where
-    listed : now.known ≡ true → AreListed s.entries now.pages
-    listed is k e stands may =
-        let one = λ (l : ℕ) (f : Entry) (stood : get s.entries l ≡ Some f). one_key s.entries s.order are.filed stood stands in
-        grind (arith, kept e.page, are.listed, one, named_under, same_page_eq)
+swept_rows s are {now} known kept = grind (arith, one_key, named_under, same_page_eq)
