@@ -8,5 +8,4 @@ pub invariant_of-result : goal.invariant_of-result
 invariant_of-result c = grind (arith, c.in_ok-items.ensures.tail, counted_cut c.self.invariant c.if-index-key.at)
 
 pub invariant_of-self-2 : goal.invariant_of-self-2
-invariant_of-self-2 c =
-    grind (arith, c.in_ok-items.ensures.tail, c.in_ok-items.ensures.items, counted_cut c.self.invariant c.if-index-key.at)
+invariant_of-self-2 c = grind (arith, c.in_ok-items.ensures, counted_cut c.self.invariant)
