@@ -146,10 +146,7 @@ impl Groups {
             return Some(guess);
         }
         let recent = self.recent.at(slot_of(tree, bytes));
-        if self.is_of(recent, tree, bytes) {
-            return Some(recent);
-        }
-        None
+        self.is_of(recent, tree, bytes).then_some(recent)
     }
 
     /// The number of a group, which it gets if it has none: then groups in which no dup stands may lose theirs. The

@@ -77,10 +77,10 @@ impl Counts {
         }
         if limit == 0 {
             self.limit = 0;
-            self.open_at.clear();
+            self.open_at.list.clear();
         } else if self.each.len() <= self.open_at.list.capacity() {
             self.limit = limit;
-            self.open_at.clear();
+            self.open_at.list.clear();
             for place in 0..self.each.len() as u32 {
                 if is_open(limit, self.each[place as usize]) {
                     self.open_at.insert(place);

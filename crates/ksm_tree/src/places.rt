@@ -39,14 +39,6 @@ impl Places {
         })
     }
 
-    /// Takes all places out.
-    pub fn clear(&mut self)
-        ensures none { self.new.list.items ≡ [] }
-        ensures capacity { self.new.list.capacity ≡ self.old.list.capacity }
-    {
-        self.list.clear();
-    }
-
     /// Takes room for one more place. The one fault is `Memory`, and then nothing changes.
     pub fn reserve(&mut self) -> Result<(), Fault>
         ensures kept { self.new.list.items ≡ self.old.list.items }

@@ -11,9 +11,7 @@ returns-then-is_empty-clause-best c = rw (← c.self.view_is) (λ tree bytes is.
     ap (option_map found_at) (walk_best _ _ _ _ [] true none c.self.invariant.lawful.in_place_order))
 
 pub returns-then-count_live-eq0-clause-best : goal.returns-then-count_live-eq0-clause-best
-returns-then-count_live-eq0-clause-best c = rw (← c.self.view_is) (λ tree bytes is.
-    let dups = c.self.inside.slots.dups in
-    sym (ap (option_map found_at) (none_live tree bytes c.args.limit dups (grind (arith, c.count_live.ensures, c.if-count_live-eq0.true)))))
+returns-then-count_live-eq0-clause-best c = grind (arith, none_live)
 
 pub best_in-requires : goal.best_in-requires
 best_in-requires c =

@@ -13,5 +13,4 @@ invariant_of-self-else-left-eq0 c = rw (c.in-Some.ensures.removed, c.set.ensures
     (grind (arith, nil_from_length, seen_slot, get_or_past, c.self.invariant.stales)))
 
 pub invariant_of-self-in_default : goal.invariant_of-self-in_default
-invariant_of-self-in_default c =
-    grind (arith, slots_same c.args.place c.args.page c.self.inside.dups.slots)
+invariant_of-self-in_default c = grind (arith, slots_same)
