@@ -25,8 +25,7 @@ removed_counted {xs = xs} is at {x = x} within stood = grind (arith, sum_by-remo
 -- a list in order that is cut in two, with how many of both are marked
 counted_halves : {xs : List Item} {n : ℕ} (ys zs : List Item) → IsCounted xs n → ys ++ zs ≡ xs
     → (many zs ≤ n) × IsCounted ys (n - many zs) × IsCounted zs (many zs)
-counted_halves ys zs is whole =
-    grind (arith, halves_rise ys zs (rw whole is.ascending), ap many whole, count-append)
+counted_halves ys zs is whole = grind (arith, halves_rise ys, ap many, count-append)
 
 -- the same at a place
 pub counted_cut : {xs : List Item} {n : ℕ} (is : IsCounted xs n) (at : ℕ)
@@ -130,8 +129,7 @@ module _ {P : Type 0} {f : P → List Item} {key : ℕ} {parts : List P} {at : �
       grind (arith, replaced are place is (local_none key) {all = two} (p ∷ m ∷ []) (All-cons (Full f) p (m ∷ []) halves.front_filled (All-cons (Full f) m [] halves.back_filled (All-nil (Full f)))) (grind (arith, append-nil)) two_is)
 
   there : (at + 1 < length two) × (m ≡ get_or two (at + 1) m)
-  there =
-      grind (arith, length-insert (set parts at p) (at + 1) m, length-set parts at p, get_or-insert_at (set parts at p) (at + 1) m m)
+  there = grind (arith, length-insert (set parts at p), length-set parts, get_or-insert_at (set parts at p) (at + 1))
 
   -- the key is in the first half where the second begins behind it, and else in the second
   pub into_first : begins_behind key (f m) ≡ true → IsPartOf f key two at

@@ -71,8 +71,7 @@ behind key (y ∷ ys) after = grind (arith, nat_tests, after 0 y, behind key ys 
 -- the item of a key is marked in the part between those that come before the key and those that come behind it
 pub mark_between : (key : ℕ) (mark : Bool) (xs run ys : List Item) → AreBefore key xs → AreBehind key ys
     → with_mark key mark (xs ++ (run ++ ys)) ≡ xs ++ (with_mark key mark run ++ ys)
-mark_between key mark xs run ys ahead after =
-    grind (arith, map-append, before key xs ahead, mark_none, behind key ys after)
+mark_between key mark xs run ys ahead after = grind (arith, map-append, before key, mark_none, behind key)
 
 -- an item is put in between those before its key and those behind it
 pub with_between : (x : Item) (xs run ys : List Item) → AreBefore x.key xs → AreBehind x.key ys
