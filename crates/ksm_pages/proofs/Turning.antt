@@ -145,14 +145,15 @@ module _ (s : Inside) (are : AreLawful s) {p : PagesValue} (seen_as : view_of s 
         by_node = (λ i. (out i).by_node) ∙ (λ i. (turned i).by_node);
       })
 
-module _ (s : Inside) (are : AreLawful s) (knobs : Knobs) {by_node : Bool} (is : by_node ≡ not (knobs.merge_across_nodes == 1)) (rows : RowsView) where
-  abbrev Tuned : Type 0
-  Tuned = AreLawful (record s { rows = rows; knobs = knobs })
-      × (seen (view_of (record s { rows = rows; knobs = knobs })) ≡ record (seen (view_of s)) { knobs = knobs })
+-- with these rows the pages are lawful under the knobs, and nothing else is seen of them anew
+abbrev pub Tuned : Inside → Knobs → RowsView → Type 0
+Tuned s knobs rows = AreLawful (record s { rows = rows; knobs = knobs })
+    × (seen (view_of (record s { rows = rows; knobs = knobs })) ≡ record (seen (view_of s)) { knobs = knobs })
 
+module _ (s : Inside) (are : AreLawful s) (knobs : Knobs) {by_node : Bool} (is : by_node ≡ not (knobs.merge_across_nodes == 1)) (rows : RowsView) where
   -- rows that are as they were but for their trees leave the pages lawful, where those that are said to be alone are so
-  tuned_by : rows_of rows.held ≡ rows_of s.rows.held → lodgings_of (of_dup s) rows.held ≡ lodgings_of (of_dup s) s.rows.held
-      → rows.by_node ≡ by_node → AreAlone knobs rows.held (dup_rows s.dups.dups) → Tuned
+  pub tuned_by : rows_of rows.held ≡ rows_of s.rows.held → lodgings_of (of_dup s) rows.held ≡ lodgings_of (of_dup s) s.rows.held
+      → rows.by_node ≡ by_node → AreAlone knobs rows.held (dup_rows s.dups.dups) → Tuned s knobs rows
   tuned_by same lain by alone =
       let order : InPageOrder (rows_of rows.held) = rw same are.order in
       let tied : AreTied (rows_of rows.held) s.dups.dups = rw same are.tied in
@@ -163,7 +164,7 @@ module _ (s : Inside) (are : AreLawful s) (knobs : Knobs) {by_node : Bool} (is :
   pub tuned : ((by_node ≡ s.rows.by_node) × (rows ≡ s.rows))
       ⊎ ((by_node ≡ not s.rows.by_node) × (rows ≡ record s.rows { held = map out_of_tree s.rows.held; by_node = by_node }))
       → (knobs.merge_across_nodes ≡ s.knobs.merge_across_nodes) ⊎ All (λ r. waiting_state r.state ≡ false) (rows_of s.rows.held)
-      → Tuned
+      → Tuned s knobs rows
   tuned (inl same) may =
       tuned_by (λ i. rows_of (same.1 i).held) (λ i. lodgings_of (of_dup s) (same.1 i).held) (grind (arith, same)) (rw same.1 (λ k d lt alone.
       let row = (get_or s.rows.held k d).row in
