@@ -1,9 +1,11 @@
 -- The unstable tree: what a key leaves of what is found that comes or goes, and an entry; and what rows show of it.
-use Rattle.ksm_pages.proofs.Names.{[], All, AreInTree, AreLed, AreWaitersLed, arith, Bool, BTreeMap, bytes_eq, bytes_eq-Decides, cases_Bool, Content, content_of, content_order, Entry, eq_bytes, false}
-use Rattle.ksm_pages.proofs.Names.{false_from_ne_true, Fills, find, find_alike, find_all, find_nothing, find_passes, get, get_or, get_or-set_at, GONE, has_content, Held, held_of, holder, holds}
-use Rattle.ksm_pages.proofs.Names.{if◌then◌else◌, inl, inr, is_in, is_led, IsFree, Keeps, KeepsOthers, keys_at, length, length-set, List, list_any, list_any_at, MatchOption, meets, nat_lt, nat_tests}
-use Rattle.ksm_pages.proofs.Names.{NO_KEY, None, not, number_of, Option, option_map, page_in_tree, place, refl, same_page_eq, same_page_refl, set, Slab, slice_get, slice_get_within, Some, stands_as}
-use Rattle.ksm_pages.proofs.Names.{stands_under, StaysLed, suc, told_equal, tree_by, true, UnstableTree, Updates, waiting_state, zero, ℕ, ⊤, ◌&&◌, ◌<◌, ◌==◌, ◌∷◌, ◌≡◌, ◌≢◌}
+use Rattle.ksm_pages.proofs.Names.{[], All, Any-from_list_any, ap, AreApart, AreInTree, AreLed, AreWaitersLed, arith, Bool, BTreeMap, bytes_eq, bytes_eq-Decides, cases_Bool, Content, content_of}
+use Rattle.ksm_pages.proofs.Names.{content_order, Entry, eq_bytes, false, false_from_ne_true, Fills, find, find_alike, find_all, find_none, find_nothing, find_passes, get, get_or, get_or-set_at}
+use Rattle.ksm_pages.proofs.Names.{get_or-take, get_or_default, get_or_from_slice_get, GONE, has_content, Held, held_of, holder, holds, if◌then◌else◌, inl, inr, is_in, is_led, IsFree, Keeps}
+use Rattle.ksm_pages.proofs.Names.{KeepsOthers, keys_at, length, length-set, length-take-le, List, list_any, list_any_at, MatchOption, meets, nat_lt, nat_tests, NO_KEY, None, not, number_of}
+use Rattle.ksm_pages.proofs.Names.{Option, option_map, page_in_tree, place, refl, same_page_eq, same_page_refl, set, Slab, slice_get, slice_get_within, Some, stands_as, stands_under, StaysLed}
+use Rattle.ksm_pages.proofs.Names.{subst, suc, take, told_equal, tree_by, true, UnstableTree, unwrap_or, Updates, waiting_state, zero, ℕ, ⊤, ◌&&◌, ◌+◌, ◌<◌, ◌==◌, ◌∷◌, ◌≡◌}
+use Rattle.ksm_pages.proofs.Names.{◌≢◌}
 use Rattle.std.specs.Vec.{with_item}
 use Rattle.ksm_pages.specs.declared.rows.Rows.TheInside.{Inside}
 use Rattle.ksm_pages.proofs.Filing.{all_held, AreRows, differ_by, one_key, row_found, rows_all, view_of}
@@ -50,40 +52,47 @@ module _ (old : UnstableTree) (at : ℕ) (keys : List ℕ) (i key : ℕ)
   new = record old { places = with_item old.places at (set keys i key) }
 
   -- in each place are the keys from before, but for that one
-  keys_set : (t : ℕ) (b : List ℕ)
-      → keys_at new t b ≡ (if at == place (length old.places.items) t b then Some (set keys i key) else keys_at old t b)
-  keys_set t b = grind (arith, get_set, length-set, slice_get_within)
+  keys_set : (b : List ℕ) → keys_at new b ≡ (if at == place (length old.places.items) b then Some (set keys i key) else keys_at old b)
+  keys_set b =
+      grind (arith, get_set old.places.items at (place (length old.places.items) b) (set keys i key), length-set, slice_get_within old.places.items at keys there)
 
   -- where the one was none to which the tree leads, nor is the other, a search comes to each key as before
   pub put_keeps : (slab : Slab Entry) → (key == NO_KEY) ≡ false → is_led slab (get_or keys i 0) ≡ false
       → (by_node : Bool) → Keeps by_node slab old new
-  put_keeps slab taken free by_node t b k stands met = grind (arith, nat_tests, keys_set, any_set)
+  put_keeps slab taken free by_node t b k stands met =
+      grind (arith, nat_tests, keys_set b, there, free, taken, stands, met, any_set (λ j. j == k) keys i key, any_set (λ j. j == NO_KEY) keys i key)
 
   -- and from the tree and bytes of the place a search comes to the other
-  pub put_meets : (tree : ℕ) (bytes : List ℕ) → at ≡ place (length old.places.items) tree bytes → i < length keys
+  pub put_meets : (tree : ℕ) (bytes : List ℕ) → at ≡ place (length old.places.items) bytes → i < length keys
       → meets new tree bytes key ≡ true
   put_meets tree bytes here lt =
       let put = list_any_at (λ j. j == key) (set keys i key) i 0 (omega (arith, length-set keys i key, lt)) (grind (arith, nat_tests, get_or-set_at)) in
-      grind (arith, keys_set tree bytes, here, put)
+      grind (arith, keys_set bytes, here, put)
 
 -- the places are as they were, and one content has another number, or none
 module _ (old new : UnstableTree) (same : new.places.items ≡ old.places.items) (tree : ℕ) (bytes : List ℕ)
     (others : KeepsOthers tree bytes old new) where
-  keys_same : (t : ℕ) (b : List ℕ) → keys_at new t b ≡ keys_at old t b
-  keys_same t b = λ i. slice_get (same i) (place (length (same i)) t b)
+  keys_same : (b : List ℕ) → keys_at new b ≡ keys_at old b
+  keys_same b = λ i. slice_get (same i) (place (length (same i)) b)
 
   -- where the number of that one stays, if it leads to a row with the content, a search comes to each key as before
   pub beside_keeps : (slab : Slab Entry) (by_node : Bool)
       → ((k : ℕ) → stands_under by_node slab tree bytes k ≡ true → number_of tree bytes old.others.entries ≡ Some k
       → number_of tree bytes new.others.entries ≡ Some k)
       → Keeps by_node slab old new
-  beside_keeps slab by_node stays t b k stands met = grind (arith, bytes_eq, bytes_eq-Decides, nat_tests, keys_same)
+  beside_keeps slab by_node stays t b k stands met = elim (cases_Bool (t == tree && bytes_eq b bytes)) [
+    | inl is ↦
+        let one : t ≡ tree = grind arith in
+        let bytes_one : b ≡ bytes = grind (arith, (bytes_eq-Decides b bytes).0) in
+        grind (arith, nat_tests, keys_same b, one, bytes_one, stays k)
+    | inr apart ↦ grind (arith, keys_same b, others t b apart)
+  ]
 
   -- from a content that has the number, and whose place is full, a search comes to that
   pub beside_meets : (slab : Slab Entry) (key : ℕ)
-      → MatchOption (keys_at old tree bytes) ⊤ (λ keys. list_any (λ k. not (is_led slab k)) keys ≡ false)
+      → MatchOption (keys_at old bytes) ⊤ (λ keys. list_any (λ k. not (is_led slab k)) keys ≡ false)
       → number_of tree bytes new.others.entries ≡ Some key → meets new tree bytes key ≡ true
-  beside_meets slab key full number = grind (arith, nat_tests, keys_same tree bytes, all_taken slab)
+  beside_meets slab key full number = grind (arith, nat_tests, keys_same bytes, all_taken slab)
 
 module _ {by_node : Bool} {slab : Slab Entry} {u : UnstableTree} (led : AreLed by_node slab u) where
   -- where no more entries are in the tree than were, each with its tree and bytes, it leads to all that are
@@ -129,6 +138,77 @@ module _ (slab later : Slab Entry) (g : Entry → Entry) (all : (k : ℕ) → ge
   -- the same where each is changed, and is in the tree only as before
   pub led_mapped : ((e : Entry) → StaysLed e (g e)) → {by_node : Bool} {u : UnstableTree} → AreLed by_node slab u → AreLed by_node later u
   led_mapped stays led = led_less led (λ t b k stands. grind (arith, all k, stays))
+
+-- keys that are apart stay so with one more, if none of them leads to a row with the bytes of its row
+pub apart_more : (slab : Slab Entry) (keys : List ℕ) (at : ℕ) → at < length keys → AreApart slab keys at
+    → ((bytes : List ℕ) → let stands = stands_under false slab 0 bytes in stands (get_or keys at 0) ≡ true → find stands (take at keys) ≡ None)
+    → AreApart slab keys (at + 1)
+apart_more slab keys at within apart none bytes i j lt below first =
+    let fails = λ (is : find (stands_under false slab 0 bytes) (take at keys) ≡ None). find_none _ (take at keys) is i 0 in
+    grind (arith, nat_tests, length-take-le at keys, get_or-take at keys i 0, none bytes, fails, apart bytes i j)
+
+-- of keys that are apart one alone leads to a row with some bytes
+one_apart : (slab : Slab Entry) (keys : List ℕ) → AreApart slab keys (length keys) → (bytes : List ℕ) (k l : ℕ)
+    → list_any (λ j. j == k) keys ≡ true → list_any (λ j. j == l) keys ≡ true
+    → stands_under false slab 0 bytes k ≡ true → stands_under false slab 0 bytes l ≡ true → l ≡ k
+one_apart slab keys apart bytes k l has also stands too =
+    let a = Any-from_list_any (λ j. j == k) keys has in
+    let b = Any-from_list_any (λ j. j == l) keys also in
+    grind (arith, nat_tests, a, b, get_or_default keys a.0 a.1 0 a.2, get_or_default keys b.0 b.1 0 b.2, apart bytes a.0 b.0, apart bytes b.0 a.0)
+
+-- no key stands beside the places
+module _ (u : UnstableTree) (alone : u.others.entries ≡ []) where
+  -- the keys in the place of bytes
+  abbrev here : List ℕ → List ℕ
+  here b = unwrap_or (keys_at u b) []
+
+  none : (t : ℕ) (b : List ℕ) → number_of t b u.others.entries ≡ None
+  none t b = ap (number_of t b) alone
+
+  -- a search that comes to a key finds it in its place, and so does one from the same bytes in another tree
+  met : (t : ℕ) (b : List ℕ) (k : ℕ) → meets u t b k ≡ true → list_any (λ j. j == k) (here b) ≡ true
+  met t b k is = grind (arith, none t b)
+
+  found : (t : ℕ) (b : List ℕ) (k : ℕ) → list_any (λ j. j == k) (here b) ≡ true → meets u t b k ≡ true
+  found t b k is = grind (arith, none t b)
+
+  -- then the tree is right too once each node has one of its own
+  pub led_split : {slab : Slab Entry} → AreLed false slab u → AreLed true slab u
+  led_split {slab} led = record {
+    at = λ t b k stands.
+        let was = led.at 0 b k (grind arith) in
+        (was.0, found t b k (met 0 b k was.1), λ l also. was.2 l (grind arith));
+  }
+
+  -- and once all have one, where the keys of each place are apart
+  pub led_joined : {slab : Slab Entry} → All (λ keys. AreApart slab keys (length keys)) u.places.items → AreLed true slab u → AreLed false slab u
+  led_joined {slab} apart led = record {
+    at = λ t b k stands.
+        let it = own t b k stands in (
+          it.0,
+          found t b k it.1,
+          λ l also.
+              let other = own t b l also in
+              one_apart slab (here b) (apart_here b (keys_at u b) refl) b k l it.1 other.1 it.2 other.2,
+        );
+  }
+    where
+      home_of : Option Entry → ℕ
+      home_of None = 0
+      home_of (Some e) = e.home
+
+      own : (t : ℕ) (b : List ℕ) (k : ℕ) → stands_as false t b (get slab k) ≡ true
+          → (nat_lt k GONE ≡ true) × (list_any (λ j. j == k) (here b) ≡ true) × (stands_under false slab 0 b k ≡ true)
+      own t b k stands =
+          let was = led.at (home_of (get slab k)) b k (grind (arith, nat_tests, stands)) in
+          (was.0, met _ b k was.1, grind (arith, was.0, stands))
+
+      apart_here : (b : List ℕ) (o : Option (List ℕ)) → keys_at u b ≡ o → AreApart slab (unwrap_or o []) (length (unwrap_or o []))
+      apart_here b None is = λ c i j lt below. absurd (omega arith)
+      apart_here b (Some keys) is =
+          let at = place (length u.places.items) b in
+          subst (λ ks. AreApart slab ks (length ks)) (get_or_from_slice_get u.places.items at keys [] is)
+          (apart at [] (slice_get_within u.places.items at keys is))
 
 -- where a key of a list passes a test, the test finds one
 found_any : (p : ℕ → Bool) {key : ℕ} → p key ≡ true → (keys : List ℕ) → list_any (λ k. k == key) keys ≡ true → find p keys ≡ None → ⊥

@@ -24,7 +24,7 @@ pub use Rattle.ksm_pages.specs.Terms.{after_cursor, AreTied, best_dup, best_of, 
 pub use Rattle.ksm_pages.specs.Terms.{in_group, InPageOrder, IsPlace, Item, item_count, items_of, Knobs, let_out, mapping_of, Merged, merged_into, merged_state, MOST_REFERENCES, number_of, page_of}
 pub use Rattle.ksm_pages.specs.Terms.{PageState, partner, place_count, Private, private_state, Row, row_at, same_page, settled, shared_state, stored, tree_of, Waiting, waiting_state, waits_for, with_dup}
 pub use Rattle.ksm_pages.specs.Terms.{with_row, without_page, Zero, zero_state}
-pub use Rattle.ksm_pages.specs.Unstable.{AreLed, digest, holder, is_led, Keeps, KeepsOthers, keys_at, meets, place, stands_as, stands_under}
+pub use Rattle.ksm_pages.specs.Unstable.{AreApart, AreLed, digest, holder, is_led, Keeps, KeepsOthers, keys_at, meets, place, stands_as, stands_under}
 pub use Rattle.ksm_pages.specs.declared.named.Named.{Named}
 pub use Rattle.ksm_pages.specs.declared.pages.Pages.TheInside.{Inside}
 pub use Rattle.ksm_pages.specs.declared.restless.Listed.{Listed}

@@ -145,22 +145,30 @@ module _ (s : Inside) (are : AreLawful s) {p : PagesValue} (seen_as : view_of s 
         by_node = (λ i. (out i).by_node) ∙ (λ i. (turned i).by_node);
       })
 
-module _ (s : Inside) (are : AreLawful s) (knobs : Knobs) {by_node : Bool} (is : by_node ≡ not (knobs.merge_across_nodes == 1)) (rows : RowsView) where
-  abbrev Tuned : Type 0
-  Tuned = AreLawful (record s { rows = rows; knobs = knobs })
-      × (seen (view_of (record s { rows = rows; knobs = knobs })) ≡ record (seen (view_of s)) { knobs = knobs })
+-- with these rows the pages are lawful under the knobs, and nothing else is seen of them anew
+abbrev pub Tuned : Inside → Knobs → RowsView → Type 0
+Tuned s knobs rows = AreLawful (record s { rows = rows; knobs = knobs })
+    × (seen (view_of (record s { rows = rows; knobs = knobs })) ≡ record (seen (view_of s)) { knobs = knobs })
 
+module _ (s : Inside) (are : AreLawful s) (knobs : Knobs) {by_node : Bool} (is : by_node ≡ not (knobs.merge_across_nodes == 1)) (rows : RowsView) where
   -- rows that are as they were but for their trees leave the pages lawful, where those that are said to be alone are so
-  tuned_by : rows_of rows.held ≡ rows_of s.rows.held → lodgings_of (of_dup s) rows.held ≡ lodgings_of (of_dup s) s.rows.held
-      → rows.by_node ≡ by_node → AreAlone knobs rows.held (dup_rows s.dups.dups) → Tuned
-  tuned_by same lain by alone = grind (arith)
+  pub tuned_by : rows_of rows.held ≡ rows_of s.rows.held → lodgings_of (of_dup s) rows.held ≡ lodgings_of (of_dup s) s.rows.held
+      → rows.by_node ≡ by_node → AreAlone knobs rows.held (dup_rows s.dups.dups) → Tuned s knobs rows
+  tuned_by same lain by alone =
+      let order : InPageOrder (rows_of rows.held) = rw same are.order in
+      let tied : AreTied (rows_of rows.held) s.dups.dups = rw same are.tied in
+      let kept : AreLawful (record s { rows = rows; knobs = knobs }) = search rules in
+      (kept, λ i. record (seen (view_of s)) { rows = same i; frame = frame_of (lain i); knobs = knobs })
 
   -- knobs that keep the trees of the rows, or under which no row waits, leave the pages lawful, and are seen
   pub tuned : ((by_node ≡ s.rows.by_node) × (rows ≡ s.rows))
       ⊎ ((by_node ≡ not s.rows.by_node) × (rows ≡ record s.rows { held = map out_of_tree s.rows.held; by_node = by_node }))
       → (knobs.merge_across_nodes ≡ s.knobs.merge_across_nodes) ⊎ All (λ r. waiting_state r.state ≡ false) (rows_of s.rows.held)
-      → Tuned
-  tuned (inl same) may = grind (arith, tuned_by, tree_is)
+      → Tuned s knobs rows
+  tuned (inl same) may =
+      tuned_by (λ i. rows_of (same.1 i).held) (λ i. lodgings_of (of_dup s) (same.1 i).held) (grind (arith, same)) (rw same.1 (λ k d lt alone.
+      let row = (get_or s.rows.held k d).row in
+      rw (← tree_is knobs is row, same.0, tree_is s.knobs are.by_node row) (are.alone k d lt alone)))
   tuned (inr went) (inr idle) =
       tuned_by (ap rows_of (λ i. (went.1 i).held) ∙ rows_by out_of_tree settled (λ x. refl) _ ∙ map_fixed settled _ (λ k d lt. idle_settled _ (idle k d lt)))
       (ap (lodgings_of (of_dup s)) (λ i. (went.1 i).held) ∙ map_mapped _ out_of_tree _ s.rows.held (λ k d lt. grind arith)) (λ i. (went.1 i).by_node)

@@ -92,6 +92,15 @@ module _ (knobs : Knobs) (v : RowsView) (rise : InPageOrder (rows_of v.held))
           grind (arith, none, content)
       go (Some w) is = grind (arith, partner_led is, content)
 
+-- no row that waits has a partner
+pub waiters_lonely : (knobs : Knobs) (v : RowsView) → InPageOrder (rows_of v.held) → v.by_node ≡ not (knobs.merge_across_nodes == 1)
+    → AreWaitersLed v.held → AreInTree v
+    → All (λ r. waiting_state r.state ≡ true → partner knobs (rows_of v.held) r ≡ None) (rows_of v.held)
+waiters_lonely knobs v rise by led found =
+    All-map (λ r. waiting_state r.state ≡ true → partner knobs (rows_of v.held) r ≡ None) (λ (h : Held). h.row) v.held (λ k d lt waits.
+    let row = (get_or v.held k d).row in
+    grind (arith, partner_is knobs v rise by led found row, tree_is knobs by row, found k d lt (led k d lt waits), same_page_refl row.page))
+
 -- a row in the tree is found by its content
 pub held_led : (knobs : Knobs) (v : RowsView) → v.by_node ≡ not (knobs.merge_across_nodes == 1) → AreInTree v → (page : GuestPage) {h : Held}
     → held_at page v.held ≡ Some h → is_in h.in_tree ≡ true → page_in_tree v (tree_of knobs h.row) h.row.bytes ≡ Some h.row.page

@@ -1,6 +1,6 @@
 -- The unstable tree: to which row it leads from a tree and bytes (mm/ksm; how it is kept is own).
 use Rattle.std.specs.Prelude.{◌≡◌, ℕ, ◌+◌, ◌*◌, ◌/◌, ◌%◌, ◌^◌, Bool, true, false, length, nat_lt, slice_get, ◌&&◌, ◌||◌, ◌==◌, bytes_eq, is_some, not, List, [], ◌∷◌, find, Option, None, Some}
-use Rattle.std.specs.Prelude.{if◌then◌else◌}
+use Rattle.std.specs.Prelude.{if◌then◌else◌, slice_index_or, ◌<◌}
 use Rattle.std.specs.List.{list_any}
 use Rattle.slab.specs.Slab.{Slab, Updates, get}
 use Rattle.ksm_pages.specs.Terms.{number_of}
@@ -13,18 +13,18 @@ use Rattle.ksm_pages.specs.Held.{is_in, tree_by}
 abbrev pub turned : ℕ → ℕ
 turned number = (number * 2 ^ 32 % 2 ^ 64 + number / 2 ^ 32) % 2 ^ 64
 
--- a number that hangs on a tree and on each word
+-- a number that hangs on a first one and on each word
 abbrev pub digest : ℕ → List ℕ → ℕ
-digest tree [] = tree
-digest tree (word ∷ bytes) = digest ((turned tree + word) % 2 ^ 64 * SPREAD % 2 ^ 64) bytes
+digest first [] = first
+digest first (word ∷ bytes) = digest ((turned first + word) % 2 ^ 64 * SPREAD % 2 ^ 64) bytes
 
--- the number of the place of a tree and bytes, in a table of so many
-abbrev pub place : ℕ → ℕ → List ℕ → ℕ
-place places tree bytes = turned (digest tree bytes) * SPREAD % 2 ^ 64 / 2 ^ 32 * places % 2 ^ 64 / 2 ^ 32
+-- the number of the place of bytes, in a table of so many
+abbrev pub place : ℕ → List ℕ → ℕ
+place places bytes = turned (digest 0 bytes) * SPREAD % 2 ^ 64 / 2 ^ 32 * places % 2 ^ 64 / 2 ^ 32
 
 -- the keys that stand in that place, if there is one
-abbrev pub keys_at : UnstableTree → ℕ → List ℕ → Option (List ℕ)
-keys_at u tree bytes = slice_get u.places.items (place (length u.places.items) tree bytes)
+abbrev pub keys_at : UnstableTree → List ℕ → Option (List ℕ)
+keys_at u bytes = slice_get u.places.items (place (length u.places.items) bytes)
 
 -- whether there is an entry, and it is said that the tree leads to it
 abbrev pub is_in_tree : Option Entry → Bool
@@ -66,7 +66,7 @@ in_place test (Some keys) other = found_or (find test keys) keys other
 -- the key of the row to which the tree leads from a tree and bytes
 abbrev pub holder : Bool → Slab Entry → UnstableTree → ℕ → List ℕ → Option ℕ
 holder by_node slab u tree bytes =
-    in_place (stands_under by_node slab tree bytes) (keys_at u tree bytes) (other_holder by_node slab u tree bytes)
+    in_place (stands_under by_node slab tree bytes) (keys_at u bytes) (other_holder by_node slab u tree bytes)
 
 -- whether a search from a tree and bytes comes to a key: it stands in the place, or beside it where each key there was taken
 abbrev pub comes_to : ℕ → Option (List ℕ) → Option ℕ → Bool
@@ -76,13 +76,19 @@ comes_to key (Some keys) other =
 
 -- the same in the table and the map of a tree
 abbrev pub meets : UnstableTree → ℕ → List ℕ → ℕ → Bool
-meets u tree bytes key = comes_to key (keys_at u tree bytes) (number_of tree bytes u.others.entries)
+meets u tree bytes key = comes_to key (keys_at u bytes) (number_of tree bytes u.others.entries)
 
 -- a search comes to each entry to which the tree is said to lead, and no other has its tree and bytes
 pub record AreLed (by_node : Bool) (slab : Slab Entry) (u : UnstableTree) : Type 0 where
   pub at : (tree : ℕ) (bytes : List ℕ) (key : ℕ) → stands_as by_node tree bytes (get slab key) ≡ true
       → (nat_lt key GONE ≡ true) × (meets u tree bytes key ≡ true)
       × ((k : ℕ) → stands_as by_node tree bytes (get slab k) ≡ true → k ≡ key)
+
+-- no two of the first keys lead to rows of the same bytes
+abbrev pub AreApart : Slab Entry → List ℕ → ℕ → Type 0
+AreApart slab keys many = (bytes : List ℕ) (i j : ℕ) → i < j → j < many
+    → stands_under false slab 0 bytes (slice_index_or keys i 0) ≡ true
+    → stands_under false slab 0 bytes (slice_index_or keys j 0) ≡ false
 
 -- a search comes to each entry to which it came
 abbrev pub Keeps : Bool → Slab Entry → UnstableTree → UnstableTree → Type 0

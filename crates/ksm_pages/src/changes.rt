@@ -1,13 +1,13 @@
-//! What commands change: pages that come and go, get frames and bytes, and what else their rows say.
+//! What commands change: pages that come and go, get frames, bytes and trees, and what else their rows say.
 
-ghost use Rattle.std.specs.Prelude.{◌≡◌, true, false, None, Some, Err, All, map, IfOk, OnOk, OnErr};
-ghost use Rattle.ksm_pages.specs.Terms.{as_let_go, as_settled, as_unshared, fresh_row, Memory, row_at, shared_state, stored, with_row, without_page};
+ghost use Rattle.std.specs.Prelude.{◌≡◌, [], true, false, None, Some, Err, All, map, IfOk, OnOk, OnErr};
+ghost use Rattle.ksm_pages.specs.Terms.{as_let_go, as_settled, as_unshared, fresh_row, Memory, partner, row_at, shared_state, stored, waiting_state, with_row, without_page};
 ghost use Rattle.ksm_pages.specs.Paged.{IsAlone, IsKnown, at_home_on, changed, lies_on, on_its_own, relaid, seen};
 
 use crate::left::leave;
 use crate::pages::Pages;
 use crate::row::Spot;
-use ksm_base::{Fault, GuestPage, PageBytes};
+use ksm_base::{Fault, GuestPage, Knobs, PageBytes};
 
 #[tactic(auto, using(crate::proofs::Changing::frame_by, crate::proofs::Changing::nothing_held, crate::proofs::Leaving::known_there))]
 impl Pages {
@@ -153,5 +153,24 @@ impl Pages {
         ensures { seen self.new ≡ record (seen self.old) { rows = map as_unshared self.old.rows } }
     {
         self.rows.unshare_all();
+    }
+
+    /// Sets the knobs where no dup is there, and leaves each row as it is, one that waits too, if under them no two rows
+    /// to which the unstable tree leads have the same tree and bytes. Says whether it did; else nothing changes.
+    pub fn regroup(&mut self, knobs: Knobs) -> bool
+        requires { self.old.dups ≡ [] }
+        ensures kept { result ≡ false → self.new ≡ self.old }
+        ensures set { result ≡ true → seen self.new ≡ record (seen self.old) { knobs = knobs } }
+        ensures alone { result ≡ true
+            → All (λ r. waiting_state r.state ≡ true → partner knobs self.new.rows r ≡ None) self.new.rows }
+    {
+        if !self.rows.regroup(knobs.merge_across_nodes != 1) {
+            return false;
+        }
+        // Called for its contract alone.
+        self.rows.are_lawful();
+        self.dups.set_limit(knobs.max_page_sharing);
+        self.knobs = knobs;
+        true
     }
 }

@@ -595,6 +595,19 @@ impl Rows {
         }
     }
 
+    /// Each node has an unstable tree of its own, or all have one, and the tree leads to the rows to which it did, if
+    /// then too no two of them have the same tree and bytes. Says whether it does; else nothing changes.
+    pub fn regroup(&mut self, by_node: bool) -> bool
+        ensures kept { result ≡ false → self.new ≡ self.old }
+        ensures set { result ≡ true → self.new ≡ record self.old { by_node = by_node } }
+    {
+        if by_node != self.by_node && !self.unstable.fits(&self.entries, by_node) {
+            return false;
+        }
+        self.by_node = by_node;
+        true
+    }
+
     // ------------------------------------------------------------ how a page is mapped
 
     /// The page of a row is mapped from the frame of the dup with a number. The dup's place and its group are guesses.

@@ -1,14 +1,16 @@
 //! The unstable tree (mm/ksm): it leads from a tree and bytes to the row that waits with these, or did last.
 //!
-//! A table has the keys of rows, a few in each place. The place is told by a digest of the tree and bytes, and a row is
-//! compared before it is believed. Where the place is full the key stands in a map of contents. So nobody can pick
-//! contents that are dear to find, and a page that waits takes some twenty bytes here.
+//! A table has the keys of rows, a few in each place. The place is told by a digest of the bytes, and a row is compared
+//! before it is believed. The place hangs on no tree, so it stays where all nodes come to have one, or each its own;
+//! rows with the same bytes in the trees of several nodes share it. Where the place is full the key stands in a map of
+//! contents. So nobody can pick contents that are dear to find, and a page that waits takes some twenty bytes here.
 
 ghost use Rattle.std.specs.List.{list_any};
-ghost use Rattle.std.specs.Prelude.{◌≡◌, ◌==◌, ◌<◌, ℕ, Bool, List, [], None, Some, IfErr, IfSome, OnErr, OnOk, true, false, find, not, slice_index_or};
+ghost use Rattle.std.specs.Prelude.{◌≡◌, ◌==◌, ◌<◌, ℕ, All, Bool, List, [], None, Some, IfErr, IfSome, MatchOption, OnErr, OnOk, true, false, find, length, not, slice_index_or};
 ghost use Rattle.ksm_pages.specs.Held.{tree_by as tree_of_home};
-ghost use Rattle.ksm_pages.specs.Unstable.{Keeps, KeepsOthers, holder, if_passes, is_led, meets, other_holder, place, stands_under, turned as halves_turned};
+ghost use Rattle.ksm_pages.specs.Unstable.{AreApart, AreLed, Keeps, KeepsOthers, holder, if_passes, is_led, meets, other_holder, place, stands_under, turned as halves_turned};
 ghost use Rattle.ksm_pages.specs.Terms.{number_of, Row, tree_of};
+ghost use Rattle.slab.specs.Slab.{get};
 
 use crate::row::Entry;
 use ksm_base::{Fault, Knobs, PageBytes};
@@ -60,13 +62,13 @@ fn turned(number: u64) -> u64
     (number << 32).wrapping_add(number >> 32)
 }
 
-/// The number of the place of a tree and bytes, in a table of so many.
+/// The number of the place of bytes, in a table of so many.
 #[tactic(auto, using(crate::proofs::Names::drop_more, crate::proofs::Names::drop_all))]
 #[inline(always)]
-fn place_of(places: usize, tree: u32, bytes: &PageBytes) -> usize
-    ensures { result ≡ place places tree bytes.now }
+fn place_of(places: usize, bytes: &PageBytes) -> usize
+    ensures { result ≡ place places bytes.now }
 {
-    let mut digest = u64::from(tree);
+    let mut digest = 0;
     for word in bytes {
         digest = turned(digest).wrapping_add(*word).wrapping_mul(SPREAD);
     }
@@ -74,20 +76,28 @@ fn place_of(places: usize, tree: u32, bytes: &PageBytes) -> usize
     ((digest >> 32).wrapping_mul(places as u64) >> 32) as usize
 }
 
+/// The entry under a key, if the tree leads to it.
+#[inline(always)]
+fn led(entries: &Slab<Entry>, key: u32) -> Option<&Entry>
+    ensures { MatchOption result (is_led entries.now key ≡ false) (λ entry.
+        (is_led entries.now key ≡ true) × (get entries.now key ≡ Some entry.now)) }
+{
+    if key >= GONE {
+        return None;
+    }
+    match entries.get(key as usize) {
+        Some(entry) if entry.in_tree.is_in() => Some(entry),
+        _ => None,
+    }
+}
+
 /// Whether the tree leads to the entry under a key, and that has this tree and these bytes.
 #[inline(always)]
 fn stands(entries: &Slab<Entry>, by_node: bool, key: u32, tree: u32, bytes: &PageBytes) -> bool
     ensures { result ≡ stands_under by_node entries.now tree bytes.now key }
 {
-    if key >= GONE {
-        return false;
-    }
-    match entries.get(key as usize) {
-        Some(entry) => {
-            entry.in_tree.is_in()
-                && tree_by(by_node, entry.home) == tree
-                && same_bytes(&entry.bytes, bytes)
-        }
+    match led(entries, key) {
+        Some(entry) => tree_by(by_node, entry.home) == tree && same_bytes(&entry.bytes, bytes),
         None => false,
     }
 }
@@ -97,19 +107,13 @@ fn stands(entries: &Slab<Entry>, by_node: bool, key: u32, tree: u32, bytes: &Pag
 pub fn is_in_tree(entries: &Slab<Entry>, key: u32) -> bool
     ensures { result ≡ is_led entries.now key }
 {
-    if key >= GONE {
-        return false;
-    }
-    match entries.get(key as usize) {
-        Some(entry) => entry.in_tree.is_in(),
-        None => false,
-    }
+    led(entries, key).is_some()
 }
 
-// The first key of a place under which a row with a tree and bytes stands.
+// The first of some keys under which a row with a tree and bytes stands.
 #[inline(always)]
 fn standing_in(
-    keys: &[u32; WIDE],
+    keys: &[u32],
     entries: &Slab<Entry>,
     by_node: bool,
     tree: u32,
@@ -153,6 +157,24 @@ fn index_in(keys: &[u32; WIDE], key: u32) -> Option<usize>
     None
 }
 
+// Whether no two keys of a place lead to rows of the same bytes. Mostly at most its first leads to a row.
+#[inline(always)]
+fn are_apart(keys: &[u32; WIDE], entries: &Slab<Entry>) -> bool
+    ensures { result ≡ true → AreApart entries.now keys.now (length keys.now) }
+{
+    if keys[1] == NO_KEY && keys[2] == NO_KEY && keys[3] == NO_KEY {
+        return true;
+    }
+    for at in 1..WIDE {
+        if let Some(entry) = led(entries, keys[at]) {
+            if standing_in(&keys[..at], entries, false, 0, &entry.bytes).is_some() {
+                return false;
+            }
+        }
+    }
+    true
+}
+
 impl UnstableTree {
     /// A tree that leads to no row, with room for so many keys; less where memory is refused.
     pub fn new(alloc: Global, keys: usize) -> UnstableTree {
@@ -178,7 +200,7 @@ impl UnstableTree {
     ) -> Option<u32>
         ensures { result ≡ holder by_node entries.now self.now tree bytes.now }
     {
-        let at = place_of(self.places.len(), tree, bytes);
+        let at = place_of(self.places.len(), bytes);
         if let Some(keys) = self.places.get(at) {
             let found = standing_in(keys, entries, by_node, tree, bytes);
             if found.is_some() || keys.contains(&NO_KEY) {
@@ -222,7 +244,7 @@ impl UnstableTree {
             → Keeps by_node entries.now self.old self.new }
         ensures memory { IfErr result (λ fault. fault ≡ Fault.Memory) }
     {
-        let at = place_of(self.places.len(), tree, bytes);
+        let at = place_of(self.places.len(), bytes);
         if let Some(keys) = self.places.get_mut(at) {
             if let Some(free) = free_in(keys, entries) {
                 keys[free] = key;
@@ -255,7 +277,7 @@ impl UnstableTree {
         requires gone { is_led entries.now key ≡ false }
         ensures { (by_node : Bool) → Keeps by_node entries.now self.old self.new }
     {
-        let at = place_of(self.places.len(), tree, bytes);
+        let at = place_of(self.places.len(), bytes);
         if let Some(keys) = self.places.get_mut(at) {
             if let Some(here) = index_in(keys, key) {
                 keys[here] = GONE;
@@ -278,5 +300,24 @@ impl UnstableTree {
         if self.others.get(&content).copied() == Some(key) {
             self.others.remove(&content);
         }
+    }
+
+    /// Whether the tree, in which each node has one of its own, or else all have one, is right in the other case too.
+    pub fn fits(&self, entries: &Slab<Entry>, by_node: bool) -> bool
+        requires { AreLed (not by_node) entries.now self.now }
+        ensures { result ≡ true → AreLed by_node entries.now self.now }
+    {
+        if !self.others.is_empty() {
+            return false;
+        }
+        if by_node {
+            return true;
+        }
+        for keys in &self.places {
+            if !are_apart(keys, entries) {
+                return false;
+            }
+        }
+        true
     }
 }

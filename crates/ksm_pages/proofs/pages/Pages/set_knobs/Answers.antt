@@ -1,13 +1,9 @@
-use Rattle.ksm_pages.proofs.Names.{All, arith, false, PagesValue, seen, subst, sym, waiting_state, ◌≡◌, ◌⊎◌}
-use Rattle.ksm_pages.proofs.Leaving.{AreLawful, view_of}
-use Rattle.ksm_pages.proofs.Turning.{tuned}
+use Rattle.ksm_pages.proofs.Names.{All, arith, false, PagesValue, subst, sym, waiting_state, ◌≡◌, ◌⊎◌}
+use Rattle.ksm_pages.proofs.Turning.{tuned, Tuned}
 use Rattle.ksm_pages.proofs.pages.Pages.set_knobs.Goals as goal
 use Rattle.ksm_pages.proofs.pages.Pages.set_knobs.Goals.{After-set_by_node}
 
-came : (c : After-set_by_node)
-    → let s = c.self.inside in
-    let now = record s { rows = c.set_by_node.new.self; knobs = c.args.knobs } in
-    AreLawful now × (seen (view_of now) ≡ record (seen (view_of s)) { knobs = c.args.knobs })
+came : (c : After-set_by_node) → Tuned c.self.inside c.args.knobs c.set_by_node.new.self
 came c =
     tuned c.self.inside c.self.invariant c.args.knobs (grind arith) c.set_by_node.new.self c.set_by_node.ensures
     (subst (λ (v : PagesValue). (c.args.knobs.merge_across_nodes ≡ v.knobs.merge_across_nodes)

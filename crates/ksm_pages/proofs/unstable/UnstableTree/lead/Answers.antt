@@ -16,9 +16,9 @@ returns-in-Some-free_in-clause-kept c by_node _ =
 
 -- where no key of the place is another, the tree is as it was, and leads to each key there
 same : (c : goal.After-lead_beside) → IsAs c.match-get_mut.self c.args.self.now
-    × MatchOption (keys_at c.args.self.now c.args.tree c.args.bytes.now) ⊤ (λ keys. list_any (λ k. not (is_led c.args.entries.now k)) keys ≡ false)
+    × MatchOption (keys_at c.args.self.now c.args.bytes.now) ⊤ (λ keys. list_any (λ k. not (is_led c.args.entries.now k)) keys ≡ false)
 same c =
-    let at : c.place_of-at.result ≡ place (length c.args.self.now.places.items) c.args.tree c.args.bytes.now = search rules in
+    let at : c.place_of-at.result ≡ place (length c.args.self.now.places.items) c.args.bytes.now = search rules in
     elim c.match-get_mut.branch [
       | in-Some+in_default-free_in w ↦
           let there = slice_get_read _ _ _ _ c.args.self.now.places.ok.0 (search rules) w.in-Some.ensures.value in
