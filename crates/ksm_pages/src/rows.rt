@@ -316,8 +316,8 @@ impl Rows {
 
     // ------------------------------------------------------------ rows that come and go
 
-    /// Adds the row of a page that has none, on a frame. The one fault is `Memory`, and then nothing changes.
-    #[tactic(auto, using(crate::proofs::Writing::roomy, crate::proofs::Writing::no_name))]
+    /// Adds the row of a page, on a frame. Where it has one, or memory is refused, nothing changes.
+    #[tactic(auto, using(crate::proofs::Writing::roomy, crate::proofs::Filing::held_found, crate::proofs::Options::some_mapped))]
     pub fn insert(
         &mut self,
         page: GuestPage,
@@ -325,13 +325,13 @@ impl Rows {
         bytes: PageBytes,
         frame: u32,
     ) -> Result<Spot, Fault>
-        requires absent { held_at page self.old.held ≡ None }
-        ensures added { OnOk result (self.new ≡ record self.old {
+        ensures added { OnOk result ((held_at page self.old.held ≡ None) × (self.new ≡ record self.old {
           held = with_held (record { row = fresh_row page home bytes; frame = Some frame; in_tree = InTree.Not }) self.old.held;
-        }) }
+        })) }
         ensures spot { IfOk result (λ spot. spot.page ≡ page) }
         ensures kept { OnErr result (self.new ≡ self.old) }
-        ensures memory { IfErr result (λ fault. fault ≡ Fault.Memory) }
+        ensures fault { IfErr result (λ fault. (fault ≡ Fault.Memory)
+            ⊎ ((fault ≡ Fault.AlreadyRegistered) × (is_some (held_at page self.old.held) ≡ true))) }
     {
         reserve_one(&mut self.entries)?;
         let Ok(key) = u32::try_from(self.entries.vacant_key()) else {
