@@ -95,14 +95,6 @@ impl<P: Part> Order<P> {
         named_by(self.pages.find(key_of(page)))
     }
 
-    /// Whether a page stands in the order.
-    #[tactic(auto, using(crate::proofs::Ranked::found_by, crate::proofs::Options::some_mapped))]
-    pub fn has(&self, page: GuestPage) -> bool
-        ensures { result ≡ is_some (find (is_of page) self.now) }
-    {
-        self.pages.find(key_of(page)).is_some()
-    }
-
     /// The first page behind a cursor.
     #[tactic(auto, using(crate::proofs::Ranked::found_small, crate::proofs::Names::find_mapped))]
     pub fn after(&self, cursor: Option<GuestPage>) -> Option<Named>

@@ -192,15 +192,6 @@ impl Rows {
         }
     }
 
-    /// Whether a page has a row.
-    #[tactic(auto, using(crate::proofs::Filing::held_found, crate::proofs::Options::some_mapped))]
-    #[inline(always)]
-    pub fn has(&self, spot: Spot) -> bool
-        ensures { result ≡ is_some (held_at spot.page self.now.held) }
-    {
-        self.at(spot).is_some() || self.order.has(spot.page)
-    }
-
     /// What is kept of the row of a page, if it has one.
     #[inline(always)]
     pub fn find(&self, spot: Spot) -> Option<&Entry>
