@@ -130,10 +130,10 @@ impl State {
         if node >= shape.nodes {
             return Err(Fault::BadNode);
         }
-        if self.pages.has(page) {
-            return Err(Fault::AlreadyRegistered);
-        }
         if is_used_up(&self.keeper, shape, node) {
+            if self.pages.has(page) {
+                return Err(Fault::AlreadyRegistered);
+            }
             return Err(Fault::NoFrame(node));
         }
         let spot = self.pages.insert(page, node, bytes)?;

@@ -5,6 +5,10 @@ use Rattle.ksm_order.proofs.Names.{drop_more, false, filter, filter-append, find
 use Rattle.ksm_order.proofs.Names.{IsPartOf, IsPlace, Item, key_at, length, length-append, length-drop, length-take-le, List, many, map-append, marked, nat_lt, nat_tests, None, refl, set, set_split}
 use Rattle.ksm_order.proofs.Names.{slice_get, slice_get-get_or, slice_get_past, suc, take, take-append-drop, true, up_to, with_item, with_mark, zero, ℕ, ◌&&◌, ◌++◌, ◌+◌, ◌-◌, ◌<◌, ◌∷◌, ◌≡◌, ◌≢◌, ◌≤◌}
 use Rattle.ksm_base.proofs.Edits.{find_all}
+use Rattle.ksm_order.specs.Listed.{IsAmong}
+use Rattle.std.proofs.lemmas.Bool.{cases_Bool}
+use Rattle.std.proofs.lemmas.List.Folds.{Any-from_list_any, list_any-append}
+use Rattle.ksm_order.proofs.Names.{inl, inr, list_any}
 use Rattle.std.proofs.Common.{true≢false}
 use Rattle.std.specs.Option.{option_or}
 use Rattle.std.proofs.lemmas.List.Sums.{count_by-le-length, length-filter}
@@ -123,6 +127,11 @@ before_part key front [] rest filled rise from = absurd (filled refl)
 before_part key front (x ∷ run) rest filled rise from =
     λ k d lt. grind (arith, nat_tests, (halves_rise front (x ∷ (run ++ rest)) rise).2 k 0 d)
 
+-- and so its first item does
+pub begins_any : (key : ℕ) (run : List Item) → begins_behind key run ≡ true → list_any (high (λ y. y.key) key) run ≡ true
+begins_any key [] begins = grind arith
+begins_any key (x ∷ run) begins = grind arith
+
 -- and a part that begins behind it and all that follow come behind it
 behind_part : (key : ℕ) (run rest : List Item) → AreAscending (run ++ rest) → begins_behind key run ≡ true
     → AreBehind key (run ++ rest)
@@ -161,6 +170,10 @@ module _ {P : Type 0} (f : P → List Item) (parts : List P) (at : ℕ) {q : P} 
 
   pub cut : flat_map f parts ≡ front f parts at ++ (f q ++ rest f parts at)
   cut = grind (arith, ap (flat_map f) (take-append-drop at parts), flat_map-append, from_cut)
+
+  -- what an item of a part passes, one of all does
+  pub any_in_part : (p : Item → Bool) → list_any p (f q) ≡ true → list_any p (flat_map f parts) ≡ true
+  any_in_part p some = grind (arith, cut, list_any-append)
 
   -- the marked item at a place is in a part, or behind it
   pub nth_cut : (place : ℕ) → key_at (marked (flat_map f (drop at parts))) place
@@ -210,23 +223,40 @@ module _ {P : Type 0} {f : P → List Item} {key : ℕ} {parts : List P} {at : �
 pub ruleset steps = (find_in_part, many_front)
 
 -- the part that has the item of a key is the part of the key
-module _ {P : Type 0} {f : P → List Item} {parts : List P} {at : ℕ} {q : P} (are : AreParts f parts) (within : at < length parts) (is : q ≡ get_or parts at q) {key : ℕ} where
-  part_with : (o : Option Item) → find (is_at key) (f q) ≡ o → is_some o ≡ true → IsPartOf f key parts at
-  part_with None found there = absurd (true≢false (sym there))
-  part_with (Some x) found there =
-      let all = halves_rise (front f parts at) (f q ++ rest f parts at) (grind (arith, cut f parts at within is, are.ascending)) in
-      let own = halves_rise (f q) (rest f parts at) all.1 in
+module _ {P : Type 0} {f : P → List Item} {parts : List P} {at : ℕ} {q : P} (are : AreParts f parts) (within : at < length parts) (is : q ≡ get_or parts at q) where
+  -- what is in front of a part comes before each of its items, and what is behind it comes behind these
+  around : (i : ℕ) (e : Item) → i < length (f q) → AreBefore (get_or (f q) i e).key (front f parts at) × AreBehind (get_or (f q) i e).key (rest f parts at)
+  around i e less =
+      let all = halves_rise (front f parts at) (f q ++ rest f parts at) (grind (arith, cut f parts at within is, are.ascending)) in (
+        λ k d lt. grind (arith, all.2 k i d lt, get_or_default (f q) i d e, get_or_append_left (f q) (rest f parts at) d i, length-append (f q) (rest f parts at)),
+        λ k d lt. grind (arith, (halves_rise (f q) (rest f parts at) all.1).2 i k d less lt, get_or_default (f q) i d e),
+      )
+
+  part_with : {key : ℕ} (o : Option Item) → find (is_at key) (f q) ≡ o → is_some o ≡ true → IsPartOf f key parts at
+  part_with {key} None found there = absurd (true≢false (sym there))
+  part_with {key} (Some x) found there =
       let key_is = find_passes (is_at key) (f q) x found in
       record {
         within = within;
-        ahead = λ k d lt. grind (
-          arith,
-          key_is,
-          find_all (is_at key) (λ y. (get_or (front f parts at) k d).key < y.key) (f q) x found
-              (λ i e less. grind (arith, all.2 k i d lt, get_or_default (f q) i d e, get_or_append_left (f q) (rest f parts at) d i, length-append (f q) (rest f parts at))),
-        );
-        behind = λ k d lt. grind (arith, key_is, find_all (is_at key) (λ y. y.key < (get_or (rest f parts at) k d).key) (f q) x found (λ i e less. grind (arith, own.2 i k d less lt, get_or_default (f q) i d e)));
+        ahead = λ k d lt. grind (arith, key_is, find_all (is_at key) (λ y. (get_or (front f parts at) k d).key < y.key) (f q) x found (λ i e less. (around i e less).0 k d lt));
+        behind = λ k d lt. grind (arith, key_is, find_all (is_at key) (λ y. y.key < (get_or (rest f parts at) k d).key) (f q) x found (λ i e less. (around i e less).1 k d lt));
       }
 
-  pub part_having : is_some (find (is_at key) (f q)) ≡ true → IsPartOf f key parts at
+  -- and so is the part among whose items the key comes, or that has none of those in front or behind it
+  pub part_among : {key : ℕ} {ahead behind : Bool} → IsAmong key ahead behind (f q) → (ahead ≡ true → at ≡ 0) → (behind ≡ true → AreBehind key (rest f parts at)) → IsPartOf f key parts at
+  part_among {key} {ahead} {behind} among first last = record {
+    within = within;
+    ahead = elim (cases_Bool ahead) [
+      | inl told ↦ λ k d lt. grind (arith, first told)
+      | inr other ↦ let (i, x, less, stands, over) = Any-from_list_any (λ y. nat_lt y.key key) (f q) (grind (arith, other, among.over)) in
+          λ k d lt. grind (arith, nat_tests, stands, over, (around i x less).0 k d lt)
+    ];
+    behind = elim (cases_Bool behind) [
+      | inl told ↦ last told
+      | inr other ↦ let (i, x, less, stands, under) = Any-from_list_any (λ y. nat_lt key y.key) (f q) (grind (arith, other, among.under)) in
+          λ k d lt. grind (arith, nat_tests, stands, under, (around i x less).1 k d lt)
+    ];
+  }
+
+  pub part_having : {key : ℕ} → is_some (find (is_at key) (f q)) ≡ true → IsPartOf f key parts at
   part_having there = part_with _ refl there

@@ -1,6 +1,7 @@
 -- Items in the order of their keys.
 use Rattle.std.specs.Prelude.{◌≡◌, ◌≢◌, ℕ, ◌+◌, ◌<◌, Bool, false, not, ◌&&◌, ◌==◌, List, [], ◌∷◌, ◌++◌, All, AllPairs, count_by, filter, flat_map, drop, if◌then◌else◌, length, map, nat_lt, take}
-use Rattle.std.specs.Prelude.{slice_get, Option, option_map}
+use Rattle.std.specs.List.{list_any}
+use Rattle.std.specs.Prelude.{slice_get, true, Option, option_map, ◌||◌}
 use Rattle.ksm_order.specs.declared.item.Item.{Item}
 
 -- the keys ascend, so none stands twice
@@ -48,6 +49,11 @@ AreBefore key xs = All (λ x. x.key < key) xs
 -- all keys come behind a key
 abbrev pub AreBehind : ℕ → List Item → Type 0
 AreBehind key xs = All (λ x. key < x.key) xs
+
+-- a key comes behind some item, or it is told that it comes behind all ahead of these; and so it is with what is behind
+pub record IsAmong (key : ℕ) (ahead behind : Bool) (xs : List Item) : Type 0 where
+  pub over : (ahead || list_any (λ x. nat_lt x.key key) xs) ≡ true
+  pub under : (behind || list_any (λ x. nat_lt key x.key) xs) ≡ true
 
 -- with an item at its place in the order
 abbrev pub with_item : Item → List Item → List Item

@@ -1,8 +1,8 @@
 //! The lowest height: items side by side.
 #![tactic(auto, using(crate::proofs::Parts::leaf_steps))]
 
-ghost use Rattle.std.specs.Prelude.{◌≡◌, ◌≤◌, ◌<◌, None, IfNone, IfSome, find, length};
-ghost use Rattle.ksm_order.specs.Listed.{AreAscending, begins_behind, is_at, key_at, many, marked, up_to};
+ghost use Rattle.std.specs.Prelude.{◌≡◌, ◌≤◌, ◌<◌, None, IfNone, IfSome, IsTrue, OnErr, OnOk, find, length};
+ghost use Rattle.ksm_order.specs.Listed.{AreAscending, IsAmong, begins_behind, is_at, key_at, many, marked, up_to, with_item};
 ghost use Rattle.ksm_order.specs.Places.{IsHere, IsPlace};
 
 use crate::item::Item;
@@ -68,6 +68,28 @@ fn position(items: &[Item], guess: usize, key: u64) -> Option<usize>
     }
 }
 
+/// Whether a key comes between the item in front of an index and the one there. Where there is none, it is told whether
+/// the key comes behind all items in front, or before all behind.
+#[inline(always)]
+fn fits(items: &[Item], at: usize, key: u64, ahead: bool, behind: bool) -> bool
+    requires order { AreAscending items.now }
+    requires within { at ≤ length items.now }
+    ensures { IsTrue result → IsPlace (λ x. x.key) key items.now at × (find (is_at key) items.now ≡ None)
+        × IsAmong key ahead behind items.now }
+{
+    let over = if at > 0 {
+        items[at - 1].key < key
+    } else {
+        ahead
+    };
+    let under = if at < items.len() {
+        key < items[at].key
+    } else {
+        behind
+    };
+    over & under
+}
+
 /// How many items are marked.
 fn count_marked(items: &[Item]) -> usize
     ensures { result ≡ many items.now }
@@ -77,6 +99,22 @@ fn count_marked(items: &[Item]) -> usize
 
 // A leaf of so many items is cut in two before one more comes in.
 const LONGEST: usize = 64;
+
+impl Leaf {
+    // Puts in an item whose key is not there at its place.
+    #[inline(always)]
+    fn put(&mut self, at: usize, item: Item) -> Result<(), AllocError>
+        requires place { IsPlace (λ x. x.key) item.key self.old at }
+        requires absent { find (is_at item.key) self.old ≡ None }
+        ensures added { OnOk result (self.new ≡ with_item item self.old) }
+        ensures kept { OnErr result (self.new ≡ self.old) }
+    {
+        insert_at(&mut self.items, at, item)?;
+        self.next = at + 1;
+        self.count += usize::from(item.marked);
+        Ok(())
+    }
+}
 
 impl Part for Leaf {
     ghost items = { λ l. l };
@@ -93,10 +131,19 @@ impl Part for Leaf {
 
     fn insert(&mut self, item: Item) -> Result<(), AllocError> {
         let at = place_by(self.items.as_slice(), self.next, item.key);
-        insert_at(&mut self.items, at, item)?;
-        self.next = at + 1;
-        self.count += usize::from(item.marked);
-        Ok(())
+        self.put(at, item)
+    }
+
+    fn insert_next(&mut self, item: Item, ahead: bool, behind: bool) -> bool {
+        let items = self.items.as_slice();
+        let mut at = self.next;
+        if at > items.len() || items.len() >= LONGEST {
+            return false;
+        }
+        if at > 0 && item.key < items[at - 1].key {
+            at -= 1;
+        }
+        fits(items, at, item.key, ahead, behind) && self.put(at, item).is_ok()
     }
 
     fn remove(&mut self, key: u64) {

@@ -1,8 +1,11 @@
 //! The heights above: parts side by side, each a tree of the height below.
 #![tactic(auto, using(crate::proofs::Parts::steps))]
 
-ghost use Rattle.std.specs.Prelude.{◌≡◌, ◌+◌, ◌^◌, ◌<◌, ◌≤◌, [], None, IfOk, IsTrue, OnErr, OnOk, drop, find, flat_map, length, take};
-ghost use Rattle.ksm_order.specs.Listed.{AreBefore, AreBehind, AreParts, IsPartOf, is_at, key_at, many, marked, up_to, with_item, with_mark, without};
+ghost use Rattle.std.specs.Prelude.{◌≡◌, ◌+◌, ◌^◌, ◌<◌, ◌≤◌, [], None, IfOk, IsTrue, OnErr, OnOk, drop, find};
+ghost use Rattle.std.specs.Prelude.{Ok, false, flat_map, is_some, length, nat_lt, take, true, ◌||◌, ◌≢◌};
+ghost use Rattle.std.specs.List.{list_any};
+ghost use Rattle.ksm_order.specs.Listed.{AreBefore, AreBehind, AreParts, IsPartOf, is_at, key_at, many, marked, up_to};
+ghost use Rattle.ksm_order.specs.Listed.{with_item, with_mark, without};
 
 use crate::item::Item;
 use crate::part::Part;
@@ -43,6 +46,25 @@ impl<P: Part> Node<P> {
             last: 0,
         }
     }
+
+    /// Puts in an item, where its key is not there. Says whether it was not.
+    pub fn add(&mut self, item: Item) -> Result<bool, AllocError>
+        requires few { length self.old + 1 < 2 ^ 64 }
+        ensures added { result ≡ Ok true
+            → (find (is_at item.key) self.old ≡ None) × (self.new ≡ with_item item self.old) }
+        ensures there { result ≡ Ok false → is_some (find (is_at item.key) self.old) ≡ true }
+        ensures kept { result ≢ Ok true → self.new ≡ self.old }
+    {
+        // Pages mostly come one behind the other, and nothing stands beside all of them.
+        if self.insert_next(item, true, true) {
+            return Ok(true);
+        }
+        if self.find(item.key).is_some() {
+            return Ok(false);
+        }
+        self.insert(item)?;
+        Ok(true)
+    }
 }
 
 /// Whether it is known that no part in front of one has items of a key or behind it.
@@ -56,15 +78,19 @@ fn reaches_back<P: Part>(parts: &[P], at: usize, key: u64) -> bool
     at == 0 || !parts[at].begins_behind(key)
 }
 
-/// Whether it is known that no part behind one has items of a key or before it.
+/// Whether it is known that no part behind one has items of a key or before it. Where there is none, it is told.
 #[inline(always)]
 #[tactic(auto, using(crate::proofs::Parts::behind_of))]
-fn reaches_on<P: Part>(parts: &[P], at: usize, key: u64) -> bool
+fn reaches_on<P: Part>(parts: &[P], at: usize, key: u64, behind: bool) -> bool
     requires parts { AreParts P.items parts.now }
     requires within { at < length parts.now }
-    ensures { IsTrue result → AreBehind key (flat_map P.items (drop (at + 1) parts.now)) }
+    ensures behind { IsTrue result → AreBehind key (flat_map P.items (drop (at + 1) parts.now)) }
+    ensures told { IsTrue result → behind || list_any (λ x. nat_lt key x.key) (flat_map P.items parts.now) ≡ true }
 {
-    at + 1 == parts.len() || parts[at + 1].begins_behind(key)
+    if at + 1 < parts.len() {
+        return parts[at + 1].begins_behind(key);
+    }
+    behind
 }
 
 /// The part in which a key is, or would be. The guess is tried first.
@@ -74,7 +100,10 @@ fn part_of<P: Part>(parts: &[P], guess: usize, key: u64) -> usize
     requires some { 0 < length parts.now }
     ensures { IsPartOf P.items key parts.now result }
 {
-    if guess < parts.len() && reaches_back(parts, guess, key) && reaches_on(parts, guess, key) {
+    if guess < parts.len()
+        && reaches_back(parts, guess, key)
+        && reaches_on(parts, guess, key, true)
+    {
         return guess;
     }
     search(parts, key)
@@ -248,6 +277,19 @@ impl<P: Part> Part for Node<P> {
         put(&mut self.parts, &mut self.last, self.alloc, item)?;
         self.count = count;
         Ok(())
+    }
+
+    fn insert_next(&mut self, item: Item, ahead: bool, behind: bool) -> bool {
+        let at = self.last;
+        if at >= self.parts.len() {
+            return false;
+        }
+        let behind = reaches_on(self.parts.as_slice(), at, item.key, behind);
+        if !self.parts[at].insert_next(item, ahead & (at == 0), behind) {
+            return false;
+        }
+        self.count += usize::from(item.marked);
+        true
     }
 
     fn remove(&mut self, key: u64) {

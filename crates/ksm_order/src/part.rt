@@ -1,7 +1,9 @@
 //! What each height of the tree promises.
-ghost use Rattle.std.specs.Prelude.{◌≡◌, ◌==◌, ◌<◌, ◌^◌, List, [], ◌∷◌, None, IfNone, IfOk, IfSome, OnErr, OnOk, ◌+◌, ◌≤◌, find, is_some, length, true};
+ghost use Rattle.std.specs.Prelude.{◌≡◌, ◌==◌, ◌<◌, ◌^◌, List, [], ◌∷◌, None, IfNone, IfOk, IfSome, IsTrue, OnErr, OnOk, ◌+◌, ◌≤◌, false, find, is_some, true};
+ghost use Rattle.std.specs.Prelude.{length};
 ghost use Rattle.std.specs.Int.{from_bool};
-ghost use Rattle.ksm_order.specs.Listed.{IsCut, begins_behind, is_at, is_from, key_at, many, marked, up_to, with_item, with_mark, without};
+ghost use Rattle.ksm_order.specs.Listed.{IsAmong, IsCut, begins_behind, is_at, is_from, key_at};
+ghost use Rattle.ksm_order.specs.Listed.{many, marked, up_to, with_item, with_mark, without};
 ghost use Rattle.ksm_order.specs.declared.item.Item.{Item as TheItem};
 
 use crate::item::Item;
@@ -20,6 +22,14 @@ pub trait Part: Drop {
         requires absent { find (is_at item.key) (items self.old) ≡ None }
         ensures added { OnOk result (items self.new ≡ with_item item (items self.old)) }
         ensures kept { OnErr result (items self.new ≡ items self.old) };
+
+    /// The same where the item is known to come right behind that which was put in last, or right before it, and there is
+    /// room. It is told whether all parts ahead of this one come before the key, and those behind it behind the key.
+    fn insert_next(&mut self, item: Item, ahead: bool, behind: bool) -> bool
+        requires few { length (items self.old) + 1 < 2 ^ 64 }
+        ensures added { IsTrue result → (find (is_at item.key) (items self.old) ≡ None)
+            × (items self.new ≡ with_item item (items self.old)) × IsAmong item.key ahead behind (items self.old) }
+        ensures kept { result ≡ false → self.new ≡ self.old };
 
     /// Takes the item of a key away, if it is there.
     fn remove(&mut self, key: u64)

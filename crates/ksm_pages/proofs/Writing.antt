@@ -5,7 +5,6 @@ use Rattle.ksm_pages.proofs.Names.{held_at, held_in, held_of, held_under, holds,
 use Rattle.ksm_pages.proofs.Names.{length-map, List, Listing, marked, Named, named_of, None, pages_ordered, PageState, Private, refl, row_at, rows_of, RowsView, rules, same_page_eq, same_page_refl}
 use Rattle.ksm_pages.proofs.Names.{shared_state, Slab, Some, state_of, StaysBegun, StaysLed, sym, Tally, true, Updates-with_value, with_held, with_named, with_value, without_held, without_named}
 use Rattle.ksm_pages.proofs.Names.{without_rises, ℕ, ◌<◌, ◌^◌, ◌∙◌, ◌≡◌, ◌≢◌, ◌≤◌, ◌⊎◌}
-use Rattle.ksm_pages.proofs.Options.{none_mapped}
 use Rattle.ksm_pages.specs.declared.row.Kind.TheVariants as kinds
 use Rattle.ksm_pages.specs.declared.rows.Rows.TheInside.{Inside}
 use Rattle.ksm_pages.proofs.Changing.{can_move, marked_same, row_told, rows_changed, rows_with, rows_without, tally_changed, tally_gone, tally_put}
@@ -130,10 +129,6 @@ pub nothing_gone : (s : Inside) → AreRows s → (page : GuestPage) → None �
 nothing_gone s are page told is =
     let same = absent_kept pages_ordered (λ (h : Held). h.row.page) page _ (held_nowhere s are page told) in grind (arith, same)
 
--- a page that is seen without a row has no name in the order
-pub no_name : (s : Inside) → AreRows s → (page : GuestPage) {v : RowsView} → view_of s ≡ v → held_at page v.held ≡ None → find (is_of page) s.order ≡ None
-no_name s are page seen_as absent = grind (arith, none_mapped, held_found)
-
 -- entries that got room are as they were
 pub roomy : (s : Inside) → AreRows s → AreLed s.by_node s.entries s.unstable → {room : Slab Entry} → room ≡ record s.entries { capacity = room.capacity }
     → IsRows room s.order s.restless s.tally s.pass × AreLed s.by_node room s.unstable
@@ -142,7 +137,7 @@ roomy s are led rest = rw rest (search rules, led_less led (λ t b k stands. sta
 -- the row of a page came, with a frame of its own, under a key where nothing stood, once there was room for it
 module _ (s : Inside) (are : AreRows s) {v : RowsView} (seen_as : view_of s ≡ v) {room : Slab Entry}
     (rest : room ≡ record s.entries { capacity = room.capacity })
-    {key : ℕ} {e : Entry} {later : Slab Entry} (vacant : get room key ≡ None) (absent : held_at e.page v.held ≡ None)
+    {key : ℕ} {e : Entry} {later : Slab Entry} (vacant : get room key ≡ None) (unnamed : find (is_of e.page) s.order ≡ None)
     (fills : Fills room later key (Some e)) where
   free : get s.entries key ≡ None
   free = (λ i. get (sym rest i) key) ∙ vacant
@@ -151,30 +146,30 @@ module _ (s : Inside) (are : AreRows s) {v : RowsView} (seen_as : view_of s ≡ 
   pub filled : Fills s.entries later key (Some e)
   filled = record { changed = fills.changed; others = λ k apart. fills.others k apart ∙ (λ i. get (rest i) k) }
 
-  not_named : find (is_of e.page) s.order ≡ None
-  not_named = no_name s are _ seen_as absent
+  not_held : held_at e.page (all_held s) ≡ None
+  not_held = grind (arith, held_found s.entries _ are.ascending are.filed s.pass e.page)
 
   held_put : held_in s.pass later (with_named (named_of key e) s.order) ≡ with_held (held_of s.pass e) (all_held s)
-  held_put = put _ _ are.ascending are.filed free not_named filled _
+  held_put = put _ _ are.ascending are.filed free unnamed filled _
 
   -- rows are lawful once a Private entry came under a vacant key, with a name and a place in the list
   pub still_put : state_of s.pass e ≡ Private → e.number ≤ s.pass → {now : Listing} → IsAddedTo e.page s.restless now → IsRows later (with_named (named_of key e) s.order) now s.tally s.pass
   still_put alone fits added = record {
     ascending = with_rises pages_ordered (λ (n : Named). n.page) _ (named_of key e) _ refl are.ascending;
-    filed = filed_put _ _ are.ascending are.filed free not_named filled;
+    filed = filed_put _ _ are.ascending are.filed free unnamed filled;
     listed = λ known.
         let is = added known in
         all_filled filled (λ may. is.1 e.page ∙ grind (arith, same_page_refl))
         (λ k f stands apart may. is.1 f.page ∙ grind (arith, are.listed is.0 k f stands may));
     counted = rw (ap rows_of held_put ∙ rows_with (held_of s.pass e) (all_held s))
-        (tally_put _ (row_told e.page (all_held s) (ap (λ w. held_at e.page w.held) seen_as ∙ absent)) alone are.counted);
+        (tally_put _ (row_told e.page (all_held s) not_held) alone are.counted);
     begun = all_filled filled (λ own. fits) (λ k f stands apart. are.begun k f stands);
     counting = are.counting;
   }
 
-  -- once an entry came under a vacant key with a name, the rows are seen with its row
-  pub viewed_put : view s.by_node s.pass later (with_named (named_of key e) s.order) ≡ record v { held = with_held (held_of s.pass e) v.held }
-  viewed_put = grind (arith, held_put)
+  -- once an entry came under a vacant key with a name, the rows are seen with its row, which was not there
+  pub viewed_put : (held_at e.page v.held ≡ None) × (view s.by_node s.pass later (with_named (named_of key e) s.order) ≡ record v { held = with_held (held_of s.pass e) v.held })
+  viewed_put = grind (arith, held_put, not_held)
 
 -- how many rows are merged or Zero
 abbrev merged_or_zero : List Row → ℕ

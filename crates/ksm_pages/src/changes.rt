@@ -1,6 +1,6 @@
 //! What commands change: pages that come and go, get frames, bytes and trees, and what else their rows say.
 
-ghost use Rattle.std.specs.Prelude.{◌≡◌, [], true, false, None, Some, Err, All, map, IfOk, OnOk, OnErr};
+ghost use Rattle.std.specs.Prelude.{◌≡◌, ◌⊎◌, [], true, false, None, Some, All, is_some, map, IfErr, IfOk, OnOk, OnErr};
 ghost use Rattle.ksm_pages.specs.Terms.{as_let_go, as_settled, as_unshared, fresh_row, Memory, partner, row_at, shared_state, stored, waiting_state, with_row, without_page};
 ghost use Rattle.ksm_pages.specs.Paged.{IsAlone, IsKnown, at_home_on, changed, lies_on, on_its_own, relaid, seen};
 
@@ -11,20 +11,20 @@ use ksm_base::{Fault, GuestPage, Knobs, PageBytes};
 
 #[tactic(auto, using(crate::proofs::Changing::frame_by, crate::proofs::Changing::nothing_held, crate::proofs::Leaving::known_there))]
 impl Pages {
-    /// Adds a page that has no row, at home on a node; which frame is its own is told next, by `lay`. Refused for
-    /// memory alone, it changes nothing.
+    /// Adds a page, at home on a node; which frame is its own is told next, by `lay`. Where it has a row, or memory is
+    /// refused, nothing changes.
     pub fn insert(&mut self, page: GuestPage, node: u32, bytes: &PageBytes) -> Result<Spot, Fault>
-        requires { row_at page self.old.rows ≡ None }
         ensures spot { IfOk result (λ spot. spot.page ≡ page) }
-        ensures added { OnOk result (seen self.new ≡ record (seen self.old) {
+        ensures added { OnOk result ((row_at page self.old.rows ≡ None) × (seen self.new ≡ record (seen self.old) {
           rows = with_row (fresh_row page node bytes.now) self.old.rows;
           frame = (seen self.new).frame;
-        }) }
+        })) }
         ensures others { OnOk result ((seen self.new).frame
             ≡ lies_on page ((seen self.new).frame page) (seen self.old).frame) }
-        ensures nowhere { (seen self.old).frame page ≡ None }
+        ensures nowhere { OnOk result ((seen self.old).frame page ≡ None) }
         ensures refused { OnErr result (self.new ≡ self.old) }
-        ensures fault { OnErr result (result ≡ Err Memory) }
+        ensures fault { IfErr result (λ fault. (fault ≡ Memory)
+            ⊎ ((fault ≡ Fault.AlreadyRegistered) × (is_some (row_at page self.old.rows) ≡ true))) }
     {
         self.rows.insert(page, node, *bytes, 0)
     }

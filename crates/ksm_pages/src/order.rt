@@ -1,5 +1,5 @@
 //! All pages in order, with rank: a page is found by a search, and the visits of a scan are counted, not walked.
-ghost use Rattle.std.specs.Prelude.{◌≡◌, ℕ, ◌+◌, ◌≤◌, ◌<◌, ◌^◌, [], true, None, Some, IfErr, IfSome, IsTrue, OnErr, OnOk, count_by, drop, find, is_some, length, nat_lt, not, option_map};
+ghost use Rattle.std.specs.Prelude.{◌≡◌, ◌⊎◌, ℕ, ◌+◌, ◌≤◌, ◌<◌, ◌^◌, [], true, None, Some, IfErr, IfSome, IsTrue, OnErr, OnOk, count_by, drop, find, is_some, length, nat_lt, not, option_map};
 ghost use Rattle.ksm_pages.specs.Terms.{after_cursor, GuestPage, page_of};
 ghost use Rattle.ksm_pages.specs.Ahead.{EndsAt, last_of, pages_behind, pages_between};
 ghost use Rattle.ksm_pages.specs.Ordered.{is_of, marked, named_by, visited, with_named, without_named};
@@ -95,14 +95,6 @@ impl<P: Part> Order<P> {
         named_by(self.pages.find(key_of(page)))
     }
 
-    /// Whether a page stands in the order.
-    #[tactic(auto, using(crate::proofs::Ranked::found_by, crate::proofs::Options::some_mapped))]
-    pub fn has(&self, page: GuestPage) -> bool
-        ensures { result ≡ is_some (find (is_of page) self.now) }
-    {
-        self.pages.find(key_of(page)).is_some()
-    }
-
     /// The first page behind a cursor.
     #[tactic(auto, using(crate::proofs::Ranked::found_small, crate::proofs::Names::find_mapped))]
     pub fn after(&self, cursor: Option<GuestPage>) -> Option<Named>
@@ -111,24 +103,28 @@ impl<P: Part> Order<P> {
         named_by(self.pages.first_from(from_of(cursor)))
     }
 
-    /// Adds a page that is not there, for a scan to visit. The one fault is `Memory`, and then nothing changes.
+    /// Adds a page, for a scan to visit. Where it is there already, or memory is refused, nothing changes.
     #[tactic(auto, using(crate::proofs::Ranked::found_by, crate::proofs::Ranked::put_its))]
     pub fn insert(&mut self, page: GuestPage, key: u32) -> Result<(), Fault>
-        requires absent { find (is_of page) self.old ≡ None }
+        ensures absent { OnOk result (find (is_of page) self.old ≡ None) }
         ensures added { OnOk result
             (self.new ≡ with_named (record { page = page; key = key; mergeable = true }) self.old) }
         ensures kept { OnErr result (self.new ≡ self.old) }
-        ensures memory { IfErr result (λ fault. fault ≡ Fault.Memory) }
+        ensures fault { IfErr result (λ fault. (fault ≡ Fault.Memory)
+            ⊎ ((fault ≡ Fault.AlreadyRegistered) × (is_some (find (is_of page) self.old) ≡ true))) }
     {
         // No memory holds more pages than can be counted.
         let Some(len) = self.len.checked_add(1) else {
             return Err(Fault::Memory);
         };
-        self.pages.insert(Item {
+        let is_new = self.pages.add(Item {
             key: key_of(page),
             value: key,
             marked: true,
         })?;
+        if !is_new {
+            return Err(Fault::AlreadyRegistered);
+        }
         self.len = len;
         Ok(())
     }

@@ -73,7 +73,7 @@ impl Pages {
     pub fn has(&self, page: GuestPage) -> bool
         ensures { result ≡ is_some (row_at page self.now.rows) }
     {
-        self.rows.has(self.rows.guess(page))
+        self.rows.find(self.rows.guess(page)).is_some()
     }
 
     /// How a page lies, and where it is at home; none where it has no row.

@@ -192,15 +192,6 @@ impl Rows {
         }
     }
 
-    /// Whether a page has a row.
-    #[tactic(auto, using(crate::proofs::Filing::held_found, crate::proofs::Options::some_mapped))]
-    #[inline(always)]
-    pub fn has(&self, spot: Spot) -> bool
-        ensures { result ≡ is_some (held_at spot.page self.now.held) }
-    {
-        self.at(spot).is_some() || self.order.has(spot.page)
-    }
-
     /// What is kept of the row of a page, if it has one.
     #[inline(always)]
     pub fn find(&self, spot: Spot) -> Option<&Entry>
@@ -316,8 +307,8 @@ impl Rows {
 
     // ------------------------------------------------------------ rows that come and go
 
-    /// Adds the row of a page that has none, on a frame. The one fault is `Memory`, and then nothing changes.
-    #[tactic(auto, using(crate::proofs::Writing::roomy, crate::proofs::Writing::no_name))]
+    /// Adds the row of a page, on a frame. Where it has one, or memory is refused, nothing changes.
+    #[tactic(auto, using(crate::proofs::Writing::roomy, crate::proofs::Filing::held_found, crate::proofs::Options::some_mapped))]
     pub fn insert(
         &mut self,
         page: GuestPage,
@@ -325,13 +316,13 @@ impl Rows {
         bytes: PageBytes,
         frame: u32,
     ) -> Result<Spot, Fault>
-        requires absent { held_at page self.old.held ≡ None }
-        ensures added { OnOk result (self.new ≡ record self.old {
+        ensures added { OnOk result ((held_at page self.old.held ≡ None) × (self.new ≡ record self.old {
           held = with_held (record { row = fresh_row page home bytes; frame = Some frame; in_tree = InTree.Not }) self.old.held;
-        }) }
+        })) }
         ensures spot { IfOk result (λ spot. spot.page ≡ page) }
         ensures kept { OnErr result (self.new ≡ self.old) }
-        ensures memory { IfErr result (λ fault. fault ≡ Fault.Memory) }
+        ensures fault { IfErr result (λ fault. (fault ≡ Fault.Memory)
+            ⊎ ((fault ≡ Fault.AlreadyRegistered) × (is_some (held_at page self.old.held) ≡ true))) }
     {
         reserve_one(&mut self.entries)?;
         let Ok(key) = u32::try_from(self.entries.vacant_key()) else {

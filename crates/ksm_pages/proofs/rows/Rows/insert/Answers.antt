@@ -12,9 +12,9 @@ invariant_of-self-2 c =
     let vacant = rw (key_is c) at c.insert_reserved.ensures.was_vacant in
     let fills = rw (key_is c) at c.insert_reserved.ensures.updates in
     rw c.in_ok-insert.ensures.added (
-      still_put c.self.inside c.self.invariant.0 c.self.view_is c.reserve_one.ensures.rest vacant c.requires.absent fills
+      still_put c.self.inside c.self.invariant.0 c.self.view_is c.reserve_one.ensures.rest vacant c.in_ok-insert.ensures.absent fills
           (grind arith) (omega arith) c.add.ensures,
-      led_out c.self.invariant.1 (filled c.self.inside c.self.invariant.0 c.self.view_is c.reserve_one.ensures.rest vacant c.requires.absent fills)
+      led_out c.self.invariant.1 (filled c.self.inside c.self.invariant.0 c.self.view_is c.reserve_one.ensures.rest vacant c.in_ok-insert.ensures.absent fills)
           (λ e is. grind arith),
     )
 
@@ -22,5 +22,5 @@ pub returns-clause-added : goal.returns-clause-added
 returns-clause-added c =
     let vacant = rw (key_is c) at c.insert_reserved.ensures.was_vacant in
     let now = viewed_put c.self.inside c.self.invariant.0 c.self.view_is c.reserve_one.ensures.rest vacant
-    c.requires.absent (rw (key_is c) at c.insert_reserved.ensures.updates) in
+    c.in_ok-insert.ensures.absent (rw (key_is c) at c.insert_reserved.ensures.updates) in
     grind (arith, now, c.in_ok-insert.ensures.added)
