@@ -59,11 +59,16 @@ pub fn place_of<T: Keyed>(items: &[T], key: u64) -> usize
     requires { AreInOrder T.key_of items.now }
     ensures { IsPlace T.key_of key items.now result }
 {
-    items.partition_point(
-        |item|
-            ensures { result ≡ nat_lt (T.key_of item.now) key }
-        { item.key() < key },
-    )
+    let mut at = 0;
+    let mut left = items.len();
+    while left > 0 {
+        let half = left / 2;
+        if items[at + half].key() < key {
+            at += left - half;
+        }
+        left = half;
+    }
+    at
 }
 
 /// The same, where that is mostly the end, or the last element.

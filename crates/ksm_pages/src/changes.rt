@@ -6,8 +6,9 @@ ghost use Rattle.ksm_pages.specs.Paged.{IsAlone, IsKnown, at_home_on, changed, l
 
 use crate::left::leave;
 use crate::pages::Pages;
-use crate::row::Spot;
+use crate::row::{InTree, Spot};
 use ksm_base::{Fault, GuestPage, Knobs, PageBytes};
+use ksm_tree::NO_NUMBER;
 
 #[tactic(auto, using(crate::proofs::Changing::frame_by, crate::proofs::Changing::nothing_held, crate::proofs::Leaving::known_there))]
 impl Pages {
@@ -30,14 +31,47 @@ impl Pages {
     }
 
     /// The page gets a frame of its own in the stead of what it had, and these bytes. Gives the frame where it lay, if
-    /// it had one.
+    /// it had one. What its row was is copied only where the unstable tree has to forget it.
     #[inline(always)]
     pub fn store_on(&mut self, spot: Spot, frame: u32, bytes: &PageBytes) -> Option<u32>
         requires { IsKnown spot.page self.old.rows }
         ensures left { result ≡ (seen self.old).frame spot.page }
         ensures stored { seen self.new ≡ relaid spot.page (stored bytes.now) (Some frame) (seen self.old) }
     {
-        let was = self.rows.store_on(spot, frame, bytes);
+        match self.rows.at(spot) {
+            Some(entry) if !entry.in_tree.is_in() => self.store_apart(spot, frame, bytes),
+            _ => self.store_led(spot, frame, bytes),
+        }
+    }
+
+    // The same where the unstable tree may lead to the page.
+    #[inline(never)]
+    fn store_led(&mut self, spot: Spot, frame: u32, bytes: &PageBytes) -> Option<u32>
+        requires { IsKnown spot.page self.old.rows }
+        ensures left { result ≡ (seen self.old).frame spot.page }
+        ensures stored { seen self.new ≡ relaid spot.page (stored bytes.now) (Some frame) (seen self.old) }
+    {
+        let was = self.rows.find(spot).copied();
+        let left = self.store_apart(spot, frame, bytes);
+        if let Some(was) = was {
+            self.rows.forget_row(spot, was);
+        }
+        left
+    }
+
+    // The same, but that the unstable tree is not told. The number of the row's group is not known any more.
+    #[inline(always)]
+    fn store_apart(&mut self, spot: Spot, frame: u32, bytes: &PageBytes) -> Option<u32>
+        requires { IsKnown spot.page self.old.rows }
+        ensures left { result ≡ (seen self.old).frame spot.page }
+        ensures stored { seen self.new ≡ relaid spot.page (stored bytes.now) (Some frame) (seen self.old) }
+    {
+        let was = self.rows.change(spot, move |entry| {
+            entry.take_bytes_apart(bytes);
+            entry.take_frame(frame);
+            entry.in_tree = InTree::Not;
+            entry.group = NO_NUMBER;
+        });
         leave(&mut self.dups, &self.frames, was)
     }
 
@@ -48,7 +82,11 @@ impl Pages {
         ensures left { result ≡ (seen self.old).frame spot.page }
         ensures moved { seen self.new ≡ relaid spot.page (at_home_on node) (Some frame) (seen self.old) }
     {
-        let was = self.rows.move_on(spot, frame, node);
+        let was = self.rows.change_out_of_tree(spot, |entry| {
+            entry.take_frame(frame);
+            entry.in_tree = InTree::Not;
+            entry.home = node;
+        });
         leave(&mut self.dups, &self.frames, was)
     }
 

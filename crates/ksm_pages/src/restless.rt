@@ -51,8 +51,8 @@ impl Keyed for Listed {
 /// Pages, each with a guess of the key of its row, and whether all that a visit may change are among them.
 ///
 /// To add a page costs a step. Those that did not come in order are put in order when a scan begins. Where they fit
-/// between two others, or are few, that costs a move of those behind; else a sort of all. Once there are more than two
-/// pages for each row, the next scan makes the list anew by a walk over all rows.
+/// between two others, or are few, that costs a move of those behind; else a sort of all. Once more than two pages for
+/// each row want more room, the next scan makes the list anew by a walk over all rows.
 #[derive(Drop)]
 pub struct Restless {
     alloc: Global,
@@ -143,13 +143,17 @@ fn put_each(listed: &mut Vec<Listed>, guess: &mut usize, added: &[Listed]) -> Re
     Ok(())
 }
 
-/// Puts a page behind others. Where there is room for it, that is no call.
+/// Puts a page behind others, where there are so many rows. Where there is room for it, that is no call; more room is
+/// refused to more than two pages for each row.
 #[inline(always)]
-fn push_to(listed: &mut Vec<Listed>, one: Listed) -> Result<(), AllocError>
+fn push_to(listed: &mut Vec<Listed>, one: Listed, rows: usize) -> Result<(), AllocError>
     ensures added { OnOk result (listed.new.items ≡ listed.old.items ++ one ∷ []) }
     ensures kept { OnErr result (listed.new.items ≡ listed.old.items) }
 {
     if listed.len() == listed.capacity() {
+        if listed.len() / 2 > rows {
+            return Err(AllocError);
+        }
         listed.reserve(1)?;
     }
     listed.push_reserved(one);
@@ -288,8 +292,7 @@ impl Restless {
         if !self.known {
             return;
         }
-        let listed = self.listed.len().saturating_add(self.added.len());
-        if listed / 2 > rows || self.push(spot).is_err() {
+        if self.push(spot, rows).is_err() {
             self.known = false;
             self.ready = false;
         }
@@ -297,7 +300,7 @@ impl Restless {
 
     // The same where all is known. Pages mostly come in order.
     #[inline(always)]
-    fn push(&mut self, spot: Spot) -> Result<(), AllocError>
+    fn push(&mut self, spot: Spot, rows: usize) -> Result<(), AllocError>
         ensures known { self.new.known ≡ self.old.known }
         ensures added { OnOk result ((page : GuestPage)
             → has_item page self.new.pages ≡ (same_page spot.page page || has_item page self.old.pages)) }
@@ -307,10 +310,10 @@ impl Restless {
             row: spot.key,
         };
         if self.ready && is_place(self.listed.as_slice(), self.listed.len(), listed.page + 1) {
-            push_to(&mut self.listed, listed)?;
+            push_to(&mut self.listed, listed, rows)?;
         } else {
             self.ready = false;
-            push_to(&mut self.added, listed)?;
+            push_to(&mut self.added, listed, rows)?;
         }
         Ok(())
     }

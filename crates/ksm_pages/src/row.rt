@@ -148,6 +148,17 @@ impl Entry {
         self.bytes = *bytes;
     }
 
+    /// The same by a call, which a closure can make that becomes part of its caller.
+    #[inline(never)]
+    pub fn take_bytes_apart(&mut self, bytes: &PageBytes)
+        ensures { self.new ≡ record self.old {
+          bytes = bytes.now;
+          unchanged = self.old.unchanged && bytes_eq self.old.bytes bytes.now;
+        } }
+    {
+        self.take_bytes(bytes);
+    }
+
     /// An entry with a frame of its own says no longer in which pass it came to wait.
     #[inline(always)]
     pub fn forget_pass(&mut self)

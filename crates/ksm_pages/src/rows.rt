@@ -11,10 +11,9 @@ ghost use Rattle.std.specs.Fn.{FnOnceReturnsAtMut};
 ghost use Rattle.ksm_pages.specs.Terms.{after_cursor, fresh_row, GuestPage, InPageOrder, Merged, MOST_FRAMES, settled, shared_state, stored, Waiting, Zero};
 ghost use Rattle.ksm_pages.specs.Ahead.{EndsAt, FindsNext, last_of, mergeable_pages, pages_behind, pages_between};
 ghost use Rattle.ksm_pages.specs.Filed.{AreFiled, AreListed, IsMade, IsTally, IsUnder, KeepsPage, WasKept, key_in};
-ghost use Rattle.ksm_pages.specs.Held.{AreInTree, AreWaitersLed, IsFree, altered, held_at, held_of, is_in, on_row, out_of_tree, in_tree_by, page_in_tree, laid_on, rows_of, shares};
+ghost use Rattle.ksm_pages.specs.Held.{AreInTree, AreWaitersLed, IsFree, altered, held_at, held_of, is_in, on_row, out_of_tree, in_tree_by, page_in_tree, rows_of, shares};
 ghost use Rattle.ksm_pages.specs.Held.{waiting_in, with_held, without_held, written};
 ghost use Rattle.ksm_pages.specs.Ordered.{AreAscending};
-ghost use Rattle.ksm_pages.specs.Paged.{at_home_on};
 ghost use Rattle.ksm_pages.specs.Unstable.{AreLed, IsFreeAt, LeadsAt};
 ghost use Rattle.slab.specs.Slab.{get};
 
@@ -437,34 +436,6 @@ impl Rows {
         });
     }
 
-    /// The row has a frame of its own in the stead of what it had, and these bytes. Where its bytes were others, it is
-    /// not unchanged. Its group is not known any more. Gives what was kept of it.
-    #[inline(always)]
-    pub fn store_on(&mut self, spot: Spot, frame: u32, bytes: &PageBytes) -> Option<Entry>
-        ensures before { WasKept self.old spot.page result }
-        ensures stored { self.new ≡ altered spot.page (laid_on frame (stored bytes.now)) self.old }
-    {
-        self.change_out_of_tree(spot, move |entry| {
-            entry.in_tree = InTree::Not;
-            entry.take_frame(frame);
-            entry.take_bytes(bytes);
-            entry.group = NO_NUMBER;
-        })
-    }
-
-    /// The row has a frame of its own in the stead of what it had, and is at home on another node. Gives what was kept
-    /// of it.
-    pub fn move_on(&mut self, spot: Spot, frame: u32, home: u32) -> Option<Entry>
-        ensures before { WasKept self.old spot.page result }
-        ensures moved { self.new ≡ altered spot.page (laid_on frame (at_home_on home)) self.old }
-    {
-        self.change_out_of_tree(spot, |entry| {
-            entry.in_tree = InTree::Not;
-            entry.take_frame(frame);
-            entry.home = home;
-        })
-    }
-
     /// The unstable tree does not lead to the row, so that waits no more.
     pub fn leave_tree(&mut self, spot: Spot)
         ensures { self.new ≡ altered spot.page out_of_tree self.old }
@@ -472,9 +443,13 @@ impl Rows {
         let _ = self.change_out_of_tree(spot, |entry| entry.in_tree = InTree::Not);
     }
 
-    // The entry of a page becomes what is made of it, to which the unstable tree does not lead. Gives what it was before.
+    /// The same as `change`, where the unstable tree does not lead to what is made.
     #[inline(always)]
-    fn change_out_of_tree<F: FnOnce(&mut Entry)>(&mut self, spot: Spot, make: F) -> Option<Entry>
+    pub fn change_out_of_tree<F: FnOnce(&mut Entry)>(
+        &mut self,
+        spot: Spot,
+        make: F,
+    ) -> Option<Entry>
         requires callable { F.IsAlwaysCallable make }
         requires kept { KeepsPage self.old.pass (λ old new. FnOnceReturnsAtMut F.FnOnce make old tt new) }
         ensures made { IsMade (λ old new. FnOnceReturnsAtMut F.FnOnce make old tt new) spot.page self.old self.new }
@@ -489,9 +464,9 @@ impl Rows {
 
     // ------------------------------------------------------------ the unstable tree
 
-    // The unstable tree forgets the row of a page, if it was in it.
+    /// The unstable tree forgets the row of a page, if it was in it and is not any more.
     #[inline(never)]
-    fn forget_row(&mut self, spot: Spot, was: Entry)
+    pub fn forget_row(&mut self, spot: Spot, was: Entry)
         ensures { self.new ≡ self.old }
     {
         if let Some(key) = key_of(&self.entries, &self.order, spot) {
