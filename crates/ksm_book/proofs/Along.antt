@@ -2,7 +2,7 @@
 use Rattle.ksm_book.proofs.Names.{after_cursor, All, All-filter, All-head, any-filter_same, ap, AreAscending, arith, before_irrefl, Bool, cases_Bool, change_none, change_row, change_rows}
 use Rattle.ksm_book.proofs.Names.{comes_before, Contains-from_any, each_at_page, false, filter, filter_all, filter_mapped, filter_none, find, find_all, find_mapped, find_none, find_passes}
 use Rattle.ksm_book.proofs.Names.{found_first, get_or, get_or_from_slice_get, GuestPage, has_item, if◌then◌else◌, inl, InPageOrder, inr, is_before, is_next, List, map-id, map_alike, map_mapped}
-use Rattle.ksm_book.proofs.Names.{mapped_some, min, None, none_mapped, not, not_both, one_before, Option, option_map, pairs_head, pairs_tail, Row, row_at, same_page, same_page_eq, slice_get}
+use Rattle.ksm_book.proofs.Names.{mapped_some, min, None, none_mapped, not, not_both, one_before, Option, option_map, pairs_head, pairs_tail, Row, row_at, same_page, same_page_eq, same_page_refl, slice_get}
 use Rattle.ksm_book.proofs.Names.{slice_get-get_or, slice_get_within, Some, subst, suc, sym, take, true, zero, [], ℕ, ⊤, ◌&&◌, ◌*◌, ◌++◌, ◌+◌, ◌<◌, ◌∙◌, ◌∷◌, ◌≡◌, ◌≤◌}
 use Rattle.ksm_book.proofs.ByPage.{row_of_page}
 
@@ -43,6 +43,12 @@ pub place_of : (page : GuestPage) (pages : List GuestPage) → has_item page pag
 place_of page pages has =
     let there = Contains-from_any {eq = λ q p. same_page p q} (λ x y e. sym (same_page_eq y x e)) _ _ has in
     (there.0, slice_get-get_or _ _ _ there.1 ∙ ap Some there.2)
+
+-- a page that stands at an index of a list is in the list
+pub has_at : (pages : List GuestPage) (n : ℕ) (page : GuestPage) → slice_get pages n ≡ Some page → has_item page pages ≡ true
+has_at [] n page at = cc
+has_at (q ∷ pages) zero page at = grind (arith, same_page_refl)
+has_at (q ∷ pages) (suc n) page at = grind (arith, has_at pages n page)
 
 -- a filtered list has a page exactly where the list has it and the page passes the test
 pub has_filter : (t : GuestPage → Bool) (x : GuestPage) (pages : List GuestPage) → has_item x (filter t pages) ≡ (t x && has_item x pages)

@@ -19,7 +19,7 @@ pub at_own_page : (page : GuestPage) (rows : List Row) → InPageOrder rows
     → All (λ r. same_page page r.page ≡ true → row_at page rows ≡ Some r) rows
 at_own_page page rows rise k d lt same = grind (arith, same_page_eq, each_at_page rows rise k d lt)
 
-abbrev calmed : (Row → Bool) → Row → Row
+abbrev pub calmed : (Row → Bool) → Row → Row
 calmed test r = if test r then settled r else r
 
 -- the book as it is where only rows wait whose page passes a test
@@ -50,10 +50,10 @@ module _ (test : Row → Bool) (b : BookState) where
   abbrev calm_rows : List Row
   calm_rows = change_rows test settled b.rows
 
-  calmed_at : (page : GuestPage) → row_at page calm_rows ≡ option_map (calmed test) (row_at page b.rows)
+  pub calmed_at : (page : GuestPage) → row_at page calm_rows ≡ option_map (calmed test) (row_at page b.rows)
   calmed_at page = find_mapped (calmed test) (λ r. same_page r.page page) (λ r. same_page r.page page) b.rows (grind arith)
 
-  items_kept : (d : DupRow) → item_count calm_rows d ≡ item_count b.rows d
+  pub items_kept : (d : DupRow) → item_count calm_rows d ≡ item_count b.rows d
   items_kept d = grind (arith, count_mapped)
 
   best_kept : (r : Row) → best_dup b.knobs calm_rows b.dups r ≡ best_dup b.knobs b.rows b.dups r
@@ -161,7 +161,7 @@ module _ (b : BookState) (s : IsSound b) (r : Row) where
     pub freed_found : row_at r.page b.rows ≡ Some r → row_at r.page (freed b (Some w)).rows ≡ Some r
     freed_found at = grind (arith, calmed_at of_w b r.page, waits_tells b.knobs r w (find_passes waits b.rows w found), same_page_sym)
 
-    none_waits : partner b.knobs (freed b (Some w)).rows r ≡ None
+    pub none_waits : partner b.knobs (freed b (Some w)).rows r ≡ None
     none_waits = find_nothing waits _ (All-map (λ x. waits x ≡ false) (calmed of_w) b.rows (grind (arith, one_waits b r w s found, same_page_refl)))
 
 -- the visit of a page that is none that a visit may change changes nothing

@@ -7,6 +7,7 @@ pub mod Sharing
 pub mod Dues
 pub mod DueKept
 pub mod Singles
+pub mod SoFar
 pub mod DueBroken
 pub mod Along
 pub mod Promised

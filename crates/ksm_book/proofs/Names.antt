@@ -5,7 +5,7 @@ pub use Rattle.ksm_base.proofs.Edits.{count_more, count_none, counts_one, find_a
 pub use Rattle.ksm_base.proofs.Orders.{all_with_dup, all_with_row, each_has_number, filter_none, Lower, one_of_each_page, one_of_each_place, ordered_change, ordered_filter, pairs_append, pairs_head}
 pub use Rattle.ksm_base.proofs.Orders.{pairs_tail}
 pub use Rattle.ksm_base.proofs.Pages.{before_differs, before_irrefl, not_both, one_before, same_page_eq, same_page_refl, same_page_sym}
-pub use Rattle.ksm_base.proofs.RowCounts.{change_none, count_with_row, count_without_page, each_at_page, filter_all}
+pub use Rattle.ksm_base.proofs.RowCounts.{change_none, count_change_row, count_with_row, count_without_page, each_at_page, filter_all}
 pub use Rattle.ksm_base.proofs.SoundCounts.{joined_count, not_an_item}
 pub use Rattle.ksm_base.proofs.SoundEdits.{no_dup_lives, sound_changed, sound_settings}
 pub use Rattle.ksm_base.proofs.SoundItems.{dup_of_item, home_of_item}
@@ -22,8 +22,10 @@ pub use Rattle.ksm_book.specs.Steps.{Allocates, AllocatesOn, along, dying_from, 
 pub use Rattle.ksm_book.specs.Steps.{NoneOf, Provides, puts, replayed, stepped, steps_of}
 pub use Rattle.ksm_book.specs.Commands.{Deed, dup_frame, FindsHeld, frame_number, idle, instead, is_frame, IsIdle, leaving, Mapped, mounting, Moves, Performs, pruning, Resettles, ResettlesEach}
 pub use Rattle.ksm_book.specs.Commands.{rewriting, row_visiting, then_doing, withdrawing}
-pub use Rattle.ksm_book.specs.Due.{AreDue, comes_later, due_visited, DueView, FindsFirst, freed, hidden_from, names, pages_of, part_before, part_visited, StaysBefore, takes_over, TakesOver, TellsDue}
-pub use Rattle.ksm_book.specs.Due.{waits_on, with_rows}
+pub use Rattle.ksm_book.specs.Due.{AreDue, comes_later, CountsLater, due_visited, DueView, FindsFirst, FindsFirstUpTo, freed, goes_on_beside, has_gone_by, hidden_from, MayGoOn, names, pages_of, part_before}
+pub use Rattle.ksm_book.specs.Due.{part_visited, reach_at, reach_to, shown as shown_so_far, so_far, StaysBefore, takes_over, TakesOver, TellsDue, waits_later, waits_on, with_rows}
+pub use Rattle.ksm_book.specs.declared.due.Reach.{Reach}
+pub use Rattle.ksm_book.specs.declared.due.Reach.TheVariants.{Before, Everywhere, Nowhere, UpTo}
 pub use Rattle.ksm_book.specs.Folded.{begun, IsStill, next_visited, page_visited, pages_ahead, pages_visited, restless_at, Stage, visited, visits_beside}
 pub use Rattle.ksm_book.specs.Keeping.{AreSets, HasLost, HasMoved, HasNewFrame, holding, IsSetOf, Keeps, MayLeave, MayMount, NoneLeft, once_mounted, spent, spent_on, with_more}
 pub use Rattle.ksm_book.specs.Laid.{HasLeft, HasRemounted, is_shared_of, IsLaid, left_by, LiesWith, lying, MayMove, MayNotLeave, state_of, TurnedAway, Unshares}
@@ -42,7 +44,7 @@ pub use Rattle.ksm_book.specs.Terms.{of_guest, on_its_own, Open, opened, OwnPage
 pub use Rattle.ksm_book.specs.Terms.{place_count, Private, Prune, Pruned, Publish, Raise, raised, Reap, reaped, Register, relaid, Row, row_at, row_changed, row_visited, same_page, Scan, scan_stopped}
 pub use Rattle.ksm_book.specs.Terms.{Scanned, seen, SetAcross, SetLimit, SetPagesToScan, SetRun, settled, Shape, shared_state, shown, Stable, Store, stored, Sub, tree_of, UnknownPage, Unmerge}
 pub use Rattle.ksm_book.specs.Terms.{Unmerged, unshare_stopped, unshared, visit, visit_begun, visit_of, visits, Waiting, waiting_state, waits_for, with_dup, with_frame, with_row, Withdraw}
-pub use Rattle.ksm_book.specs.Terms.{Filling, is_in_range, Knob, traits, with_value, without_page, Zero}
+pub use Rattle.ksm_book.specs.Terms.{bytes_of, counters_of, Filling, is_in_range, is_known, Knob, mappers_of, private_state, ticket_of, traits, with_value, without_page, Zero, zero_state}
 pub use Rattle.ksm_book.specs.Whole.{BookValue, BookView, HasShown, mapped, nodes_got, view_of}
 pub use Rattle.ksm_order.proofs.Ordered.{absent_parts, any_found, none_found, with_rises, without_between, without_rises}
 pub use Rattle.ksm_pages.proofs.Found.{find_changed, find_changed_other, find_put, first_found as found_first}

@@ -1,17 +1,65 @@
 -- Passes that visit only the pages that are due: what waits, and would wait again, is left as it is (own).
-use Rattle.std.specs.Prelude.{◌≡◌, Bool, true, false, not, ◌&&◌, All, List, map, Option, Some, None, is_none, if◌then◌else◌}
-use Rattle.ksm_book.specs.Terms.{after_cursor, best_dup, BookState, change_row, change_rows, comes_before, GuestPage, has_item, is_for_zero, is_restless, partner, pass_begun, Row, row_at, same_page}
-use Rattle.ksm_book.specs.Terms.{settled, Spot, waiting_state}
+use Rattle.std.specs.Prelude.{◌≡◌, ◌⊎◌, ℕ, Bool, true, false, not, ◌&&◌, All, List, count_by, map, Option, Some, None, is_none, if◌then◌else◌}
+use Rattle.ksm_book.specs.Terms.{after_cursor, best_dup, BookState, change_row, change_rows, Command, comes_before, GuestPage, has_item, is_for_zero, is_restless, partner, pass_begun, Row, row_at, same_page, Scan}
+use Rattle.ksm_book.specs.Terms.{settled, Spot, Store, waiting_state}
 use Rattle.ksm_book.specs.Commands.{Performs}
 use Rattle.ksm_book.specs.Folded.{Stage, pages_visited, visited}
-use Rattle.ksm_book.specs.Scanned.{Reached, ahead_before, ahead_up_to}
+use Rattle.ksm_book.specs.Scanned.{Reached, ahead_before, ahead_up_to, up_to}
 use Rattle.ksm_book.specs.Whole.{BookValue, BookView, mapped, view_of}
+use Rattle.ksm_book.specs.declared.due.Reach.{Reach}
+use Rattle.ksm_book.specs.declared.due.Reach.TheVariants.{Before, Everywhere, Nowhere, UpTo}
 
--- the pages that are due; whether all of them are known; and whether they are, and stand in order
+-- the pages that are due; whether all of them are known; and whether they are, and stand in order; how far the pass has
+-- gone; and how many rows that say that they wait it has not gone by
 pub record DueView : Type 0 where
   pub pages : List GuestPage
   pub known : Bool
   pub ready : Bool
+  pub reach : Reach
+  pub later : ℕ
+
+-- whether the pass has gone by a page
+abbrev pub has_gone_by : Reach → GuestPage → Bool
+has_gone_by Nowhere page = false
+has_gone_by (UpTo last) page = not (comes_before last page)
+has_gone_by (Before next) page = comes_before page next
+has_gone_by Everywhere page = true
+
+-- a pass has gone by the pages up to its cursor, or by none
+abbrev pub reach_at : Option GuestPage → Reach
+reach_at None = Nowhere
+reach_at (Some page) = UpTo page
+
+-- it goes on to the last one, or to the end
+abbrev pub reach_to : Option GuestPage → Reach
+reach_to None = Everywhere
+reach_to (Some page) = UpTo page
+
+-- the book as it is: of the rows that say that they wait those do that the pass has gone by
+abbrev pub so_far : Reach → BookState → BookState
+so_far reach b = record b { rows = change_rows (λ r. not (has_gone_by reach r.page)) settled b.rows }
+
+-- the same of a book with its frames
+abbrev pub shown : DueView → BookValue → BookValue
+shown due v = record v { state = so_far due.reach v.state }
+
+-- a row says that it waits, and the pass has not gone by it
+abbrev pub waits_later : Reach → Row → Bool
+waits_later reach r = waiting_state r.state && not (has_gone_by reach r.page)
+
+-- of such rows there are so many
+abbrev pub CountsLater : DueView → BookState → Type 0
+CountsLater due b = due.later ≡ count_by (waits_later due.reach) b.rows
+
+-- a pass over what is due may go on beside the command
+abbrev pub goes_on_beside : Command → Bool
+goes_on_beside (Store page bytes) = true
+goes_on_beside (Scan visits) = true
+goes_on_beside command = false
+
+-- from here on a pass may go on over what is due alone: it begins, or has gone by the pages up to the cursor
+abbrev pub MayGoOn : DueView → BookState → Type 0
+MayGoOn due b = (b.cursor ≡ None) ⊎ (due.reach ≡ reach_at b.cursor)
 
 -- the pages of spots
 abbrev pub pages_of : List Spot → List GuestPage
@@ -23,6 +71,11 @@ FindsFirst cursor pages None = All (λ p. after_cursor cursor p ≡ false) pages
 FindsFirst cursor pages (Some page) =
     (has_item page pages ≡ true) × (after_cursor cursor page ≡ true)
     × All (λ p. after_cursor cursor p ≡ true → comes_before p page ≡ false) pages
+
+-- the same up to the last one
+abbrev pub FindsFirstUpTo : Option GuestPage → Option GuestPage → List GuestPage → Option GuestPage → Type 0
+FindsFirstUpTo last cursor pages None = All (λ p. after_cursor cursor p ≡ true → up_to last p ≡ false) pages
+FindsFirstUpTo last cursor pages (Some page) = (up_to last page ≡ true) × FindsFirst cursor pages (Some page)
 
 -- a row that waits would wait again: its bytes have stayed, they do not merge with the zero page, and no dup is there that
 -- it may join

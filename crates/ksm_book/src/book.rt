@@ -5,12 +5,12 @@ ghost use Rattle.std.specs.Prelude.{false, ◌≡◌, ◌≤◌, [], Some, IfOk,
 ghost use Rattle.ksm_book.specs.Terms.{after, bytes_of, counters_of, first_ledger, is_known, IsAnswerOrMemory, IsLegal, IsShape, IsSound, journal_after, last_stored, mappers_of, nowhere, opening};
 ghost use Rattle.ksm_book.specs.Terms.{ReadsLastStored, ticket_of};
 ghost use Rattle.ksm_book.specs.Carried.{CarriedOut, CarriesOut, unjournaled};
-ghost use Rattle.ksm_book.specs.Due.{TellsDue};
+ghost use Rattle.ksm_book.specs.Due.{CountsLater, goes_on_beside, shown, TellsDue};
 ghost use Rattle.ksm_book.specs.Laid.{LoadsIf};
 ghost use Rattle.ksm_book.specs.Keeping.{spent};
 ghost use Rattle.ksm_book.specs.Promised.{FindsPlace, LieOn, NumbersAreSmall};
 
-use crate::due::Due;
+use crate::due::{Due, Reach};
 use crate::state::State;
 use frame_table::{FrameTable, Keeper};
 use ksm_base::laws::a_journal_goes_on;
@@ -38,20 +38,20 @@ impl Model for Book {
     ghost use Rattle.std.specs.Prelude.{◌≡◌};
     ghost use Rattle.ksm_book.specs.Terms.{IsLegal};
     ghost use Rattle.ksm_book.specs.Carried.{JournaledBook};
-    ghost use Rattle.ksm_book.specs.Due.{TellsDue};
+    ghost use Rattle.ksm_book.specs.Due.{CountsLater, so_far, TellsDue};
 
     ghost Value = { JournaledBook };
 
     ghost view = { λ b. record {
-      state = b.state.state;
+      state = so_far b.due.reach b.state.state;
       lodgings = b.state.lodgings;
       keeper = b.state.keeper;
       journal = b.journal.entries;
       is_kept = b.journal.is_kept;
     } };
 
-    ghost invariant = { λ b. IsLegal b.state.keeper.table.shape b.journal.entries b.state.state
-        × TellsDue b.due b.state.state };
+    ghost invariant = { λ b. IsLegal b.state.keeper.table.shape b.journal.entries (so_far b.due.reach b.state.state)
+        × TellsDue b.due b.state.state × CountsLater b.due b.state.state };
 }
 
 impl Book {
@@ -126,6 +126,7 @@ impl Book {
     {
         each_page_has_what_was_stored_last();
         self.state.lies_lawfully();
+        self.state.lies_so_far(self.due.reach());
     }
 
     /// The bytes of a page, loaded from the words of its frame, or zeroes where it is mapped from the zero page; none
@@ -172,7 +173,7 @@ impl Book {
     pub fn counters(&self) -> Counters
         ensures { result ≡ counters_of self.now.state }
     {
-        self.state.counters()
+        self.state.counters_so_far(&self.due)
     }
 
     /// The knobs.
@@ -195,15 +196,6 @@ impl Book {
     }
 }
 
-/// The answer to a command behind which it is not known which pages are due.
-#[inline(always)]
-fn forgets(due: &mut Due, answer: Result<Reply, Fault>) -> Result<Reply, Fault>
-    ensures { (result ≡ answer) × (due.new.known ≡ false) }
-{
-    due.forget();
-    answer
-}
-
 /// Carries a command out on the state. Of most it is not known then which pages are due.
 #[inline(always)]
 fn carry_out(
@@ -214,8 +206,45 @@ fn carry_out(
 ) -> Result<Reply, Fault>
     requires own { state.old.keeper.table ≡ table.now }
     requires due { TellsDue due.old state.old.state }
+    requires later { CountsLater due.old state.old.state }
+    ensures carried { CarriesOut (shown due.old state.old) (shown due.new state.new) command.now result }
+    ensures due { TellsDue due.new state.new.state }
+    ensures later { CountsLater due.new state.new.state }
+{
+    match command {
+        Command::Store { page, bytes } => state.store(table, due, *page, bytes),
+        Command::Scan { visits } => state.scan(table, due, *visits),
+        _ => {
+            state.end_pass_over_due(due);
+            carry_out_whole(state, due, table, command)
+        }
+    }
+}
+
+/// The answer to a command behind which it is not known which pages are due.
+#[inline(always)]
+fn forgets(due: &mut Due, answer: Result<Reply, Fault>) -> Result<Reply, Fault>
+    ensures { (result ≡ answer) × (due.new ≡ record due.old { known = false; ready = false }) }
+{
+    due.forget();
+    answer
+}
+
+/// Carries out any other command, where no pass over what is due goes on.
+#[inline(always)]
+fn carry_out_whole(
+    state: &mut State,
+    due: &mut Due,
+    table: &FrameTable,
+    command: &Command,
+) -> Result<Reply, Fault>
+    requires own { state.old.keeper.table ≡ table.now }
+    requires due { TellsDue due.old state.old.state }
+    requires reach { (due.old.reach ≡ Reach.Everywhere) × (due.old.later ≡ 0) }
+    requires other { goes_on_beside command.now ≡ false }
     ensures carried { CarriesOut state.old state.new command.now result }
     ensures due { TellsDue due.new state.new.state }
+    ensures reach { (due.new.reach ≡ Reach.Everywhere) × (due.new.later ≡ 0) }
 {
     match command {
         Command::Register { page, node, bytes } => {
@@ -229,8 +258,6 @@ fn carry_out(
             state.note_leaving(due, Spot { page, key: 0 });
             state.drop_page(table, page)
         }
-        Command::Store { page, bytes } => state.store(table, due, *page, bytes),
-        Command::Scan { visits } => state.scan(table, due, *visits),
         Command::Prune => state.prune(table),
         Command::Unmerge { guest } => forgets(due, state.unmerge(table, *guest)),
         Command::Mergeable { guest } => forgets(due, state.mergeable(*guest)),
@@ -241,5 +268,6 @@ fn carry_out(
         Command::SetAcross(across) => forgets(due, state.set_across(table, *across)),
         Command::SetLimit(limit) => forgets(due, state.set_limit(table, *limit)),
         Command::SetZeroPages(value) => forgets(due, state.set(Knob::UseZeroPages, *value)),
+        Command::Store { .. } | Command::Scan { .. } => unreachable!(),
     }
 }

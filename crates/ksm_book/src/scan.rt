@@ -2,13 +2,14 @@
 //!
 //! Only restless pages are visited: those that a visit may change. Where the visits end is asked first (`ahead`), so
 //! those in between need no look. And where a whole pass changed nothing but which rows wait, the passes that would
-//! repeat it are counted and not made; from then on a whole pass visits only what is due (`due_pass.rt`).
+//! repeat it are counted and not made; from then on only what is due is visited (`due_pass.rt`).
 
-ghost use Rattle.std.specs.Prelude.{◌≡◌, ◌&&◌, ◌≤◌, [], true, None, Some, IfOk, IfErr, length, option_map};
-ghost use Rattle.ksm_book.specs.Terms.{EndsAt, mergeable_pages, pass_begun, pass_ended_at_last};
+ghost use Rattle.std.specs.Prelude.{◌≡◌, ◌&&◌, ◌≤◌, [], true, None, Some, IfOk, IfErr, IfSome, length, option_map};
+ghost use Rattle.ksm_book.specs.Terms.{EndsAt, has_item, mergeable_pages, pass_begun, pass_ended_at_last};
 ghost use Rattle.ksm_book.specs.Carried.{CarriesOut};
-ghost use Rattle.ksm_book.specs.Due.{AreDue, TellsDue, part_before, part_visited};
+ghost use Rattle.ksm_book.specs.Due.{AreDue, CountsLater, TellsDue, part_before, part_visited, shown};
 ghost use Rattle.ksm_book.specs.Folded.{pages_ahead, pages_visited};
+ghost use Rattle.ksm_book.specs.Whole.{view_of};
 ghost use Rattle.ksm_book.specs.Scanned.{Comes, FindsUpTo, GoesOn, HasVisited, Stops, StopsShort, ahead_before, ahead_up_to, is_nowhere, is_quiet, last_visited, passes_ended};
 
 use crate::due::Due;
@@ -68,7 +69,7 @@ impl Made {
 impl State {
     // So many visits lead on to a page.
     fn set_cursor(&mut self, cursor: Option<GuestPage>, visits: u64)
-        ensures { Comes self.old self.new (λ s. (record s.0 { cursor = cursor }, s.1)) }
+        ensures { view_of self.new ≡ record (view_of self.old) { state = record self.old.state { cursor = cursor } } }
     {
         self.cursor = cursor;
         self.visits = self.visits.wrapping_add(visits as usize);
@@ -76,7 +77,7 @@ impl State {
 
     // So many passes have ended.
     fn end_passes(&mut self, count: u64)
-        ensures { Comes self.old self.new (λ s. (passes_ended count s.0, s.1)) }
+        ensures { view_of self.new ≡ record (view_of self.old) { state = passes_ended count self.old.state } }
     {
         self.passes = self.passes.saturating_add(count);
         self.cursor = None;
@@ -85,7 +86,11 @@ impl State {
 
     // The first page behind one, up to the last one, that a visit may change, or a page before it.
     #[inline(always)]
-    fn next_up_to(&mut self, last: Option<GuestPage>, cursor: Option<GuestPage>) -> Option<Spot>
+    pub(crate) fn next_up_to(
+        &mut self,
+        last: Option<GuestPage>,
+        cursor: Option<GuestPage>,
+    ) -> Option<Spot>
         ensures kept { self.new ≡ self.old }
         ensures next { FindsUpTo last cursor self.old.state.rows (option_map (λ s. s.page) result) }
     {
@@ -147,7 +152,7 @@ impl State {
     // Ends the pass if it has gone through all pages. Says where so many visits end.
     fn close_pass(&mut self, most: u64) -> Ahead
         requires { 1 ≤ most }
-        ensures comes { Comes self.old self.new (λ s. (pass_ended_at_last s.0, s.1)) }
+        ensures closed { view_of self.new ≡ record (view_of self.old) { state = pass_ended_at_last self.old.state } }
         ensures ahead { EndsAt (pages_ahead self.new.state) most result }
     {
         let ahead = self.pages.ahead(self.cursor, self.visits, most);
@@ -170,15 +175,15 @@ impl State {
     }
 
     // Whether the pages ahead up to the last one, or all of them, are those of a whole pass.
-    fn is_whole(&self, last: Option<GuestPage>) -> bool
+    pub(crate) fn is_whole(&self, last: Option<GuestPage>) -> bool
         ensures { result ≡ true → (self.now.state.cursor ≡ None) × (last ≡ None) }
     {
         self.cursor().is_none() && last.is_none()
     }
 
-    // Visits the pages ahead up to the last one, or all of them, where a pass begins or goes on. A whole pass visits
-    // only what is due, where that is known; and where one changed nothing but which rows wait, nothing is due. Says
-    // whether that was so. Where memory is refused, tells the page that was not visited.
+    // Visits the pages ahead up to the last one, or all of them, where a pass begins or goes on: only what is due, where
+    // that is known. Where a whole pass changed nothing but which rows wait, nothing is due. Says whether that was so.
+    // Where memory is refused, tells the page that was not visited.
     #[tactic(auto, using(crate::proofs::Folded::comes_own))]
     fn visit_part(
         &mut self,
@@ -188,15 +193,20 @@ impl State {
     ) -> Result<bool, GuestPage>
         requires own { self.old.keeper.table ≡ table.now }
         requires due { TellsDue due.old self.old.state }
-        ensures visited { IfOk result (λ quiet. HasVisited self.old self.new (part_visited last) quiet) }
+        requires later { CountsLater due.old self.old.state }
+        requires ahead { IfSome last (λ page. has_item page (pages_ahead self.old.state) ≡ true) }
+        ensures visited { IfOk result (λ quiet. HasVisited (shown due.old self.old) (shown due.new self.new) (part_visited last) quiet) }
         ensures due { TellsDue due.new self.new.state }
-        ensures stopped { IfErr result (λ page. Stops self.old self.new last page (part_before page)) }
+        ensures later { CountsLater due.new self.new.state }
+        ensures stopped { IfErr result (λ page.
+            Stops (shown due.old self.old) (shown due.new self.new) last page (part_before page)) }
     {
-        let whole = self.is_whole(last);
-        if whole && due.is_known() && due.put_in_order() {
-            return self.pass_over_due(table, due);
+        if due.is_known() && due.goes_on_from(self.cursor) && due.put_in_order() {
+            return self.part_over_due(table, due, last);
         }
+        self.end_pass_over_due(due);
         due.forget();
+        let whole = self.is_whole(last);
         self.begin_pass();
         let quiet = self.visit_up_to(table, last)?;
         if whole && quiet {
@@ -214,9 +224,11 @@ impl State {
         requires most { 1 ≤ most }
         requires some { 1 ≤ length (mergeable_pages self.old.state.rows) }
         requires due { TellsDue due.old self.old.state }
+        requires later { CountsLater due.old self.old.state }
         ensures due { TellsDue due.new self.new.state }
-        ensures made { IfOk result (λ made. GoesOn self.old self.new most made) }
-        ensures stopped { IfErr result (λ made. StopsShort self.old self.new most made) }
+        ensures later { CountsLater due.new self.new.state }
+        ensures made { IfOk result (λ made. GoesOn (shown due.old self.old) (shown due.new self.new) most made) }
+        ensures stopped { IfErr result (λ made. StopsShort (shown due.old self.old) (shown due.new self.new) most made) }
     {
         self.lies_lawfully();
         let ahead = self.close_pass(most);
@@ -247,8 +259,10 @@ impl State {
     pub fn scan(&mut self, table: &FrameTable, due: &mut Due, count: u64) -> Result<Reply, Fault>
         requires own { self.old.keeper.table ≡ table.now }
         requires due { TellsDue due.old self.old.state }
-        ensures carried { CarriesOut self.old self.new (Command.Scan count) result }
+        requires later { CountsLater due.old self.old.state }
+        ensures carried { CarriesOut (shown due.old self.old) (shown due.new self.new) (Command.Scan count) result }
         ensures due { TellsDue due.new self.new.state }
+        ensures later { CountsLater due.new self.new.state }
     {
         if self.pages.knobs().run != 1 {
             return Err(Fault::NotRunning);

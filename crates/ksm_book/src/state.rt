@@ -7,10 +7,10 @@ ghost use Rattle.ksm_book.specs.Carried.{CarriesOut};
 ghost use Rattle.ksm_book.specs.Whole.{view_of};
 ghost use Rattle.ksm_book.specs.Keeping.{spent};
 ghost use Rattle.ksm_book.specs.Laid.{LoadsIf};
-ghost use Rattle.ksm_book.specs.Due.{names, TellsDue};
+ghost use Rattle.ksm_book.specs.Due.{CountsLater, names, so_far, TellsDue};
 ghost use Rattle.ksm_book.specs.Promised.{FindsPlace, LieOn, NumbersAreSmall};
 
-use crate::due::Due;
+use crate::due::{Due, Reach};
 use crate::frame_keeper::FrameKeeper;
 use crate::frames::{is_used_up, load, release_if, take_frame, write};
 use crate::stale::drop_stale;
@@ -90,11 +90,19 @@ impl State {
     /// A law: the facts of the book state, and how its rows and dups lie in the frames.
     pub fn lies_lawfully(&self)
         ensures sound { IsSound self.now.state }
-        ensures placed { LieOn self.now.state (view_of self.now).frame self.now.keeper.ledger }
-        ensures place { FindsPlace self.now.state }
         ensures lives { self.now.state.next ≤ spent self.now.keeper.ledger }
+    {
+        self.pages.lie_in_order();
+    }
+
+    /// A law: the same of the state as it is where a pass over what is due has gone so far.
+    pub fn lies_so_far(&self, reach: Reach)
+        ensures sound { IsSound (so_far reach self.now.state) }
+        ensures placed { LieOn (so_far reach self.now.state) (view_of self.now).frame self.now.keeper.ledger }
+        ensures place { FindsPlace (so_far reach self.now.state) }
         ensures numbers { NumbersAreSmall self.now.state }
     {
+        let _ = reach;
         self.pages.lie_in_order();
     }
 
@@ -156,8 +164,11 @@ impl State {
     ) -> Result<Reply, Fault>
         requires own { self.old.keeper.table ≡ table.now }
         requires due { TellsDue due.old self.old.state }
+        requires later { CountsLater due.old self.old.state }
         ensures carried { CarriesOut self.old self.new (Command.Store page bytes.now) result }
         ensures due { TellsDue due.new self.new.state }
+        ensures later { CountsLater due.new self.new.state }
+        ensures reach { due.new.reach ≡ due.old.reach }
     {
         let held = match self.pages.look(page) {
             Some(Look::Private(spot, frame)) => {
@@ -192,15 +203,18 @@ impl State {
     fn note_store(&self, due: &mut Due, spot: Spot)
         requires own { IsAlone spot.page self.now.state.rows }
         requires due { TellsDue due.old self.now.state }
-        ensures { (bytes : List ℕ) → TellsDue due.new (record self.now.state {
+        requires later { CountsLater due.old self.now.state }
+        ensures reach { due.new.reach ≡ due.old.reach }
+        ensures due { (bytes : List ℕ) → TellsDue due.new (record self.now.state {
+          rows = change_row spot.page (stored bytes) self.now.state.rows;
+        }) }
+        ensures later { (bytes : List ℕ) → CountsLater due.new (record self.now.state {
           rows = change_row spot.page (stored bytes) self.now.state.rows;
         }) }
     {
-        if !due.is_known() {
-            return;
-        }
         if self.pages.waits(spot) {
             due.add(spot);
+            due.lose_waiting(spot.page);
         }
     }
 
@@ -209,6 +223,7 @@ impl State {
     fn note_break(&self, due: &mut Due, spot: Spot)
         requires known { IsKnown spot.page self.now.state.rows }
         requires due { TellsDue due.old self.now.state }
+        ensures rest { (due.new.reach ≡ due.old.reach) × (due.new.later ≡ due.old.later) }
         ensures kept { TellsDue due.new self.now.state }
         ensures broken { (bytes : List ℕ) → TellsDue due.new (record self.now.state {
           rows = change_row spot.page (stored bytes) self.now.state.rows;
@@ -225,7 +240,8 @@ impl State {
     // A page is about to leave its dup, if it is merged. What waits with its bytes, one page at most, may join that dup
     // then, where it was full, and is due from now on.
     pub(crate) fn note_leaving(&self, due: &mut Due, spot: Spot)
-        ensures { due.new.known ≡ true → (due.old.known ≡ true) × ((page : GuestPage)
+        ensures rest { (due.new.reach ≡ due.old.reach) × (due.new.later ≡ due.old.later) }
+        ensures left { due.new.known ≡ true → (due.old.known ≡ true) × ((page : GuestPage)
             → let state = self.now.state in has_item page due.new.pages
             ≡ (names page (page_beside state.knobs state.rows (row_at spot.page state.rows))
             || has_item page due.old.pages)) }
@@ -257,6 +273,23 @@ impl State {
         ensures { result ≡ counters_of self.now.state }
     {
         self.pages.counters(self.passes)
+    }
+
+    /// The counters as they are where a pass over what is due has gone so far.
+    pub fn counters_so_far(&self, due: &Due) -> Counters
+        requires { CountsLater due.now self.now.state }
+        ensures { result ≡ counters_of (so_far due.now.reach self.now.state) }
+    {
+        self.lies_lawfully();
+        // Called for its contract alone: the number of mergeable pages fits 64 bits.
+        let _ = self.pages.mergeable();
+        let later = due.later() as u64;
+        let counters = self.counters();
+        Counters {
+            unshared: counters.unshared.saturating_sub(later),
+            volatile: counters.volatile.saturating_add(later),
+            ..counters
+        }
     }
 
     /// All stale dups go.

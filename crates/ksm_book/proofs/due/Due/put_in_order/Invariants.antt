@@ -3,7 +3,7 @@ use Rattle.ksm_book.proofs.due.Due.put_in_order.Given as goal
 
 abbrev pub invariant-added : goal.invariant-added
 invariant-added l =
-    (l.self.ready ≡ l.self.known)
+    (l.self.ready ≡ l.self.known) × (l.self.reach ≡ l.fn.self.reach) × (l.self.later ≡ l.fn.self.later)
     × (l.self.known ≡ true → (l.fn.self.known ≡ true) × ((page : GuestPage)
     → (has_item page l.self.pages || has_item page (pages_of l.added.items)) ≡ has_item page l.fn.self.pages))
 

@@ -1,7 +1,8 @@
-use Rattle.ksm_book.proofs.Names.{any_found, ap, arith, BookValue, Comes, false, Fault, filter, is_some, IsCarried, IsScanned, length, length-filter, length-map, List, list_any, list_any_none, Memory}
-use Rattle.ksm_book.proofs.Names.{mergeable_count, mergeable_pages, None, none_counted, Ok, Option, refl, Row, Scan, scan_stopped, Scanned, Some, subst, sym, TellsDue, true, view_of, visits_beside, ℕ}
+use Rattle.ksm_book.proofs.Names.{any_found, ap, arith, BookState, BookValue, Comes, CountsLater, false, Fault, filter, is_some, IsCarried, IsScanned, length, length-filter, length-map, List, list_any, list_any_none, Memory}
+use Rattle.ksm_book.proofs.Names.{mergeable_count, mergeable_pages, None, none_counted, Ok, Option, refl, Row, Scan, scan_stopped, Scanned, shown_so_far, Some, subst, sym, TellsDue, true, view_of, visits_beside, ℕ}
 use Rattle.ksm_book.proofs.Names.{◌+◌, ◌∙◌, ◌≡◌, ◌≤◌}
 use Rattle.ksm_book.specs.contracts.state.State.{the_view}
+use Rattle.ksm_book.proofs.SoFar.{any_mergeable, mergeable_so_far}
 use Rattle.ksm_book.proofs.Folded.{begins, beside_on, beside_state, comes_to, first, visits_mergeable}
 use Rattle.ksm_book.proofs.Sharing.{first_found}
 use Rattle.ksm_book.proofs.state.State.scan.Goals as goal
@@ -23,25 +24,30 @@ running c = rw (← c.self.view_is, ← c.knobs.ensures) c.if-knobs-ne1.false
 
 pub returns-then-mergeable-eq0-clause-carried : goal.returns-then-mergeable-eq0-clause-carried
 returns-then-mergeable-eq0-clause-carried c =
-    let v = c.args.self.now in
-    let none : list_any (λ r. r.mergeable) v.state.rows ≡ false = grind (arith, c.self.view_is, list_any_none, none_counted) in
+    let v = shown_so_far c.args.due.now c.args.self.now in
+    let none : list_any (λ r. r.mergeable) v.state.rows ≡ false =
+    any_mergeable c.args.due.now.reach c.args.self.now.state ∙ (grind (arith, c.self.view_is, list_any_none, none_counted)) in
     scanned v v _ 0 None (running ((goal.at.returns-then-mergeable-eq0-clause-carried c).After-mergeable))
     (grind arith) (λ from s before. before)
 
-some : (c : After-list_restless) → list_any (λ r. r.mergeable) c.args.self.now.state.rows ≡ true
+some : (c : After-list_restless) → list_any (λ r. r.mergeable) (shown_so_far c.args.due.now c.args.self.now).state.rows ≡ true
 some c =
     let rows = c.args.self.now.state.rows in
     let found = first_found (λ (r : Row). r.mergeable) rows (grind (arith, c.self.view_is)) in
-    any_found (λ (r : Row). r.mergeable) rows ∙ ap is_some found.1
+    any_mergeable c.args.due.now.reach c.args.self.now.state ∙ any_found (λ (r : Row). r.mergeable) rows ∙ ap is_some found.1
 
 pub loop-done-init : goal.loop-done-init
 loop-done-init c =
     let same : the_view (record c.self.inside { pages = c.list_restless.new.self }) ≡ c.args.self.now = rw c.list_restless.ensures c.self.view_is in
-    subst (λ (v : BookValue). (0 ≤ c.args.count) × Comes c.args.self.now v (λ s. s)
-    × TellsDue c.args.due.now v.state) (sym same) (omega arith, λ from s before. before, c.requires.due)
+    subst (λ (v : BookValue). (0 ≤ c.args.count) × Comes (shown_so_far c.args.due.now c.args.self.now) (shown_so_far c.args.due.now v) (λ s. s)
+    × TellsDue c.args.due.now v.state × CountsLater c.args.due.now v.state) (sym same)
+    (omega arith, λ from s before. before, c.requires.due, c.requires.later)
 
 pub go_on-requires-clause-some : goal.go_on-requires-clause-some
-go_on-requires-clause-some c = grind (arith, comes_to, visits_mergeable, c.self.view_is, some_pages)
+go_on-requires-clause-some c =
+    let came = comes_to (shown_so_far c.args.due.now c.args.self.now) (shown_so_far c.loop-done.due c.loop-done.self) _ c.loop-done.invariant.1 in
+    let same = ap (λ (b : BookState). mergeable_pages b.rows) came in
+    grind (arith, same, mergeable_so_far, visits_mergeable, c.self.view_is, some_pages)
 
 pub loop-done-preserved : goal.loop-done-preserved
 loop-done-preserved c = (
@@ -49,13 +55,14 @@ loop-done-preserved c = (
   λ from s before. rw (beside_on c.loop-done.done c.in-Ok.visits (c.loop-done.done + c.in-Ok.visits) s refl)
       (c.in-Ok.ensures.made.comes from _ (c.loop-done.invariant.1 from s before)),
   c.go_on.ensures.due,
+  c.go_on.ensures.later,
 )
 
 pub returns-in-Err-clause-carried : goal.returns-in-Err-clause-carried
 returns-in-Err-clause-carried c =
     let n = c.loop-done.done in
     let k = c.in-Err.made in
-    scanned c.args.self.now c.go_on.new.self _ (n + k) (Some Memory)
+    scanned (shown_so_far c.args.due.now c.args.self.now) (shown_so_far c.go_on.new.due c.go_on.new.self) _ (n + k) (Some Memory)
     (running ((goal.at.returns-in-Err-clause-carried c).After-mergeable))
     (some ((goal.at.returns-in-Err-clause-carried c).After-list_restless), omega (arith, c.in-Err.ensures.stopped.fewer))
     (λ from s before. rw (beside_on n k (n + k) s refl) (c.in-Err.ensures.stopped.comes from _ (c.loop-done.invariant.1 from s before)))
@@ -63,5 +70,5 @@ returns-in-Err-clause-carried c =
 pub returns-clause-carried : goal.returns-clause-carried
 returns-clause-carried c =
     let all : c.loop-done.done ≡ c.args.count = omega (arith, c.loop-done.invariant.0) in
-    scanned c.args.self.now c.loop-done.self _ _ None (running ((goal.at.returns-clause-carried c).After-mergeable))
+    scanned (shown_so_far c.args.due.now c.args.self.now) (shown_so_far c.loop-done.due c.loop-done.self) _ _ None (running ((goal.at.returns-clause-carried c).After-mergeable))
     (rw (some ((goal.at.returns-clause-carried c).After-list_restless)) refl) (rw (← all) c.loop-done.invariant.1)

@@ -1,7 +1,8 @@
-use Rattle.ksm_book.proofs.Names.{arith, Done, false, find_all, IsServed, length, Ok, PAGE_WORDS, refl, Row, rules, seen, shared_state, Store, stored, subst, sym, true, unmapped_state, ◌<◌, ◌∙◌, ◌≡◌}
+use Rattle.ksm_book.proofs.Names.{arith, Done, false, find_all, IsServed, length, Ok, PAGE_WORDS, refl, Row, rules, seen, shared_state, state_of, Store, stored, subst, sym, true, unmapped_state, waiting_state, ◌<◌, ◌∙◌, ◌≡◌}
 use Rattle.ksm_book.proofs.Laying.{served_at, may_left, resettled, turned}
 use Rattle.ksm_book.proofs.Singles.{carried_so, Does, own_lies, own_ready, private_told, row_held, lawful, store_copied, store_written}
 use Rattle.ksm_book.proofs.DueBroken.{stored_due}
+use Rattle.ksm_book.proofs.SoFar.{later_still}
 use Rattle.ksm_book.proofs.state.State.store.Goals as goal
 use Rattle.ksm_book.proofs.state.State.store.Goals.{After-write}
 
@@ -101,3 +102,24 @@ returns-in-Some-Private-clause-due c = λ known.
     (rw (← w.self.view_is) w.self.invariant.0.rows_rise) (rw (← w.self.view_is) (grind (arith, told))) (w.requires.due known)
     (rw (← w.self.view_is) (grind (arith, told))) in
     grind (arith, (kept w).0.state, w.self.view_is, due)
+
+shared_calm : (row : Row) → shared_state row.state ≡ true → waiting_state row.state ≡ false
+shared_calm row is = grind arith
+
+-- as many rows wait later then as did
+pub returns-in-Some-Private-clause-later : goal.returns-in-Some-Private-clause-later
+returns-in-Some-Private-clause-later c =
+    let w = (goal.at.returns-in-Some-Private-clause-later c).After-write in
+    let told = private_told (seen w.self.inside.pages) w.args.page w.in-Some-Private.spot w.in-Some-Private.frame (rw w.in-Some-Private.field-0-is at w.in-Some-Private.ensures) in
+    let calm : waiting_state told.1.0.state ≡ false = grind (arith, told) in
+    let same = later_still w.args.due.now.reach (state_of (seen w.self.inside.pages) w.self.inside.cursor w.self.inside.passes) w.in-Some-Private.spot.page (stored w.args.bytes.now)
+    told.1.0 w.self.invariant.0.rows_rise told.1.1 calm refl in
+    grind (arith, (kept w).0.state, w.self.view_is, w.requires.later, same)
+
+pub returns-then-held-clause-later : goal.returns-then-held-clause-later
+returns-then-held-clause-later c =
+    let h = rw c.in-Some-Other.field-0-is at c.in-Some-Other.ensures in
+    let calm = shared_calm h.row (sym h.shared ∙ c.if-held.true) in
+    let same = later_still c.args.due.now.reach (state_of (seen c.self.inside.pages) c.self.inside.cursor c.self.inside.passes) c.in-Some-Other.held.spot.page (stored c.args.bytes.now)
+    h.row c.self.invariant.0.rows_rise (row_held h) calm refl in
+    grind (arith, (copied c).0.state, c.self.view_is, c.requires.later, same, c.note_break.ensures.rest)

@@ -1,11 +1,12 @@
 use Rattle.ksm_book.proofs.Names.{ap, arith, BookValue, Comes, due_visited, Find, inl, inr, on_err, refl, seen, StaysBefore, sym, view_of, ◌∙◌, ◌∷◌, ◌≡◌}
 use Rattle.ksm_book.specs.contracts.state.State.{the_view}
-use Rattle.ksm_book.proofs.DueFound.{changed_keeps, left_due, partner_takes}
+use Rattle.ksm_book.proofs.DueFound.{changed_keeps, changed_later, left_due, partner_takes}
 use Rattle.ksm_book.proofs.RowVisits.{finds_it, found_lawful}
 use Rattle.ksm_book.proofs.state.State.visit_due.Goals as goal
 use Rattle.ksm_book.proofs.state.State.visit_due.Goals.{After-remove, in-Dup+in_ok-join-in-Dup, in-Gone, in-Partner+in_ok-pair-in-Partner, in-Zero, In_ok-found}
 use Rattle.ksm_book.proofs.DueKept.{IsDueNoMore, more_due}
 use Rattle.ksm_book.proofs.Folded.{changed_comes}
+use Rattle.ksm_book.proofs.SoFar.{KeepsLater}
 
 -- where the search changed nothing, what was reached with the book is reached still
 as_before : (c : In_ok-found) → seen c.visit.new.self ≡ seen c.self.inside.pages
@@ -41,6 +42,7 @@ returns-in-Changed-clause-due c =
 -- the page was visited as one that is due, which it is no longer
 left : (c : After-remove) → Comes c.args.self.now c.match-found.self (λ s. due_visited s c.args.spot.page)
     × IsDueNoMore c.args.spot.page c.args.self.now.state c.match-found.self.state
+    × KeepsLater c.args.spot.page c.args.self.now.state c.match-found.self.state
 left c =
     let was = (goal.at.returns-clause-comes c).In_ok-found in
     let by = λ (w : BookValue) (f : Find) (is : was.in_ok-found.found ≡ f).
@@ -56,6 +58,13 @@ left c =
 
 pub returns-clause-comes : goal.returns-clause-comes
 returns-clause-comes c = (left c).0
+
+pub returns-clause-later : goal.returns-clause-later
+returns-clause-later c = grind (arith, (left c).2 c.args.due.now.reach c.requires.gone, c.requires.later, c.remove.ensures.rest)
+
+pub returns-in-Changed-clause-later : goal.returns-in-Changed-clause-later
+returns-in-Changed-clause-later c =
+    grind (arith, changed_later (finds_it _ (λ e. cc) c.self.invariant (ap view_of c.self.view_is) _ c.in-Changed.is c.in_ok-found.ensures.found), c.requires.later, c.requires.gone)
 
 pub returns-clause-due : goal.returns-clause-due
 returns-clause-due c = (left c).1 c.remove.new.self.pages
