@@ -1,7 +1,7 @@
 -- A pass over what is due has gone so far: what the book is then, of whose rows those do not wait that it has not gone by.
-use Rattle.ksm_book.proofs.Names.{after_cursor, All, All-cons, All-filter, All-head, All-tail, Answer, any_found, ap, arith, Before, before_irrefl, best_dup, BookState, BookValue, Bool, bytes_of, cases_Bool, change_row, change_rows, comes_before, comes_later, count_alike, counters_of}
+use Rattle.ksm_book.proofs.Names.{after_cursor, All, All-cons, All-filter, All-head, All-tail, Answer, any_found, ap, AreDue, arith, Before, before_irrefl, best_dup, BookState, BookValue, Bool, bytes_of, cases_Bool, change_row, change_rows, comes_before, comes_later, count_alike, counters_of}
 use Rattle.ksm_book.proofs.Names.{count_by, count_change_row, count_mapped, count_more, count_none, count_without_page, CountsLater, Done, DueView, DupRow, each_at_page, Err, Everywhere, false, filter, filter_all, filter_mapped, find_mapped, find_none, filter_passes, find_passes, FindsNext, FindsUpTo, get_or}
-use Rattle.ksm_book.proofs.Names.{GuestPage, has_gone_by, has_items, if◌then◌else◌, inl, InPageOrder, inr, is_known, is_restless, IsCarried, IsSound, List, list_any, live_dup_at, map, map-id, map_alike, map_fixed, map_mapped, mappers_of, MatchOption, mergeable_pages, Merged, merged_into, merged_state, nat_lt, None}
+use Rattle.ksm_book.proofs.Names.{GuestPage, has_gone_by, has_items, if◌then◌else◌, inl, InPageOrder, inr, is_known, is_restless, IsCarried, IsDupOf, IsSound, Knobs, List, list_any, live_dup_at, map, map-id, map_alike, map_fixed, map_mapped, mappers_of, MatchOption, mergeable_pages, Merged, merged_into, merged_state, nat_lt, None}
 use Rattle.ksm_book.proofs.Names.{none_counted, not, Nowhere, Ok, one_before, Option, option_map, OwnPage, paired, pages_ahead, partner, pass_ended_at_last, private_state, Reach, reach_at, refl, Row, row_at, row_visited, shown_so_far}
 use Rattle.ksm_book.proofs.Names.{same_page, same_page_eq, settled, settled_calmer, so_far, Some, sound_changed, Store, stored, sym, takes_over, ticket_of, true, up_to, UpTo, view_of, Waiting, waiting_state, waits_for, waits_later}
 use Rattle.ksm_book.proofs.Names.{waits_tells, without_page, Zero, zero_state, [], ℕ, ◌&&◌, ◌+◌, ◌-◌, ◌||◌, ◌∙◌, ◌∷◌, ◌≡◌, ◌≤◌, ◌⊎◌}
@@ -391,3 +391,28 @@ gone_later reach page rows told out gone = by (row_at page rows) refl
     by : (o : Option Row) → row_at page rows ≡ o → MatchOption o (told ≡ false) (λ r. told ≡ waits_later reach r)
     by None none = out
     by (Some r) found = let at = found_page page rows r found in grind (arith, out, gone, at)
+
+-- where all rows settled are sound without dups and with other knobs, they are so as they are, if each that waits has no partner then
+pub regrouped_sound : (b : BookState) (knobs : Knobs) → IsSound b → IsSound (record b { rows = map settled b.rows; dups = []; knobs = knobs })
+    → All (λ r. waiting_state r.state ≡ true → partner knobs b.rows r ≡ None) b.rows → IsSound (record b { dups = []; knobs = knobs })
+regrouped_sound b knobs s t alone = record {
+  shape = s.shape;
+  knobs = t.knobs;
+  passes = s.passes;
+  rows_rise = s.rows_rise;
+  homes = s.homes;
+  mergeable = s.mergeable;
+  zero = s.zero;
+  waiting = alone;
+  items = uncalmed (λ r. true) (λ r. (number : ℕ) → r.state ≡ Merged number → (dup : DupRow) × IsDupOf knobs [] r number dup)
+      (λ r h number is. let of : (settled r).state ≡ Merged number = grind arith in grind (arith, h number of)) b.rows t.items;
+  dups_rise = t.dups_rise;
+  numbers = t.numbers;
+  trees = t.trees;
+  limit = λ k d lt. absurd (omega arith);
+}
+
+-- what is due stays so under such knobs, where no dup is there
+pub regrouped_due : (b : BookState) (knobs : Knobs) (pages : List GuestPage) → knobs.use_zero_pages ≡ b.knobs.use_zero_pages → AreDue b pages
+    → AreDue (record b { dups = []; knobs = knobs }) pages
+regrouped_due b knobs pages same due k d lt restless out = grind (arith, same, due k d lt restless out)

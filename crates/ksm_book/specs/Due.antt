@@ -1,6 +1,6 @@
 -- Passes that visit only the pages that are due: what waits, and would wait again, is left as it is (own).
 use Rattle.std.specs.Prelude.{◌≡◌, ◌⊎◌, ℕ, Bool, true, false, not, ◌&&◌, All, List, count_by, map, Option, Some, None, is_none, if◌then◌else◌}
-use Rattle.ksm_book.specs.Terms.{after_cursor, best_dup, BookState, change_row, change_rows, Command, comes_before, GuestPage, has_item, is_for_zero, is_restless, partner, pass_begun, Row, row_at, same_page, Scan}
+use Rattle.ksm_book.specs.Terms.{after_cursor, best_dup, BookState, change_row, change_rows, Command, comes_before, GuestPage, has_item, is_for_zero, is_restless, partner, pass_begun, Row, row_at, same_page, Scan, SetAcross}
 use Rattle.ksm_book.specs.Terms.{settled, Spot, Store, waiting_state}
 use Rattle.ksm_book.specs.Commands.{Performs}
 use Rattle.ksm_book.specs.Folded.{Stage, pages_visited, visited}
@@ -51,10 +51,11 @@ waits_later reach r = waiting_state r.state && not (has_gone_by reach r.page)
 abbrev pub CountsLater : DueView → BookState → Type 0
 CountsLater due b = due.later ≡ count_by (waits_later due.reach) b.rows
 
--- a pass over what is due may go on beside the command
+-- a pass over what is due may go on beside the command, or begin behind it
 abbrev pub goes_on_beside : Command → Bool
 goes_on_beside (Store page bytes) = true
 goes_on_beside (Scan visits) = true
+goes_on_beside (SetAcross across) = true
 goes_on_beside command = false
 
 -- from here on a pass may go on over what is due alone: it begins, or has gone by the pages up to the cursor

@@ -214,6 +214,10 @@ fn carry_out(
     match command {
         Command::Store { page, bytes } => state.store(table, due, *page, bytes),
         Command::Scan { visits } => state.scan(table, due, *visits),
+        Command::SetAcross(across) => {
+            state.end_pass_over_due(due);
+            state.set_across(table, due, *across)
+        }
         _ => {
             state.end_pass_over_due(due);
             carry_out_whole(state, due, table, command)
@@ -265,9 +269,8 @@ fn carry_out_whole(
         Command::MoveDup { place, node } => state.move_dup(table, *place, *node),
         Command::SetRun(run) => forgets(due, state.set_run(table, *run)),
         Command::SetPagesToScan(pages) => state.set(Knob::PagesToScan, *pages),
-        Command::SetAcross(across) => forgets(due, state.set_across(table, *across)),
         Command::SetLimit(limit) => forgets(due, state.set_limit(table, *limit)),
         Command::SetZeroPages(value) => forgets(due, state.set(Knob::UseZeroPages, *value)),
-        Command::Store { .. } | Command::Scan { .. } => unreachable!(),
+        Command::Store { .. } | Command::Scan { .. } | Command::SetAcross(_) => unreachable!(),
     }
 }

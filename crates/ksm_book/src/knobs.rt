@@ -1,13 +1,29 @@
 //! The commands that set a knob: each tests the range first, then what the knob must wait for.
 
-ghost use Rattle.std.specs.Prelude.{◌≡◌, ◌≢◌, Some, false};
-ghost use Rattle.ksm_book.specs.Terms.{setting, setting_refusal, traits};
+ghost use Rattle.std.specs.Prelude.{◌≡◌, ◌≢◌, [], All, None, Some, false, true};
+ghost use Rattle.ksm_book.specs.Terms.{partner, seen, setting, setting_refusal, traits, waiting_state};
 ghost use Rattle.ksm_book.specs.Carried.{CarriesOut};
+ghost use Rattle.ksm_book.specs.Due.{CountsLater, shown, TellsDue};
 
+use crate::due::{Due, Reach};
 use crate::stale::drop_stale;
 use crate::state::State;
 use frame_table::FrameTable;
-use ksm_base::{Command, Fault, Knob, Reply};
+use ksm_base::{Command, Fault, GuestPage, Knob, Knobs, Reply};
+use ksm_pages::Pages;
+
+// Sets the knobs where it is known what is due and no pass goes on, and leaves the rows that wait as they are, if no two
+// of them would meet in the trees as they are then. Says whether it did; else nothing changes.
+fn keeps_waiting(pages: &mut Pages, due: &Due, cursor: Option<GuestPage>, knobs: Knobs) -> bool
+    requires { pages.old.dups ≡ [] }
+    ensures kept { result ≡ false → pages.new ≡ pages.old }
+    ensures set { result ≡ true → seen pages.new ≡ record (seen pages.old) { knobs = knobs } }
+    ensures alone { result ≡ true
+        → All (λ r. waiting_state r.state ≡ true → partner knobs pages.new.rows r ≡ None) pages.new.rows }
+    ensures start { result ≡ true → (due.now.known ≡ true) × (cursor ≡ None) }
+{
+    due.is_known() && cursor.is_none() && pages.regroup(knobs)
+}
 
 impl State {
     // Why a knob does not get a value, if it does not.
@@ -38,10 +54,20 @@ impl State {
         Ok(Reply::Done)
     }
 
-    /// Sets whether pages of different nodes may be merged.
-    pub fn set_across(&mut self, table: &FrameTable, across: u32) -> Result<Reply, Fault>
+    /// Sets whether pages of different nodes may be merged. Where it is known what is due, no pass goes on, and those
+    /// that wait would not meet in the trees as they are then, they wait again once the next pass has gone by them.
+    pub fn set_across(
+        &mut self,
+        table: &FrameTable,
+        due: &mut Due,
+        across: u32,
+    ) -> Result<Reply, Fault>
         requires own { self.old.keeper.table ≡ table.now }
-        ensures { CarriesOut self.old self.new (Command.SetAcross across) result }
+        requires due { TellsDue due.old self.old.state }
+        requires reach { (due.old.reach ≡ Reach.Everywhere) × (due.old.later ≡ 0) }
+        ensures carried { CarriesOut self.old (shown due.new self.new) (Command.SetAcross across) result }
+        ensures due { TellsDue due.new self.new.state }
+        ensures later { CountsLater due.new self.new.state }
     {
         if let Some(fault) = self.refusal(Knob::MergeAcrossNodes, across) {
             return Err(fault);
@@ -51,9 +77,14 @@ impl State {
             return Ok(Reply::Done);
         }
         drop_stale(&mut self.pages, &mut self.keeper, table);
+        let knobs = knobs.with(Knob::MergeAcrossNodes, across);
+        if keeps_waiting(&mut self.pages, due, self.cursor, knobs) {
+            due.go_to(Reach::Nowhere, self.counters().unshared as usize);
+            return Ok(Reply::Done);
+        }
+        due.forget();
         self.pages.settle_all();
-        self.pages
-            .set_knobs(knobs.with(Knob::MergeAcrossNodes, across));
+        self.pages.set_knobs(knobs);
         Ok(Reply::Done)
     }
 
