@@ -2,13 +2,13 @@
 -- wait no more.
 use Rattle.ksm_book.proofs.Names.{after_cursor, ahead_before, ahead_up_to, All, ap, AreAscending, AreDue, arith, BookState, BookValue, Bool, change_row, Comes, comes_before, Deed, due_visited, each_at_page, Everywhere}
 use Rattle.ksm_book.proofs.Names.{false, filter, filter_all, filter_passes, FindsFirstUpTo, FindsNext, fold, fold-append, get_or, get_or_from_slice_get, GuestPage, has_gone_by, has_item, hidden_from, IfSome, inl}
-use Rattle.ksm_book.proofs.Names.{InPageOrder, inr, IsAlone, IsSound, IsStill, length, List, map_alike, map_mapped, mergeable_pages, None, not, not_both, on_its_own, one_before, Option, ordered_change, page_visited}
+use Rattle.ksm_book.proofs.Names.{InPageOrder, inr, IsAlone, IsSound, IsStill, length, List, map_alike, map_mapped, mergeable_pages, None, not, not_both, on_its_own, one_before, Option, page_visited}
 use Rattle.ksm_book.proofs.Names.{pages_ahead, pages_visited, part_before, part_visited, pass_begun, Reach, reach_at, reach_to, Reached, refl, restless_at, Row, same_page_eq, same_page_sym, settled}
 use Rattle.ksm_book.proofs.Names.{slice_get-get_or, slice_get_within, so_far, Some, Stage, StaysBefore, StaysStill, Stops, subst, suc, sym, take, take-suc, take_all, true, up_to, view_of, zero, [], ℕ}
 use Rattle.ksm_book.proofs.Names.{◌||◌, ◌∙◌, ◌∷◌, ◌≡◌, ◌≤◌, ◌⊎◌}
 use Rattle.ksm_book.proofs.DueKept.{at_own_page, calm_stays, calmed, narrowed, narrowed_alike, one_due, still_undue, undue_rests}
 use Rattle.ksm_book.proofs.Along.{after_later, has_filter, place_of, place_splits}
-use Rattle.ksm_book.proofs.Folded.{ascending_ahead, begins, begun_ahead, comes_to, first, Goes, restless_mergeable, settled_twice}
+use Rattle.ksm_book.proofs.Folded.{ascending_ahead, begins, begun_ahead, comes_to, first, Goes, restless_mergeable}
 use Rattle.ksm_book.proofs.SoFar.{ahead_so_far, settled_so_far}
 use Rattle.ksm_book.proofs.Walked.{before_it, is_ahead, IsVisit, IsWalking, resting, Rests}
 

@@ -1,6 +1,6 @@
 -- A pass over what is due has gone so far: what the book is then, of whose rows those do not wait that it has not gone by.
 use Rattle.ksm_book.proofs.Names.{after_cursor, All, All-cons, All-filter, All-head, All-tail, Answer, any_found, ap, AreDue, arith, Before, before_irrefl, best_dup, BookState, BookValue, Bool, bytes_of, cases_Bool, change_row, change_rows, comes_before, comes_later, count_alike, counters_of}
-use Rattle.ksm_book.proofs.Names.{count_by, count_change_row, count_mapped, count_more, count_none, count_without_page, CountsLater, Done, DueView, DupRow, each_at_page, Err, Everywhere, false, filter, filter_all, filter_mapped, find_mapped, find_none, filter_passes, find_passes, FindsNext, FindsUpTo, get_or}
+use Rattle.ksm_book.proofs.Names.{count_by, count_change_row, count_mapped, count_more, count_none, count_without_page, CountsLater, Done, DueView, DupRow, each_at_page, Err, Everywhere, false, filter, filter_mapped, find_mapped, find_none, filter_passes, find_passes, FindsNext, FindsUpTo, get_or}
 use Rattle.ksm_book.proofs.Names.{GuestPage, has_gone_by, has_items, if◌then◌else◌, inl, InPageOrder, inr, is_known, is_restless, IsCarried, IsDupOf, IsSound, Knobs, List, list_any, live_dup_at, map, map-id, map_alike, map_fixed, map_mapped, mappers_of, MatchOption, mergeable_pages, Merged, merged_into, merged_state, nat_lt, None}
 use Rattle.ksm_book.proofs.Names.{none_counted, not, Nowhere, Ok, one_before, Option, option_map, OwnPage, paired, pages_ahead, partner, pass_ended_at_last, private_state, Reach, reach_at, refl, Row, row_at, row_visited, shown_so_far}
 use Rattle.ksm_book.proofs.Names.{same_page, same_page_eq, settled, settled_calmer, so_far, Some, sound_changed, Store, stored, sym, takes_over, ticket_of, true, up_to, UpTo, view_of, Waiting, waiting_state, waits_for, waits_later}

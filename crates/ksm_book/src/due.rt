@@ -8,7 +8,7 @@
 //! A pass may go on so in parts, each over what is due there. Rows further on still say that they wait, from the last
 //! pass on; they do so once the pass has gone by them (`Reach`).
 
-ghost use Rattle.std.specs.Prelude.{◌≡◌, ◌⊎◌, ◌-◌, None, true, false, [], ◌||◌, ◌&&◌, not, IfErr, OnErr, OnOk, option_map, if◌then◌else◌};
+ghost use Rattle.std.specs.Prelude.{◌≡◌, ◌==◌, ◌⊎◌, ◌-◌, None, true, false, [], ◌||◌, ◌&&◌, not, IfErr, OnErr, OnOk, length, option_map, if◌then◌else◌};
 ghost use Rattle.ksm_book.specs.Terms.{GuestPage, has_item, same_page};
 ghost use Rattle.ksm_book.specs.Due.{FindsFirst, FindsFirstUpTo, has_gone_by as is_gone_by, reach_at, reach_to};
 
@@ -133,7 +133,9 @@ impl Due {
 
     /// Whether the pass has gone by the pages up to a cursor, or by none where there is no page at it.
     pub fn goes_on_from(&self, cursor: Option<GuestPage>) -> bool
-        ensures { result ≡ true → (cursor ≡ None) ⊎ (self.now.reach ≡ reach_at cursor) }
+        ensures right { result ≡ true → (cursor ≡ None) ⊎ (self.now.reach ≡ reach_at cursor) }
+        ensures start { cursor ≡ None → result ≡ true }
+        ensures all { self.now.reach ≡ reach_at cursor → result ≡ true }
     {
         match (cursor, self.reach) {
             (None, _) => true,
@@ -162,7 +164,7 @@ impl Due {
 
     /// Whether no page is due, where it is known.
     pub fn is_empty(&self) -> bool
-        ensures { result ≡ true → self.now.pages ≡ [] }
+        ensures { result ≡ (length self.now.pages == 0) }
     {
         self.order.len() == 0 && self.added.is_empty()
     }
